@@ -1,5 +1,5 @@
-//! The script of a job, and the report of what became of it: where the script begins in an input, the commands that its
-//! lines say, how commands end, and what is printed of that.
+//! The script of a job, and what is printed of it: where the script begins in an input, the commands that its lines say, how
+//! commands end, and the line of each outcome.
 #![tactic(auto)]
 
 mod changes;
@@ -31,7 +31,7 @@ pub use parts::{Parts, split};
 pub use printed::{PrintedRows, push_answer, push_rows};
 pub use refusal::{JobRefusal, refused, too_many};
 pub use replies::{push_found, push_list, push_size};
-pub use report::{print_fed, print_outcomes, print_report, push_told};
+pub use report::{push_end, push_head, push_told};
 pub use script::{Script, Unfinished, read_job, read_list, script_line};
 pub use summary::print_summary;
 pub use words::says;

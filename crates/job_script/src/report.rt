@@ -1,22 +1,23 @@
-//! The report of a job.
-ghost use Rattle.std.specs.Prelude.{◌≡◌, ◌<◌, ◌≤◌, ◌+◌, ◌++◌, ◌∷◌, [], ℕ, List, length, OnOk, IfOk, codes, decimal};
+//! What is printed of a job's outcomes, one by one.
+ghost use Rattle.std.specs.Prelude.{◌≡◌, ◌++◌, OnOk, codes, decimal};
 ghost use Rattle.std.specs.List.{flat_map};
 ghost use Rattle.job_model.specs.Outcomes as outcomes;
-ghost use Rattle.job_model.specs.Reports.{head_text, ended_text, cause_text, end_text, report, rule_text};
-ghost use Rattle.job_script.specs.Outcomes.{cause_view, told_text, outcome_text, outcomes_text, all_text, AllTell, job_pairs, versions_made};
-ghost use Rattle.job_script.specs.Feeds.{fed_outcomes_text};
-ghost use Rattle.job_script.specs.Views.{job_view};
+ghost use Rattle.job_model.specs.Reports.{head_text, ended_text, cause_text, end_text, rule_text};
+ghost use Rattle.job_script.specs.Outcomes.{cause_view, told_text, outcome_text};
 
-use crate::commands::Job;
 use crate::marks::push_marked;
-use crate::outcomes::{Cause, FedOutcome, Outcome, Outcomes, Told};
-use master_file::Zone;
-use std::alloc::{AllocError, Global};
+use crate::outcomes::{Cause, Outcome, Told};
+use std::alloc::AllocError;
 use zone_model::Refusal;
 use zone_text::push_decimal;
 
-// Worker, command and version.
-fn push_head(out: &mut Vec<u8>, worker: u64, command: u64, version: u64) -> Result<(), AllocError>
+/// Worker, command and version.
+pub fn push_head(
+    out: &mut Vec<u8>,
+    worker: u64,
+    command: u64,
+    version: u64,
+) -> Result<(), AllocError>
     ensures { OnOk result (out.new.items ≡ out.old.items ++ head_text worker command version) }
 {
     push_marked(out, worker, b'.')?;
@@ -100,26 +101,8 @@ pub(crate) fn push_outcome(
     push_told(out, &outcome.told)
 }
 
-fn push_outcomes(out: &mut Vec<u8>, worker: u64, list: &[Outcome]) -> Result<(), AllocError>
-    ensures { OnOk result (out.new.items ≡ out.old.items ++ outcomes_text worker 1 list.now) }
-{
-    for (place, outcome) in list.iter().enumerate() {
-        push_outcome(out, worker, place as u64 + 1, outcome)?;
-    }
-    Ok(())
-}
-
-fn push_all(out: &mut Vec<u8>, workers: &[Outcomes]) -> Result<(), AllocError>
-    ensures { OnOk result (out.new.items ≡ out.old.items ++ all_text 1 workers.now) }
-{
-    for (place, outcomes) in workers.iter().enumerate() {
-        push_outcomes(out, place as u64 + 1, &outcomes.list)?;
-    }
-    Ok(())
-}
-
-// The last line: the last version, and how many names it has.
-fn push_end(out: &mut Vec<u8>, last: u64, names: u64) -> Result<(), AllocError>
+/// The last line: the last version, and how many names it has.
+pub fn push_end(out: &mut Vec<u8>, last: u64, names: u64) -> Result<(), AllocError>
     ensures { OnOk result (out.new.items ≡ out.old.items ++ end_text last names) }
 {
     out.extend_from_slice(b"end v")?;
@@ -127,63 +110,4 @@ fn push_end(out: &mut Vec<u8>, last: u64, names: u64) -> Result<(), AllocError>
     out.extend_from_slice(b" names ")?;
     push_decimal(out, names)?;
     out.extend_from_slice(b"\n")
-}
-
-/// Prints the outcomes of workers, the last version, and how many names that has. Where the outcomes are those of a
-/// job, this is its report.
-pub fn print_outcomes(
-    alloc: Global,
-    outcomes: &[Outcomes],
-    version: u64,
-    names: u64,
-) -> Result<Vec<u8>, AllocError>
-    ensures { IfOk result (λ text. text.items ≡ all_text 1 outcomes.now ++ end_text version names) }
-{
-    let mut out = Vec::new(alloc);
-    push_all(&mut out, outcomes)?;
-    push_end(&mut out, version, names)?;
-    Ok(out)
-}
-
-/// Prints the report of a job that was run on a zone: its outcomes, a list for each worker, then the last version and
-/// how many names that has. The zone and the job are read by the conditions alone.
-pub fn print_report(
-    alloc: Global,
-    _zone: &Zone,
-    _job: &Job,
-    outcomes: &[Outcomes],
-    version: u64,
-    names: u64,
-) -> Result<Vec<u8>, AllocError>
-    requires tell { AllTell _zone.now.origin
-        (versions_made _zone.now.origin _zone.now.pairs (job_view _job.now) outcomes.now) (job_view _job.now) outcomes.now }
-    requires names { names ≡ length (versions_made _zone.now.origin _zone.now.pairs (job_view _job.now) outcomes.now version) }
-    ensures { IfOk result (λ text. text.items ≡ report _zone.now.origin _zone.now.pairs (job_pairs (job_view _job.now) outcomes.now) version) }
-{
-    print_outcomes(alloc, outcomes, version, names)
-}
-
-fn push_fed(out: &mut Vec<u8>, fed: &[FedOutcome]) -> Result<(), AllocError>
-    ensures { OnOk result (out.new.items ≡ out.old.items ++ fed_outcomes_text 1 fed.now) }
-{
-    for (place, ran) in fed.iter().enumerate() {
-        push_outcome(out, u64::from(ran.worker), place as u64 + 1, &ran.outcome)?;
-    }
-    Ok(())
-}
-
-/// Prints the outcomes of one list in the order of its commands, each with the worker that ran it, the last version, and how
-/// many names that has.
-pub fn print_fed(
-    alloc: Global,
-    fed: &[FedOutcome],
-    version: u64,
-    names: u64,
-) -> Result<Vec<u8>, AllocError>
-    ensures { IfOk result (λ text. text.items ≡ fed_outcomes_text 1 fed.now ++ end_text version names) }
-{
-    let mut out = Vec::new(alloc);
-    push_fed(&mut out, fed)?;
-    push_end(&mut out, version, names)?;
-    Ok(out)
 }

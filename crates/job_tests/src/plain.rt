@@ -3,7 +3,8 @@
 use chunk_cells::PlainCells;
 use chunk_usage::Usage;
 use dns_name::Name;
-use job_script::{Job, print_report};
+use job_report::print_report;
+use job_script::Job;
 use master_file::{Zone, read_zone};
 use qp_main::zone_items;
 use std::alloc::Global;
@@ -56,7 +57,7 @@ fn a_job_without_workers_is_its_last_line(rt: HostRuntime) -> Result<(), Fail> {
         workers: Vec::new(rt.alloc()),
     };
     let names = zone.len() as u64;
-    let report = print_report(rt.alloc(), &zone, &job, &[], 0, names)?;
-    assert_eq!(rt; report.as_slice(), b"end v0 names 3\n".as_slice());
+    let report = print_report(rt.alloc(), &zone, &job, Vec::new(rt.alloc()), 0, names)?;
+    assert_eq!(rt; report.last.as_slice(), b"end v0 names 3\n".as_slice());
     Ok(())
 }

@@ -37,8 +37,8 @@ use Rattle.qp_main.specs.Due.{Due, DueBytes, DueGiven, DueInput, Answers, FedAns
 use Rattle.qp_main.specs.Stops.{IsStop, ScriptStopsFor, ZoneStopsFor}
 use Rattle.qp_main.specs.declared.refusing.Stop.{Stop}
 use Rattle.qp_main.specs.declared.refusing.Stop.TheVariants as stops
-use Rattle.qp_main.specs.declared.telling.Telling.{Telling}
-use Rattle.qp_main.specs.declared.telling.Telling.TheVariants.{Report, Summary}
+use Rattle.qp_main.specs.declared.run_report.Telling.{Telling}
+use Rattle.qp_main.specs.declared.run_report.Telling.TheVariants.{Report, Summary}
 use Rattle.qp_main.specs.declared.status.Status.{Status}
 use Rattle.qp_main.specs.declared.status.Status.TheVariants as status
 

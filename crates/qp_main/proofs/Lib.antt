@@ -8,3 +8,4 @@ pub mod BlockLemmas
 pub mod ListLemmas
 pub mod ZonesLemmas
 pub mod OpensLemmas
+pub mod WritingLemmas

@@ -28,8 +28,8 @@ use Rattle.need_laws.specs.Bounds.{IsSaidJob, IsSaidList}
 use Rattle.need_laws.proofs.ListLaws.{list_room}
 use Rattle.need_laws.proofs.RoomLaws.{sized_room}
 use Rattle.qp_main.specs.Tellings.{finished_text, told_text}
-use Rattle.qp_main.specs.declared.telling.Telling.{Telling}
-use Rattle.qp_main.specs.declared.telling.Telling.TheVariants.{Report, Summary}
+use Rattle.qp_main.specs.declared.run_report.Telling.{Telling}
+use Rattle.qp_main.specs.declared.run_report.Telling.TheVariants.{Report, Summary}
 use Rattle.job_model.specs.Sizes.{cell_count}
 use Rattle.shared_index.specs.Openings.{room_in}
 use Rattle.job_commands.specs.Runs.{IsRun}

@@ -17,7 +17,7 @@ use Rattle.qp_main.specs.Stops.{IsStop, JobStops, ZoneStops, ZoneStopsFor}
 use Rattle.qp_main.specs.declared.refusing.Stop.{Stop}
 use Rattle.qp_main.specs.declared.refusing.Stop.TheVariants as stops
 use Rattle.qp_main.specs.declared.status.Status.{Status}
-use Rattle.qp_main.specs.declared.telling.Telling.{Telling}
+use Rattle.qp_main.specs.declared.run_report.Telling.{Telling}
 use Rattle.qp_main.proofs.DueLemmas.{no_fed_zone, no_zone, stop_as, whole_list_refusal, whole_refusal}
 
 -- a zone that its reader refused, whose lines are those of some bytes

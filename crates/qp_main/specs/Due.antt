@@ -35,8 +35,8 @@ use Rattle.command_line.specs.Invocations.{Invocation, Verb, Run, Feed, Check, M
 use Rattle.qp_main.specs.Fits.{fits, no_room_text, opened_text}
 use Rattle.qp_main.specs.Needs.{needs_text}
 use Rattle.qp_main.specs.Tellings.{told_text}
-use Rattle.qp_main.specs.declared.telling.Telling.{Telling}
-use Rattle.qp_main.specs.declared.telling.Telling.TheVariants.{Report, Summary}
+use Rattle.qp_main.specs.declared.run_report.Telling.{Telling}
+use Rattle.qp_main.specs.declared.run_report.Telling.TheVariants.{Report, Summary}
 use Rattle.qp_main.specs.declared.status.Status.{Status}
 use Rattle.qp_main.specs.declared.status.Status.TheVariants as status
 

@@ -8,8 +8,8 @@ use Rattle.job_model.specs.Summaries.{summary}
 use Rattle.job_script.specs.Outcomes.{all_text}
 use Rattle.job_script.specs.Summaries.{summary_text}
 use Rattle.job_threads.specs.declared.job.Finished.{Finished}
-use Rattle.qp_main.specs.declared.telling.Telling.{Telling}
-use Rattle.qp_main.specs.declared.telling.Telling.TheVariants.{Report, Summary}
+use Rattle.qp_main.specs.declared.run_report.Telling.{Telling}
+use Rattle.qp_main.specs.declared.run_report.Telling.TheVariants.{Report, Summary}
 
 -- the whole text for an origin, a zone, the workers' commands with their outcomes, and the last version
 abbrev pub told_text : Telling → Name → Version → List (List Pair) → ℕ → List ℕ

@@ -11,9 +11,9 @@ ghost use Rattle.qp_main.specs.Due.{CutShort, Dumps, IsWritten, MayBeShort, Writ
 use crate::input::Input;
 use crate::items::zone_items;
 use crate::refusing::Stop;
-use crate::report::no_room;
+use crate::refusal_lines::no_room;
 use crate::status::Status;
-use crate::writing::write_due;
+use crate::writing::{write_answer, write_due};
 use command_line::Invocation;
 use job_commands::ZoneLaw;
 use job_threads::{Dumped, dump_zone, table_for};
@@ -47,7 +47,7 @@ fn write_zone<K: Sink>(
     match dump_zone(alloc, blank, &invocation.origin, items, style, sink) {
         Ok(Dumped::Written) => Status::Done,
         Ok(Dumped::DoesNotFit { cells, limit }) => match no_room(alloc, cells, limit) {
-            Ok(text) => write_due(sink, Status::DoesNotFit, &text),
+            Ok(text) => write_answer(sink, Status::DoesNotFit, &text),
             Err(_) => Status::NoMemory,
         },
         Err(DumpRefusal::Fault) => Status::SinkFault,

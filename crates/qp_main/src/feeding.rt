@@ -1,16 +1,18 @@
 //! One list of commands that is handed out to workers.
 ghost use Rattle.std.specs.Prelude.{◌≤◌, IfOk, IfErr};
 ghost use Rattle.job_model.specs.Jobs.{fed_job_of};
+ghost use Rattle.job_report.specs.Pieces.{pieces_text};
 ghost use Rattle.qp_main.specs.Due.{FedAnswers};
 ghost use Rattle.qp_main.specs.Stops.{IsStop};
 
 use crate::input::Input;
 use crate::items::zone_items;
 use crate::refusing::Stop;
-use crate::reporting::report_list;
+use crate::run_report::report_list;
 use crate::status::Status;
 use command_line::Invocation;
 use job_commands::Gate;
+use job_report::Pieces;
 use job_threads::table_for_list;
 use std::alloc::Global;
 use std::sync::Wait;
@@ -25,9 +27,9 @@ pub fn answer_list<R: Threads + Wait + Sync, G: Gate>(
     input: Input,
     workers: u32,
     gate: &G,
-) -> Result<(Status, Vec<u8>), Stop>
+) -> Result<(Status, Pieces), Stop>
     requires { (1 ≤ workers) × (workers ≤ 16) }
-    ensures told { IfOk result (λ x. FedAnswers workers invocation.now.chunks (fed_job_of invocation.now.origin input) x.0 x.1.items) }
+    ensures told { IfOk result (λ x. FedAnswers workers invocation.now.chunks (fed_job_of invocation.now.origin input) x.0 (pieces_text x.1)) }
     ensures stops { IfErr result (IsStop (FedAnswers workers invocation.now.chunks (fed_job_of invocation.now.origin input))) }
 {
     let commands = input.list(alloc, &invocation.origin)?;

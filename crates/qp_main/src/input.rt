@@ -20,7 +20,7 @@ ghost use Rattle.qp_main.specs.Stops.{IsStop, JobStops, ListStops, ScriptStops, 
 
 use crate::reading::{job_in, list_in, zone_in, zones_in, zones_script_in};
 use crate::refusing::{Stop, list_stop, script_stop, zone_stop};
-use crate::report::script_refused;
+use crate::refusal_lines::script_refused;
 use crate::status::Status;
 use dns_name::Name;
 use job_model::ScriptKind;

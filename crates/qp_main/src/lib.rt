@@ -11,13 +11,13 @@ mod line;
 mod needs;
 mod program;
 mod reading;
+mod refusal_lines;
 mod refusing;
-mod report;
-mod reporting;
+mod run_report;
 mod several;
+mod size_lines;
 mod sizing;
 mod status;
-mod telling;
 mod writing;
 
 pub use items::zone_items;

@@ -5,16 +5,18 @@ ghost use Rattle.job_model.specs.Commands.{Job as WholeJob};
 ghost use Rattle.job_model.specs.Jobs.{job_of};
 ghost use Rattle.job_model.specs.Needs.{cells_of_workers, longest_of_workers};
 ghost use Rattle.job_model.specs.Sizes.{trie_entries};
+ghost use Rattle.job_report.specs.Pieces.{pieces_text};
 ghost use Rattle.qp_main.specs.Due.{Sized, Sizes};
 ghost use Rattle.qp_main.specs.Stops.{IsStop};
 
 use crate::input::Input;
 use crate::refusing::Stop;
-use crate::report::needs_line;
+use crate::size_lines::needs_line;
 use crate::sizing::zone_size;
 use crate::status::Status;
 use chunk_usage::capacity::least;
 use command_line::Invocation;
+use job_report::Pieces;
 use job_script::{Needs, needs_of};
 use std::alloc::{AllocError, Global};
 use trie_size::TrieSize;
@@ -39,10 +41,10 @@ fn report_needs(
     workers: usize,
     size: &TrieSize,
     needs: Needs,
-) -> Result<(Status, Vec<u8>), AllocError>
+) -> Result<(Status, Pieces), AllocError>
     requires { workers ≤ 16 }
     ensures { (job : WholeJob) → IsSizeOf size.now (trie_entries job.zone) → length job.workers ≡ workers → needs.cells ≡ cells_of_workers job.workers → needs.operations ≡ longest_of_workers job.workers
-        → IfOk result (λ x. Sized job x.0 x.1.items) }
+        → IfOk result (λ x. Sized job x.0 (pieces_text x.1)) }
 {
     let cells = all_cells(size.cells(), needs.cells)?;
     let Ok(operations) = u32::try_from(needs.operations) else {
@@ -60,8 +62,8 @@ pub fn size_job(
     alloc: Global,
     invocation: &Invocation,
     input: Input,
-) -> Result<(Status, Vec<u8>), Stop>
-    ensures told { IfOk result (λ x. Sizes (job_of invocation.now.origin input) x.0 x.1.items) }
+) -> Result<(Status, Pieces), Stop>
+    ensures told { IfOk result (λ x. Sizes (job_of invocation.now.origin input) x.0 (pieces_text x.1)) }
     ensures stops { IfErr result (IsStop (Sizes (job_of invocation.now.origin input))) }
 {
     let job = input.job(alloc, &invocation.origin)?;

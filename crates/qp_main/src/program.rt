@@ -7,6 +7,7 @@ ghost use Rattle.job_model.specs.Jobs.{job_of, zone_lines};
 ghost use Rattle.job_model.specs.Loads.{made_origin};
 ghost use Rattle.outer_io.specs.Faults.{Rose};
 ghost use Rattle.outer_io.specs.Bytes.{Grows, GrowsByFront};
+ghost use Rattle.job_report.specs.Pieces.{pieces_text};
 ghost use Rattle.job_make.specs.Views.{load_view};
 ghost use Rattle.command_line.specs.Invocations.{IsUnder, Make};
 ghost use Rattle.command_line.specs.Views.{invocation_view, verb_view};
@@ -20,15 +21,15 @@ use crate::input::Input;
 use crate::items::zone_items;
 use crate::needs::size_job;
 use crate::refusing::Stop;
-use crate::reporting::report_job;
+use crate::run_report::{Telling, report_job};
 use crate::several::answer_zones;
 use crate::sizing::{report_size, zone_size};
 use crate::status::Status;
-use crate::telling::Telling;
-use crate::writing::write_due;
+use crate::writing::{write_answer, write_due};
 use command_line::{Invocation, Verb, invocation_of};
 use job_commands::Gate;
 use job_make::{Load, make_text};
+use job_report::Pieces;
 use job_threads::table_for;
 use outer_io::{ReadRefusal, Sink, Source, read_all};
 use std::alloc::Global;
@@ -47,8 +48,8 @@ fn answer_job<R: Threads + Wait + Sync, G: Gate>(
     input: Input,
     telling: Telling,
     gate: &G,
-) -> Result<(Status, Vec<u8>), Stop>
-    ensures told { IfOk result (λ x. Answers telling invocation.now.chunks (job_of invocation.now.origin input) x.0 x.1.items) }
+) -> Result<(Status, Pieces), Stop>
+    ensures told { IfOk result (λ x. Answers telling invocation.now.chunks (job_of invocation.now.origin input) x.0 (pieces_text x.1)) }
     ensures stops { IfErr result (IsStop (Answers telling invocation.now.chunks (job_of invocation.now.origin input))) }
 {
     let job = input.job(alloc, &invocation.origin)?;
@@ -65,8 +66,8 @@ fn check_zone(
     alloc: Global,
     invocation: &Invocation,
     input: Input,
-) -> Result<(Status, Vec<u8>), Stop>
-    ensures told { IfOk result (λ x. Checks invocation.now.chunks (zone_of invocation.now.origin (zone_lines input)) x.0 x.1.items) }
+) -> Result<(Status, Pieces), Stop>
+    ensures told { IfOk result (λ x. Checks invocation.now.chunks (zone_of invocation.now.origin (zone_lines input)) x.0 (pieces_text x.1)) }
     ensures stops { IfErr result (IsStop (Checks invocation.now.chunks (zone_of invocation.now.origin (zone_lines input)))) }
 {
     let zone = input.zone(alloc, &invocation.origin)?;
@@ -105,7 +106,7 @@ fn serve_input<R: Threads + Wait + Sync, K: Sink, G: Gate>(
         Verb::Zones => answer_zones(rt, alloc, invocation, input, gate),
     };
     match due {
-        Ok((status, text)) => write_due(sink, status, &text),
+        Ok((status, text)) => write_answer(sink, status, &text),
         Err(Stop::Refused(status, line)) => write_due(sink, status, line.as_slice()),
         Err(Stop::Memory) => Status::NoMemory,
     }

@@ -3,7 +3,7 @@ ghost use Rattle.std.specs.Prelude.{◌≡◌};
 ghost use Rattle.qp_main.specs.Stops.{ListStopsFor, ScriptStopsFor, ZoneStopsFor};
 
 use crate::line::Line;
-use crate::report::{list_refused, script_refused, zone_refused};
+use crate::refusal_lines::{list_refused, script_refused, zone_refused};
 use crate::status::Status;
 use job_model::ScriptKind;
 use master_file::Zone;

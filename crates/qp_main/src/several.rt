@@ -4,6 +4,7 @@ ghost use Rattle.zone_list.specs.Parts.{AreListed};
 ghost use Rattle.zones_model.specs.Commands.{origins_of};
 ghost use Rattle.zones_script.specs.Jobs.{zones_job_of};
 ghost use Rattle.zones_script.specs.Views.{workers_view};
+ghost use Rattle.job_report.specs.Pieces.{pieces_text};
 ghost use Rattle.qp_main.specs.Due.{ZonesAnswers};
 ghost use Rattle.qp_main.specs.Opens.{AreAllItems};
 ghost use Rattle.qp_main.specs.Saids.{IsRead};
@@ -14,13 +15,14 @@ ghost use Rattle.std.specs.List.{AllByRecursion};
 use crate::input::Input;
 use crate::items::zone_items;
 use crate::refusing::Stop;
-use crate::report::no_room;
-use crate::reporting::status_of;
+use crate::refusal_lines::no_room;
+use crate::run_report::status_of;
 use crate::sizing::MANY_NAMES;
 use crate::status::Status;
 use command_line::Invocation;
 use dns_name::Name;
 use job_commands::{Gate, ZoneLaw};
+use job_report::Pieces;
 use master_file::Zone;
 use shared_index::Blank;
 use std::alloc::{AllocError, Global};
@@ -91,12 +93,12 @@ fn report_zones<R: Threads + Wait + Sync, G: Gate>(
     zones: Vec<Zone>,
     script: &ZonesScript,
     gate: &G,
-) -> Result<(Status, Vec<u8>), AllocError>
+) -> Result<(Status, Pieces), AllocError>
     requires listed { AreListed zones.items }
     requires zones { AllByRecursion IsRead zones.items }
     requires few_workers { length script.now.workers.items ≤ 16 }
     requires said { AllByRecursion (AllByRecursion (IsSaid (origins_of zones.items))) (workers_view script.now) }
-    ensures { IfOk result (λ x. ZonesAnswers invocation.now.chunks (Ok (record { zones = zones.items; workers = workers_view script.now })) x.0 x.1.items) }
+    ensures { IfOk result (λ x. ZonesAnswers invocation.now.chunks (Ok (record { zones = zones.items; workers = workers_view script.now })) x.0 (pieces_text x.1)) }
 {
     let origins = origins_of(alloc, &zones)?;
     let passes = script.workers.len() as u32 + 1;
@@ -106,7 +108,7 @@ fn report_zones<R: Threads + Wait + Sync, G: Gate>(
     match run_zone_items(rt, alloc, table, blanks, &items, &script.workers, gate)? {
         ZonesRan::Finished(finished) => {
             let refused = any_refused(&finished.done);
-            let text = print_zones(alloc, &origins, &finished)?;
+            let text = print_zones(alloc, &origins, finished)?;
             Ok((status_of(refused), text))
         }
         ZonesRan::DoesNotFit { cells, limit, .. } => {
@@ -122,8 +124,8 @@ pub fn answer_zones<R: Threads + Wait + Sync, G: Gate>(
     invocation: &Invocation,
     input: Input,
     gate: &G,
-) -> Result<(Status, Vec<u8>), Stop>
-    ensures told { IfOk result (λ x. ZonesAnswers invocation.now.chunks (zones_job_of input) x.0 x.1.items) }
+) -> Result<(Status, Pieces), Stop>
+    ensures told { IfOk result (λ x. ZonesAnswers invocation.now.chunks (zones_job_of input) x.0 (pieces_text x.1)) }
     ensures stops { IfErr result (IsStop (ZonesAnswers invocation.now.chunks (zones_job_of input))) }
 {
     let zones = input.zones(alloc)?;

@@ -6,10 +6,13 @@ ghost use Rattle.trie_model.specs.Keys.{Rises};
 ghost use Rattle.trie_size.specs.Sizes.{IsSizeOf};
 ghost use Rattle.job_model.specs.Sizes.{trie_entries};
 ghost use Rattle.shared_index.specs.Openings.{room_in};
+ghost use Rattle.job_report.specs.Pieces.{pieces_text};
 ghost use Rattle.qp_main.specs.Due.{Checks};
 
-use crate::report::{no_room, size_line};
+use crate::refusal_lines::no_room;
+use crate::size_lines::size_line;
 use crate::status::Status;
+use job_report::Pieces;
 use master_file::{Zone, ZoneItems};
 use rr_data::item_buffer;
 use std::alloc::{AllocError, Global};
@@ -57,9 +60,9 @@ pub fn report_size(
     alloc: Global,
     chunks: u32,
     size: &TrieSize,
-) -> Result<(Status, Vec<u8>), AllocError>
+) -> Result<(Status, Pieces), AllocError>
     requires some { 1 ≤ chunks }
-    ensures { (zone : Version) → IsSizeOf size.now (trie_entries zone) → IfOk result (λ x. Checks chunks (Ok zone) x.0 x.1.items) }
+    ensures { (zone : Version) → IsSizeOf size.now (trie_entries zone) → IfOk result (λ x. Checks chunks (Ok zone) x.0 (pieces_text x.1)) }
 {
     let cells = size.cells();
     let limit = room_in(chunks);

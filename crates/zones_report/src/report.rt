@@ -1,15 +1,26 @@
 //! What is printed of commands over several zones.
 ghost use Rattle.std.specs.Prelude.{◌≡◌, ◌++◌, ◌+◌, List, OnOk, IfOk, codes, decimal};
+ghost use Rattle.job_report.specs.Pieces.{pieces_text};
 ghost use Rattle.zones_model.specs.Reports.{change_text, ends_text, table_cause_text, table_end, table_head, zone_end};
 ghost use Rattle.zones_report.specs.Texts.{all_text, answer_text, done_text, dones_text, ends_of, finished_text, origin_text, ran_text, zone_version};
 
 use crate::outcomes::{Answer, Done, DoneList, ZonesFinished};
 use dns_name::Name;
-use job_script::{Outcome, push_told};
+use job_report::{Pieces, append_told};
+use job_script::Outcome;
 use std::alloc::{AllocError, Global};
 use std::collections::BTreeMap;
 use zone_text::push_decimal;
 use zones_model::TableCause;
+
+// Worker and command.
+fn push_number(out: &mut Vec<u8>, worker: u64, command: u64) -> Result<(), AllocError>
+    ensures { OnOk result (out.new.items ≡ out.old.items ++ decimal worker ++ codes "." ++ decimal command) }
+{
+    push_decimal(out, worker)?;
+    out.extend_from_slice(b".")?;
+    push_decimal(out, command)
+}
 
 // Worker, command and the table's version.
 fn push_table_head(
@@ -20,9 +31,7 @@ fn push_table_head(
 ) -> Result<(), AllocError>
     ensures { OnOk result (out.new.items ≡ out.old.items ++ table_head worker command table) }
 {
-    push_decimal(out, worker)?;
-    out.extend_from_slice(b".")?;
-    push_decimal(out, command)?;
+    push_number(out, worker, command)?;
     out.extend_from_slice(b" t")?;
     push_decimal(out, table)?;
     out.extend_from_slice(b" ")
@@ -54,39 +63,37 @@ fn push_zone_version(
 }
 
 // The answer of the zone that the table has for the name, if it has one.
-fn push_answer(
-    out: &mut Vec<u8>,
+fn append_answer(
+    out: &mut Pieces,
     origins: &[Name],
-    answer: &Option<Answer>,
+    answer: Option<Answer>,
 ) -> Result<(), AllocError>
-    ensures { OnOk result (out.new.items ≡ out.old.items ++ answer_text origins.now answer.now) }
+    ensures { OnOk result (pieces_text out.new ≡ pieces_text out.old ++ answer_text origins.now answer) }
 {
     match answer {
-        None => out.extend_from_slice(b"NOZONE\n"),
+        None => out.last.extend_from_slice(b"NOZONE\n"),
         Some(answer) => {
-            push_zone_version(out, origins, answer.zone, answer.outcome.version)?;
-            push_told(out, &answer.outcome.told)
+            push_zone_version(&mut out.last, origins, answer.zone, answer.outcome.version)?;
+            append_told(out, answer.outcome.told)
         }
     }
 }
 
 // How a transaction of a zone ended.
-fn push_ran(
-    out: &mut Vec<u8>,
+fn append_ran(
+    out: &mut Pieces,
     origins: &[Name],
     worker: u64,
     command: u64,
     zone: u32,
-    outcome: &Outcome,
+    outcome: Outcome,
 ) -> Result<(), AllocError>
-    ensures { OnOk result (out.new.items ≡ out.old.items ++ ran_text origins.now worker command zone outcome.now) }
+    ensures { OnOk result (pieces_text out.new ≡ pieces_text out.old ++ ran_text origins.now worker command zone outcome) }
 {
-    push_decimal(out, worker)?;
-    out.extend_from_slice(b".")?;
-    push_decimal(out, command)?;
-    out.extend_from_slice(b" ")?;
-    push_zone_version(out, origins, zone, outcome.version)?;
-    push_told(out, &outcome.told)
+    push_number(&mut out.last, worker, command)?;
+    out.last.extend_from_slice(b" ")?;
+    push_zone_version(&mut out.last, origins, zone, outcome.version)?;
+    append_told(out, outcome.told)
 }
 
 fn push_cause(out: &mut Vec<u8>, cause: TableCause) -> Result<(), AllocError>
@@ -124,51 +131,55 @@ fn push_change(
     }
 }
 
-fn push_done(
-    out: &mut Vec<u8>,
+fn append_done(
+    out: &mut Pieces,
     origins: &[Name],
     worker: u64,
     command: u64,
-    done: &Done,
+    done: Done,
 ) -> Result<(), AllocError>
-    ensures { OnOk result (out.new.items ≡ out.old.items ++ done_text origins.now worker command done.now) }
+    ensures { OnOk result (pieces_text out.new ≡ pieces_text out.old ++ done_text origins.now worker command done) }
 {
     match done {
         Done::Got { table, answer } => {
-            push_table_head(out, worker, command, *table)?;
-            push_answer(out, origins, answer)
+            push_table_head(&mut out.last, worker, command, table)?;
+            append_answer(out, origins, answer)
         }
-        Done::Ran { zone, outcome } => push_ran(out, origins, worker, command, *zone, outcome),
+        Done::Ran { zone, outcome } => append_ran(out, origins, worker, command, zone, outcome),
         Done::Attached { table, refused } => {
-            push_table_head(out, worker, command, *table)?;
-            push_change(out, b"ATTACHED", *refused)
+            push_table_head(&mut out.last, worker, command, table)?;
+            push_change(&mut out.last, b"ATTACHED", refused)
         }
         Done::Detached { table, refused } => {
-            push_table_head(out, worker, command, *table)?;
-            push_change(out, b"DETACHED", *refused)
+            push_table_head(&mut out.last, worker, command, table)?;
+            push_change(&mut out.last, b"DETACHED", refused)
         }
     }
 }
 
-fn push_dones(
-    out: &mut Vec<u8>,
+fn append_dones(
+    out: &mut Pieces,
     origins: &[Name],
     worker: u64,
-    list: &[Done],
+    list: Vec<Done>,
 ) -> Result<(), AllocError>
-    ensures { OnOk result (out.new.items ≡ out.old.items ++ dones_text origins.now worker 1 list.now) }
+    ensures { OnOk result (pieces_text out.new ≡ pieces_text out.old ++ dones_text origins.now worker 1 list.items) }
 {
-    for (place, done) in list.iter().enumerate() {
-        push_done(out, origins, worker, place as u64 + 1, done)?;
+    let mut command = 0;
+    for done in list {
+        command += 1;
+        append_done(out, origins, worker, command, done)?;
     }
     Ok(())
 }
 
-fn push_all(out: &mut Vec<u8>, origins: &[Name], workers: &[DoneList]) -> Result<(), AllocError>
-    ensures { OnOk result (out.new.items ≡ out.old.items ++ all_text origins.now 1 workers.now) }
+fn append_all(out: &mut Pieces, origins: &[Name], workers: Vec<DoneList>) -> Result<(), AllocError>
+    ensures { OnOk result (pieces_text out.new ≡ pieces_text out.old ++ all_text origins.now 1 workers.items) }
 {
-    for (place, worker) in workers.iter().enumerate() {
-        push_dones(out, origins, place as u64 + 1, &worker.list)?;
+    let mut worker = 0;
+    for dones in workers {
+        worker += 1;
+        append_dones(out, origins, worker, dones.list)?;
     }
     Ok(())
 }
@@ -230,18 +241,18 @@ fn push_ends(out: &mut Vec<u8>, ends: &BTreeMap<Name, (u64, u64)>) -> Result<(),
 }
 
 /// Prints what commands over the zones of these origins came to, worker by worker, the last version of the table, and the last version
-/// of each zone in the canonical order of their origins.
+/// of each zone in the canonical order of their origins. What a command came to goes once it is printed.
 pub fn print_zones(
     alloc: Global,
     origins: &[Name],
-    finished: &ZonesFinished,
-) -> Result<Vec<u8>, AllocError>
-    ensures { IfOk result (λ text. text.items ≡ finished_text origins.now finished.now) }
+    finished: ZonesFinished,
+) -> Result<Pieces, AllocError>
+    ensures { IfOk result (λ text. pieces_text text ≡ finished_text origins.now finished) }
 {
     let ends = ends_of(alloc, origins, &finished.versions, &finished.names)?;
-    let mut out = Vec::new(alloc);
-    push_all(&mut out, origins, &finished.done)?;
-    push_table_end(&mut out, finished.table, finished.attached)?;
-    push_ends(&mut out, &ends)?;
+    let mut out = Pieces::of(alloc, Vec::new(alloc));
+    append_all(&mut out, origins, finished.done)?;
+    push_table_end(&mut out.last, finished.table, finished.attached)?;
+    push_ends(&mut out.last, &ends)?;
     Ok(out)
 }

@@ -1,5 +1,6 @@
 use Rattle.std.proofs.Common.{rules, ◌≡◌, ℕ, true, Ok, sym, subst}
 use Rattle.outer_io.specs.Bytes.{Held, GrowsByFront}
+use Rattle.job_report.specs.Pieces.{pieces_text}
 use Rattle.job_threads.specs.Dumps.{DumpedOn, StopsOn}
 use Rattle.job_threads.specs.declared.dumping.Dumped.{Dumped}
 use Rattle.qp_main.specs.Due.{CutShort, Dumps}
@@ -13,9 +14,9 @@ returns-in-Ok-clause-cut_short g c = λ zone stands short.
     let same : g.K.Sink.held c.dump_zone.new.sink ≡ g.K.Sink.held c.args.sink.now = search (rules, told) in
     record {
       status = status.DoesNotFit;
-      text = c.in-Ok.text.items;
+      text = pieces_text c.in-Ok.text;
       is_due = search (rules, told);
-      grew = subst (λ (h : Held). GrowsByFront h (g.K.Sink.held c.write_due.new.sink) c.in-Ok.text.items) same (search (rules, c.write_due.ensures.front (short_is true c.write_due.result short c.write_due.ensures.only.1)));
+      grew = subst (λ (h : Held). GrowsByFront h (g.K.Sink.held c.write_answer.new.sink) (pieces_text c.in-Ok.text)) same (search (rules, c.write_answer.ensures.front (short_is true c.write_answer.result short c.write_answer.ensures.only.1)));
     }
 
 pub returns-in-Err-clause-cut_short : goal.returns-in-Err-clause-cut_short

@@ -1,25 +1,26 @@
 use Rattle.std.proofs.Common.{rules}
 use Rattle.command_line.specs.Views.{verb_view}
+use Rattle.job_report.specs.Pieces.{pieces_text}
 use Rattle.qp_main.specs.Due.{DueInput, is_streamed}
 use Rattle.qp_main.proofs.DueLemmas.{answer_written, due_answer, short_is}
 use Rattle.qp_main.proofs.program.serve_input.Goals as goal
 
-pub write_due-requires : goal.write_due-requires
-write_due-requires g c =
+pub write_answer-requires : goal.write_answer-requires
+write_answer-requires g c =
     let i = c.args.invocation.now in
-    let due : DueInput (verb_view c.args.invocation.now.verb) c.args.invocation.now.chunks c.args.invocation.now.origin c.args.bytes.items c.in-Ok.status c.in-Ok.text.items = search rules in
-    answer_written c.in-Ok.status (due_answer (verb_view i.verb) i.chunks i.origin c.args.bytes.items c.in-Ok.status c.in-Ok.text.items due)
+    let due : DueInput (verb_view c.args.invocation.now.verb) c.args.invocation.now.chunks c.args.invocation.now.origin c.args.bytes.items c.in-Ok.status (pieces_text c.in-Ok.text) = search rules in
+    answer_written c.in-Ok.status (due_answer (verb_view i.verb) i.chunks i.origin c.args.bytes.items c.in-Ok.status (pieces_text c.in-Ok.text) due)
 
 pub returns-in-Ok-clause-cut_short : goal.returns-in-Ok-clause-cut_short
 returns-in-Ok-clause-cut_short g c = λ short. record {
   status = c.in-Ok.status;
-  text = c.in-Ok.text.items;
+  text = pieces_text c.in-Ok.text;
   is_due = search rules;
-  grew = search (rules, c.write_due.ensures.front (short_is (is_streamed (verb_view c.args.invocation.now.verb)) c.write_due.result short c.write_due.ensures.only.1));
+  grew = search (rules, c.write_answer.ensures.front (short_is (is_streamed (verb_view c.args.invocation.now.verb)) c.write_answer.result short c.write_answer.ensures.only.1));
 }
 
-pub write_due-requires-in-Err-Refused : goal.write_due-requires-in-Err-Refused
-write_due-requires-in-Err-Refused g c =
+pub write_due-requires : goal.write_due-requires
+write_due-requires g c =
     let i = c.args.invocation.now in
     let due : DueInput (verb_view c.args.invocation.now.verb) c.args.invocation.now.chunks c.args.invocation.now.origin c.args.bytes.items c.in-Err-Refused.status c.in-Err-Refused.line = search rules in
     answer_written c.in-Err-Refused.status (due_answer (verb_view i.verb) i.chunks i.origin c.args.bytes.items c.in-Err-Refused.status c.in-Err-Refused.line due)
@@ -29,5 +30,5 @@ returns-in-Err-Refused-clause-cut_short g c = λ short. record {
   status = c.in-Err-Refused.status;
   text = c.in-Err-Refused.line;
   is_due = search rules;
-  grew = search (rules, c.as_slice.ensures, c.write_due-in-Err-Refused.ensures.front (short_is (is_streamed (verb_view c.args.invocation.now.verb)) c.write_due-in-Err-Refused.result short c.write_due-in-Err-Refused.ensures.only.1));
+  grew = search (rules, c.as_slice.ensures, c.write_due.ensures.front (short_is (is_streamed (verb_view c.args.invocation.now.verb)) c.write_due.result short c.write_due.ensures.only.1));
 }

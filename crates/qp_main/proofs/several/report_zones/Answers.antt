@@ -4,6 +4,7 @@ use Rattle.std.proofs.lemmas.List.Elements.{All-from_recursion}
 use Rattle.std.specs.List.{AllByRecursion}
 use Rattle.zone_model.specs.Names.{Name}
 use Rattle.job_commands.specs.Histories.{IsZone}
+use Rattle.job_report.specs.Pieces.{pieces_text}
 use Rattle.zones_model.specs.Commands.{Command, origins_of}
 use Rattle.zones_report.specs.Outcomes.{all_refused}
 use Rattle.zones_report.specs.Texts.{finished_text}
@@ -61,7 +62,7 @@ returns-in-Finished g c =
     let items = c.deref-2.result.now in
     let sizes = map (λ b. b.shared.table.shared.key) c.in_ok-blanks.blanks.items in
     let f = c.in-Finished.finished in
-    let text = c.in_ok-text-in-Finished.text.items in
+    let text = pieces_text c.in_ok-text-in-Finished.text in
     let are : AreAllItems zones items = subst (AreAllItems zones) (sym c.deref-2.ensures.value) c.in_ok-items.ensures in
     let all = c.in_ok-blanks.ensures.chunks in
     let many : length sizes ≡ length items =
@@ -85,7 +86,7 @@ returns g c =
     let zones = c.args.zones.items in
     let items = c.deref-2.result.now in
     let sizes = map (λ b. b.shared.table.shared.key) c.in_ok-blanks.blanks.items in
-    let text = c.in_ok-no_room-in-DoesNotFit.field-0.items in
+    let text = pieces_text c.in_ok-no_room-in-DoesNotFit.field-0 in
     let are : AreAllItems zones items = subst (AreAllItems zones) (sym c.deref-2.ensures.value) c.in_ok-items.ensures in
     let all = c.in_ok-blanks.ensures.chunks in
     let many : length sizes ≡ length items =

@@ -1,0 +1,98 @@
+//! The line of a refusal.
+ghost use Rattle.std.specs.Prelude.{◌≡◌, ◌≤◌, ◌++◌, ℕ, List, IfOk, length, codes, decimal};
+ghost use Rattle.job_report.specs.Pieces.{pieces_text};
+ghost use Rattle.qp_main.specs.Due.{list_kind_text, zone_kind_text, script_kind_text, refusal_text};
+
+use crate::line::{Line, refusal_line};
+use job_model::ScriptKind;
+use job_report::Pieces;
+use std::alloc::{AllocError, Global};
+use zone_list::ListKind;
+use zone_model::ZoneKind;
+use zone_text::push_decimal;
+
+fn zone_kind_name(kind: ZoneKind) -> &'static [u8]
+    ensures text { result.now ≡ zone_kind_text kind }
+    ensures short { length result.now ≤ 13 }
+{
+    match kind {
+        ZoneKind::BadName => b"BadName",
+        ZoneKind::BadToken => b"BadToken",
+        ZoneKind::OpenParen => b"OpenParen",
+        ZoneKind::OpenQuote => b"OpenQuote",
+        ZoneKind::NoOwner => b"NoOwner",
+        ZoneKind::NoTtl => b"NoTtl",
+        ZoneKind::BadTtl => b"BadTtl",
+        ZoneKind::BadClass => b"BadClass",
+        ZoneKind::UnknownType => b"UnknownType",
+        ZoneKind::BadRdata => b"BadRdata",
+        ZoneKind::Include => b"Include",
+        ZoneKind::OutsideZone => b"OutsideZone",
+        ZoneKind::CnameAndOther => b"CnameAndOther",
+        ZoneKind::SoaRule => b"SoaRule",
+        ZoneKind::LongEntry => b"LongEntry",
+    }
+}
+
+fn list_kind_name(kind: ListKind) -> &'static [u8]
+    ensures text { result.now ≡ list_kind_text kind }
+    ensures short { length result.now ≤ 13 }
+{
+    match kind {
+        ListKind::Zone(kind) => zone_kind_name(kind),
+        ListKind::Repeated => b"Repeated",
+        ListKind::TooManyZones => b"TooManyZones",
+    }
+}
+
+fn script_kind_name(kind: ScriptKind) -> &'static [u8]
+    ensures text { result.now ≡ script_kind_text kind }
+    ensures short { length result.now ≤ 13 }
+{
+    match kind {
+        ScriptKind::NoWorker => b"NoWorker",
+        ScriptKind::BadCommand => b"BadCommand",
+        ScriptKind::BadName => b"BadName",
+        ScriptKind::BadType => b"BadType",
+        ScriptKind::BadRdata => b"BadRdata",
+        ScriptKind::BadNumber => b"BadNumber",
+        ScriptKind::OpenBlock => b"OpenBlock",
+        ScriptKind::NotHeld => b"NotHeld",
+        ScriptKind::AlreadyHeld => b"AlreadyHeld",
+        ScriptKind::TooMany { limit: _ } => b"TooMany",
+    }
+}
+
+/// The line of a zone's refusal.
+pub fn zone_refused(line: u32, kind: ZoneKind) -> Line
+    ensures { result ≡ refusal_text (codes "zone") line (zone_kind_text kind) }
+{
+    refusal_line(b"zone", u64::from(line), zone_kind_name(kind))
+}
+
+/// The line of a refusal of several zones.
+pub fn list_refused(line: u64, kind: ListKind) -> Line
+    ensures { result ≡ refusal_text (codes "zone") line (list_kind_text kind) }
+{
+    refusal_line(b"zone", line, list_kind_name(kind))
+}
+
+/// The line of a script's refusal.
+pub fn script_refused(line: u32, kind: ScriptKind) -> Line
+    ensures { result ≡ refusal_text (codes "script") line (script_kind_text kind) }
+{
+    refusal_line(b"script", u64::from(line), script_kind_name(kind))
+}
+
+/// The line of a zone that may need more cells than the chunks have.
+pub fn no_room(alloc: Global, cells: u64, limit: u64) -> Result<Pieces, AllocError>
+    ensures { IfOk result (λ text. pieces_text text ≡ codes "zone does not fit: " ++ decimal cells ++ codes " cells over " ++ decimal limit ++ codes "\n") }
+{
+    let mut out = Vec::new(alloc);
+    out.extend_from_slice(b"zone does not fit: ")?;
+    push_decimal(&mut out, cells)?;
+    out.extend_from_slice(b" cells over ")?;
+    push_decimal(&mut out, limit)?;
+    out.extend_from_slice(b"\n")?;
+    Ok(Pieces::of(alloc, out))
+}
