@@ -13,7 +13,7 @@ use Rattle.chunk_usage.specs.declared.space.Grant.{Grant}
 use Rattle.chunk_usage.specs.declared.space.Full.{Full}
 use Rattle.chunk_usage.specs.Rooms.{Handed, GivesChunk, OpensFree, Grows, account_of}
 use Rattle.chunk_usage.specs.Ledger.{Ledger, IsLedger, IsBump, is_given, is_bump, is_used, is_mutable, filled, left, free_count, reserve_of, reserved}
-use Rattle.chunk_usage.specs.Handing.{lowest_free, with_bump, taken, next_cell, roomy, granted_from, allocated_from, grant_of, allocated, shortage, spent, unspent}
+use Rattle.chunk_usage.specs.Handing.{lowest_free, with_bump, taken, next_cell, roomy, granted_from, allocated_from, grant_of, allocated, shortage, consumed, unconsumed}
 use Rattle.chunk_sets.proofs.FlagLemmas.{set_stays, set_within, get_set, get_clear, one_fewer_clear, First, first_is}
 use Rattle.chunk_usage.proofs.RowLemmas.{counts_more}
 use Rattle.chunk_usage.proofs.HandingLaws.{opened_mutable}
@@ -21,7 +21,7 @@ use Rattle.chunk_usage.proofs.HandingLaws.{opened_mutable}
 pub record Hands (l new : Ledger) (n : ℕ) (r : Result Grant Full) : Type 0 where
   pub gives : IfOk r (λ g. GivesChunk l.given new.given g.given)
   pub grows : Grows (is_used l) (is_used new) (is_mutable l) (is_mutable new)
-  pub spends : spent new ≤ spent l + n
+  pub consumes : consumed new ≤ consumed l + n
   pub handed : IfOk r (λ g. Handed (account_of l) (account_of new) g.at n)
 
 differ : true ≡ false → ⊥
@@ -61,8 +61,8 @@ module _ (l : Ledger) (h : IsLedger l) (n : ℕ) (some : 0 < n) (o : Bump) (is :
   stays : (q : ℕ) → is_used l q ≡ true → is_used (taken l o n) q ≡ true
   stays q u = let e = sym (used_at q) ∙ u in grind (arith, nat_tests, e)
 
-  spends : spent (taken l o n) ≤ spent l + n
-  spends = let u = ap unspent is in omega arith
+  consumes : consumed (taken l o n) ≤ consumed l + n
+  consumes = let u = ap unconsumed is in omega arith
 
   open_row : IsRow (next_cell o) n
   open_row = record { inside = let f = h.few in let i = inside in omega arith; together = let p = place_at 0 some in omega arith }
@@ -81,7 +81,7 @@ module _ (l : Ledger) (h : IsLedger l) (n : ℕ) (some : 0 < n) (o : Bump) (is :
   open_hands = record {
     gives = refl;
     grows = record { stays = stays; settled = λ q u. refl; fresher = λ q f. f };
-    spends = spends;
+    consumes = consumes;
     handed = open_handed;
   }
 
@@ -136,28 +136,28 @@ module _ (l : Ledger) (h : IsLedger l) (n : ℕ) (some : 0 < n) (few : n ≤ 256
       grown false true rest f g = refl
       grown false false rest f g = f
 
-  new_spends : spent (newly l n c) ≤ spent l + n
-  new_spends =
+  new_consumes : consumed (newly l n c) ≤ consumed l + n
+  new_consumes =
       let fewer = one_fewer_clear l.given c first.within first.clear in
       let most = count_by-le-length not l.given in
       let e = length-set l.given c true in
-      let z = all_spent l.bump short in
+      let z = all_consumed l.bump short in
       omega arith
     where
-      all_spent : (o : Option Bump) → left o < n → unspent o ≡ 0
-      all_spent None short = refl
-      all_spent (Some o) short = omega arith
+      all_consumed : (o : Option Bump) → left o < n → unconsumed o ≡ 0
+      all_consumed None short = refl
+      all_consumed (Some o) short = omega arith
 
   new_hands : Hands l (newly l n c) n (Ok (record { at = c * 1024; given = Some c }))
   new_hands = record {
     gives = (get_clear l.given c first.within first.clear, refl);
     grows = record { stays = new_stays; settled = new_settled; fresher = new_fresher };
-    spends = new_spends;
+    consumes = new_consumes;
     handed = new_handed;
   }
 
 none_hands : (l : Ledger) (n : ℕ) (f : Full) → Hands l l n (Err f)
-none_hands l n f = record { gives = tt; grows = record { stays = λ q u. u; settled = λ q u. refl; fresher = λ q t. t }; spends = (omega arith); handed = tt }
+none_hands l n f = record { gives = tt; grows = record { stays = λ q u. u; settled = λ q u. refl; fresher = λ q t. t }; consumes = (omega arith); handed = tt }
 
 module _ (l : Ledger) (h : IsLedger l) (n : ℕ) (some : 0 < n) (few : n ≤ 256) where
   by_free : (b : Bool) → nat_le (free_count l) (reserve_of l) ≡ b → left l.bump < n

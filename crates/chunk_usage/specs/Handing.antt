@@ -1,6 +1,7 @@
 -- Cells that are handed out and released: what each call makes of a ledger.
 use Rattle.std.specs.Prelude.{◌≡◌, ℕ, ◌+◌, ◌-◌, ◌*◌, ◌/◌, ◌<◌, ◌≤◌, nat_le, ◌==◌, true, not, if◌then◌else◌, Option, None, Some, length, replicate, slice_index, slice_set, Result, Ok, Err}
 use Rattle.std.specs.List.{position_or_len}
+use Rattle.trie_model.specs.Capacity.{filled_cells}
 use Rattle.chunk_usage.specs.declared.bump.Bump.{Bump}
 use Rattle.chunk_usage.specs.declared.space.Grant.{Grant}
 use Rattle.chunk_usage.specs.declared.space.Full.{Full}
@@ -95,10 +96,10 @@ all_released l = record l { live = replicate (length l.live) 0 }
 abbrev pub Lacks : Ledger → Full → Type 0
 Lacks l f = IsShort l f.needed × (f ≡ shortage l f.needed) × (f.needed ≤ 256)
 
--- 769 for each given chunk, less what the bump chunk lacks of 769 cells handed out
-abbrev pub unspent : Option Bump → ℕ
-unspent None = 0
-unspent (Some o) = 769 - o.filled
+-- `filled_cells` for each given chunk, less what the bump chunk lacks of so many that are handed out
+abbrev pub unconsumed : Option Bump → ℕ
+unconsumed None = 0
+unconsumed (Some o) = filled_cells - o.filled
 
-abbrev pub spent : Ledger → ℕ
-spent l = 769 * (length l.given - free_count l) - unspent l.bump
+abbrev pub consumed : Ledger → ℕ
+consumed l = filled_cells * (length l.given - free_count l) - unconsumed l.bump

@@ -4,7 +4,7 @@ use Rattle.trie_model.specs.Extents.{IsRow, row}
 use Rattle.trie_model.specs.Reach.{in_chunk}
 use Rattle.chunk_cells.specs.Chunks.{IsGiven, IsFree}
 use Rattle.chunk_usage.specs.Ledger.{Ledger, Frozen, is_bump, is_used, is_mutable, frozen_part, reserved}
-use Rattle.chunk_usage.specs.Handing.{spent}
+use Rattle.chunk_usage.specs.Handing.{consumed}
 
 -- What a space that hands out cells knows of them.
 pub record Account : Type 0 where
@@ -18,9 +18,9 @@ pub record Account : Type 0 where
   pub opened : ℕ → Bool
   -- how many cells of a chunk count
   pub live : ℕ → ℕ
-  -- 769 for each given chunk but the bump chunk, and of that one what is handed out, at most 769. For a chunk is left for another
+  -- `filled_cells` for each given chunk but the bump chunk, and of that one what is handed out, at most so many. For a chunk is left for another
   -- only where fewer than 256 of its cells are left, so n cells raise it by no more than n.
-  pub spent : ℕ
+  pub consumed : ℕ
   -- how many of the chunks that are kept free are free. Cells are handed out of no such chunk, so it stays as it is
   pub reserved : ℕ
   -- what was kept at freezes
@@ -34,7 +34,7 @@ account_of l = record {
   given = l.given;
   opened = is_bump l.bump;
   live = slice_index l.live;
-  spent = spent l;
+  consumed = consumed l;
   reserved = reserved l;
   frozen = frozen_part l;
 }

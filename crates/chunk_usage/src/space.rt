@@ -48,7 +48,7 @@ pub trait Space {
         ensures gives { IfOk result (λ g. GivesChunk (account self.old).given (account self.new).given g.given) }
         ensures opens { OpensFree (account self.old).given (account self.old).opened (account self.new).opened }
         ensures grows { Grows (account self.old).used (account self.new).used (account self.old).mutable (account self.new).mutable }
-        ensures spends { (account self.new).spent ≤ (account self.old).spent + n }
+        ensures consumes { (account self.new).consumed ≤ (account self.old).consumed + n }
         // Where a chunk is given, more are free than are kept free.
         ensures spares { (account self.new).reserved ≡ (account self.old).reserved }
         ensures frozen { (account self.new).frozen ≡ (account self.old).frozen }

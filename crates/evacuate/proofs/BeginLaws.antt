@@ -11,7 +11,7 @@ use Rattle.chunk_cells.specs.Chunks.{IsGiven}
 use Rattle.chunk_sets.proofs.FlagLemmas.{get_set}
 use Rattle.chunk_usage.specs.declared.bump.Bump.{Bump}
 use Rattle.chunk_usage.specs.Counting.{is_unmixed}
-use Rattle.chunk_usage.specs.Handing.{spent}
+use Rattle.chunk_usage.specs.Handing.{consumed}
 use Rattle.chunk_usage.specs.Keeping.{closed, full}
 use Rattle.chunk_usage.specs.Ledger.{Ledger, IsLedger, IsBump, is_given, is_bump, is_used, is_mutable, filled, free_count, frozen_part}
 use Rattle.chunk_usage.specs.Rooms.{Grows, reserve_account_of}
@@ -207,10 +207,10 @@ module _ {S : Type 0} (has : S → ℕ → Cell → Type 0) (kept : S → List �
   pub ready_begun : Ready kept given reserve_account_of s l → Ready kept given reserve_account_of s l1
   ready_begun r = ready_grows r (r.same ∙ sym (ap (λ (m : Ledger). m.given) e ∙ begun_given l filled_on)) refl grows
 
--- what was spent before, and what is to be moved at most
-pub begun_spent : (l : Ledger) (filled_on : Option ℕ) → spent (begun l filled_on) + old_live (old_chunks l.given filled_on) (begun l filled_on).live ≤ 769 * (length l.given - free_count l) + old_live l.given l.live
-begun_spent l None = omega arith
-begun_spent l (Some c) = let f = fewer_old l.given l.live (Some c) in omega arith
+-- what was consumed before, and what is to be moved at most
+pub begun_consumed : (l : Ledger) (filled_on : Option ℕ) → consumed (begun l filled_on) + old_live (old_chunks l.given filled_on) (begun l filled_on).live ≤ 769 * (length l.given - free_count l) + old_live l.given l.live
+begun_consumed l None = omega arith
+begun_consumed l (Some c) = let f = fewer_old l.given l.live (Some c) in omega arith
 
 fills_then : (l l1 : Ledger) (filled_on : Option ℕ) → IsLedger l → IfSome filled_on (λ c. is_unmixed l c ≡ true) → l1 ≡ begun l filled_on → Fills (old_chunks l.given filled_on) l1
 fills_then l l1 filled_on h unmixed e = subst (Fills (old_chunks l.given filled_on)) (sym e) (fills_begun l h filled_on unmixed)

@@ -15,7 +15,7 @@ use Rattle.trie_model.specs.Trees.{Tree}
 use Rattle.trie_model.proofs.SizeLaws.{size_is}
 use Rattle.chunk_usage.specs.declared.bump.Bump.{Bump}
 use Rattle.chunk_usage.specs.Counting.{is_low, is_sparse, sparse_count}
-use Rattle.chunk_usage.specs.Handing.{spent, unspent}
+use Rattle.chunk_usage.specs.Handing.{consumed, unconsumed}
 use Rattle.chunk_usage.specs.Ledger.{Ledger, IsLedger, is_given, is_bump, is_used, left, free_count}
 use Rattle.chunk_usage.specs.Rooms.{reserve_account_of}
 use Rattle.chunk_sets.proofs.FlagLemmas.{set_within}
@@ -76,26 +76,26 @@ dense_of l h cleared k some shut = elim (cases_lt 256 (slice_index l.live k)) [
 
 -- ---- how many chunks were asked for
 
-module _ (l new : Ledger) (same : length new.given ≡ length l.given) (c : ℕ) (paid : spent new ≤ 769 * (length l.given - free_count l) + c) where
+module _ (l new : Ledger) (same : length new.given ≡ length l.given) (c : ℕ) (paid : consumed new ≤ 769 * (length l.given - free_count l) + c) where
   most_free : free_count l ≤ length l.given
   most_free = count_by-le-length not l.given
 
   most_free_then : free_count new ≤ length new.given
   most_free_then = count_by-le-length not new.given
 
-  unspent_few : (o : Option Bump) → unspent o ≤ 769
-  unspent_few None = omega arith
-  unspent_few (Some o) = omega arith
+  unconsumed_few : (o : Option Bump) → unconsumed o ≤ 769
+  unconsumed_few None = omega arith
+  unconsumed_few (Some o) = omega arith
 
-  all_spent : (o : Option Bump) → left o < 256 → unspent o ≡ 0
-  all_spent None s = refl
-  all_spent (Some o) s = omega arith
+  all_consumed : (o : Option Bump) → left o < 256 → unconsumed o ≡ 0
+  all_consumed None s = refl
+  all_consumed (Some o) s = omega arith
 
   pub asked : free_count l ≤ free_count new + (c / 769 + 1)
-  asked = let a = most_free in let b = most_free_then in let u = unspent_few new.bump in omega arith
+  asked = let a = most_free in let b = most_free_then in let u = unconsumed_few new.bump in omega arith
 
   pub asked_in_vain : IsFull new → free_count l + 1 ≤ free_count new + (c / 769 + 1)
-  asked_in_vain full = let a = most_free in let b = most_free_then in let s = full.spent.few_left in let n = full.few in let u = all_spent new.bump (omega arith) in omega arith
+  asked_in_vain full = let a = most_free in let b = most_free_then in let s = full.consumed.few_left in let n = full.few in let u = all_consumed new.bump (omega arith) in omega arith
 
   pub asked_by : (d : Done) → (d ≡ Stopped → IsFull new) → free_count l + refused d ≤ free_count new + (c / 769 + 1)
   asked_by Whole full = let a = asked in omega arith

@@ -279,7 +279,7 @@ moves_then a b = record { fills = b.fills; sparse = λ k s. b.sparse k (a.sparse
 
 -- cells are handed out
 pub moves_handed : {given : List Bool} {n : ℕ} {l new : Ledger} {r : Result Grant Full} → FillsMore given l new r → Hands l new n r → Moves given n l new
-moves_handed f h = record { fills = f.fills; sparse = f.sparse; fewer = (let e = f.same in omega arith); paid = (let e = f.same in let s = h.spends in omega arith) }
+moves_handed f h = record { fills = f.fills; sparse = f.sparse; fewer = (let e = f.same in omega arith); paid = (let e = f.same in let s = h.consumes in omega arith) }
 
 -- an allocation that was granted
 pub record Granted (l new : Ledger) (n : ℕ) (g : Grant) : Type 0 where

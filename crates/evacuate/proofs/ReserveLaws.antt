@@ -11,7 +11,7 @@ use Rattle.chunk_usage.specs.declared.space.Grant.{Grant}
 use Rattle.chunk_usage.specs.declared.space.Full.{Full}
 use Rattle.chunk_usage.specs.Rooms.{Handed, account_of, reserve_account_of}
 use Rattle.chunk_usage.specs.Ledger.{Ledger, IsLedger, is_given, is_bump, is_used, is_mutable, filled, left, free_count, frozen_part}
-use Rattle.chunk_usage.specs.Handing.{IsSpent, lowest_free, newly_taken, new_grant, roomy, shortage, spent, unspent, granted_from, allocated_from, reserve_granted_from, reserve_allocated_from, reserve_grant_of, reserve_allocated}
+use Rattle.chunk_usage.specs.Handing.{IsSpent, lowest_free, newly_taken, new_grant, roomy, shortage, consumed, unconsumed, granted_from, allocated_from, reserve_granted_from, reserve_allocated_from, reserve_grant_of, reserve_allocated}
 use Rattle.trie_space.specs.Spaces.{Ready}
 use Rattle.chunk_sets.proofs.FlagLemmas.{set_stays, get_set, get_clear, one_fewer_clear, First, first_is}
 use Rattle.chunk_usage.proofs.RowLemmas.{counts_more}
@@ -69,28 +69,28 @@ module _ (l : Ledger) (h : IsLedger l) (n : ℕ) (some : 0 < n) (few : n ≤ 256
       grown false true rest f g = refl
       grown false false rest f g = f
 
-  spends : spent (newly_taken l n) ≤ spent l + n
-  spends =
+  consumes : consumed (newly_taken l n) ≤ consumed l + n
+  consumes =
       let fewer = one_fewer_clear l.given c first.within first.clear in
       let most = count_by-le-length not l.given in
       let e = length-set l.given c true in
-      let z = all_spent l.bump short in
+      let z = all_consumed l.bump short in
       omega arith
     where
-      all_spent : (o : Option Bump) → left o < n → unspent o ≡ 0
-      all_spent None short = refl
-      all_spent (Some o) short = omega arith
+      all_consumed : (o : Option Bump) → left o < n → unconsumed o ≡ 0
+      all_consumed None short = refl
+      all_consumed (Some o) short = omega arith
 
   new_hands : Hands l (newly_taken l n) n (Ok (new_grant l))
   new_hands = record {
     gives = (get_clear l.given c first.within first.clear, refl);
     grows = record { stays = stays; settled = settled; fresher = fresher };
-    spends = spends;
+    consumes = consumes;
     handed = new_handed;
   }
 
 none_hands : (l : Ledger) (n : ℕ) (f : Full) → Hands l l n (Err f)
-none_hands l n f = record { gives = tt; grows = record { stays = λ q u. u; settled = λ q u. refl; fresher = λ q t. t }; spends = (omega arith); handed = tt }
+none_hands l n f = record { gives = tt; grows = record { stays = λ q u. u; settled = λ q u. refl; fresher = λ q t. t }; consumes = (omega arith); handed = tt }
 
 module _ (l : Ledger) (h : IsLedger l) (n : ℕ) (some : 0 < n) (few : n ≤ 256) where
   by_free : (b : Bool) → (free_count l == 0) ≡ b → left l.bump < n → Hands l (if b then l else newly_taken l n) n (if b then Err (shortage l n) else Ok (new_grant l))
@@ -113,8 +113,8 @@ reserve_handed l h n some few new r e f =
     subst (λ (m : Ledger). Hands l m n r) (sym e) (subst (Hands l (reserve_allocated l n) n) (sym f) (by_bump l h n some few l.bump refl))
 
 -- where there is no room nothing changes
-pub spent_same : (l : Ledger) (n : ℕ) → IsSpent l n → reserve_allocated l n ≡ l
-spent_same l n h = ap (reserve_allocated_from l n) (none l.bump h.few_left) ∙ ap (λ (b : Bool). if b then l else newly_taken l n) (eq-eqb (free_count l) 0 h.none_free)
+pub consumed_same : (l : Ledger) (n : ℕ) → IsSpent l n → reserve_allocated l n ≡ l
+consumed_same l n h = ap (reserve_allocated_from l n) (none l.bump h.few_left) ∙ ap (λ (b : Bool). if b then l else newly_taken l n) (eq-eqb (free_count l) 0 h.none_free)
   where
     none : (o : Option Bump) → left o < n → roomy o n ≡ None
     none None short = refl

@@ -1,5 +1,6 @@
 -- What an evacuation promises.
 use Rattle.std.specs.Prelude.{◌≡◌, ℕ, ◌<◌, ◌≤◌, true, false, slice_index}
+use Rattle.trie_model.specs.Capacity.{filled_cells}
 use Rattle.chunk_usage.specs.Counting.{is_sparse}
 use Rattle.chunk_usage.specs.Ledger.{Ledger, filled, is_given, is_bump}
 use Rattle.evacuate.specs.declared.evacuation.Done.{Done}
@@ -20,9 +21,9 @@ pub record HasSparse (l : Ledger) : Type 0 where
   pub some : 0 < slice_index l.live chunk
 
 -- Each chunk that was given meanwhile is full of what was moved: all cells that were handed out of it count, and they are at least
--- 769 where it was left for another.
+-- `filled_cells` where it was left for another.
 pub record FillsNew (old new : Ledger) : Type 0 where
-  pub left : (k : ℕ) → is_given new k ≡ true → is_given old k ≡ false → is_bump new.bump k ≡ false → 769 ≤ slice_index new.live k
+  pub left : (k : ℕ) → is_given new k ≡ true → is_given old k ≡ false → is_bump new.bump k ≡ false → filled_cells ≤ slice_index new.live k
   pub bump : (k : ℕ) → is_bump new.bump k ≡ true → is_given old k ≡ false → filled new.bump ≤ slice_index new.live k
 
 -- how many chunks were asked for in vain

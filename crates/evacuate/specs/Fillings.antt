@@ -1,9 +1,10 @@
 -- The chunks that an evacuation finds given, and those that it fills.
 use Rattle.std.specs.Prelude.{◌≡◌, ◌⊎◌, ℕ, ◌+◌, ◌/◌, ◌<◌, ◌≤◌, ◌==◌, Bool, true, false, Option, None, Some, List, [], ◌∷◌, length, if◌then◌else◌, slice_index, slice_index_or, slice_set}
+use Rattle.trie_model.specs.Capacity.{filled_cells}
 use Rattle.chunk_usage.specs.declared.bump.Bump.{Bump}
 use Rattle.chunk_usage.specs.Counting.{is_sparse, is_unmixed}
 use Rattle.chunk_usage.specs.Ledger.{Ledger, is_given, is_bump, filled}
-use Rattle.chunk_usage.specs.Handing.{IsSpent, spent}
+use Rattle.chunk_usage.specs.Handing.{IsSpent, consumed}
 use Rattle.chunk_usage.specs.Keeping.{closed}
 
 -- the cell lies in a chunk that the evacuation found given, and doesn't fill
@@ -38,13 +39,13 @@ old_live [] live = 0
 old_live (g ∷ given) [] = 0
 old_live (g ∷ given) (n ∷ live) = (if g then n else 0) + old_live given live
 
--- Cells are handed out of new chunks alone. Each new chunk that is left for another has at least 769 cells that count, and of the bump
+-- Cells are handed out of new chunks alone. Each new chunk that is left for another has at least `filled_cells` that count, and of the bump
 -- chunk all that are handed out do.
 pub record Fills (given : List Bool) (l : Ledger) : Type 0 where
   pub count : length l.given ≡ length given
   pub stays : (k : ℕ) → slice_index_or given k false ≡ true → is_given l k ≡ true
   pub recent : (k : ℕ) → is_given l k ≡ true → slice_index_or given k false ≡ false → slice_index_or l.since k false ≡ true
-  pub left : (k : ℕ) → is_given l k ≡ true → slice_index_or given k false ≡ false → is_bump l.bump k ≡ false → 769 ≤ slice_index l.live k
+  pub left : (k : ℕ) → is_given l k ≡ true → slice_index_or given k false ≡ false → is_bump l.bump k ≡ false → filled_cells ≤ slice_index l.live k
   pub bump : (k : ℕ) → is_bump l.bump k ≡ true → slice_index_or given k false ≡ false → filled l.bump ≤ slice_index l.live k
   pub closed : (k : ℕ) → is_bump l.bump k ≡ true → slice_index_or given k false ≡ true → filled l.bump ≡ 1024
 
@@ -54,7 +55,7 @@ pub record Moves (given : List Bool) (n : ℕ) (l new : Ledger) : Type 0 where
   pub fills : Fills given new
   pub sparse : (k : ℕ) → is_sparse l k ≡ true → is_sparse new k ≡ true
   pub fewer : old_live given new.live ≤ old_live given l.live
-  pub paid : spent new + old_live given new.live ≤ spent l + old_live given l.live + n
+  pub paid : consumed new + old_live given new.live ≤ consumed l + old_live given l.live + n
 
 -- and they were moved whole
 pub record Paid (given : List Bool) (n : ℕ) (l new : Ledger) : Type 0 where
@@ -65,7 +66,7 @@ pub record Paid (given : List Bool) (n : ℕ) (l new : Ledger) : Type 0 where
 pub record IsFull (l : Ledger) : Type 0 where
   pub needed : ℕ
   pub few : needed ≤ 256
-  pub spent : IsSpent l needed
+  pub consumed : IsSpent l needed
 
 -- something was moved: fewer cells of old chunks count
 abbrev pub Fewer : Ledger → Ledger → Type 0

@@ -17,7 +17,7 @@ ghost use Rattle.evacuate.specs.Trails.{Found, HasFound, IsDue, Reached, TwigsAt
 
 use super::items::move_item;
 use super::moves::move_node;
-use super::place::first_cell;
+use super::node_cells::first_cell;
 use super::trail::Trail;
 use chunk_cells::CellWrite;
 use chunk_usage::{Full, Usage};

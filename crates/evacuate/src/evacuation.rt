@@ -1,11 +1,12 @@
 //! Evacuation: sparse chunks are emptied.
 
 ghost use Rattle.std.specs.Prelude.{◌≡◌, ◌+◌, ◌*◌, ◌-◌, ◌/◌, ◌<◌, ◌≤◌, ℕ, List, Bool, true, false, Some, length, slice_index};
+ghost use Rattle.trie_model.specs.Capacity.{filled_cells};
 ghost use Rattle.trie_model.specs.Keys.{Entry};
 ghost use Rattle.trie_model.specs.Shape.{cells as cells_of};
 ghost use Rattle.trie_model.specs.Trees.{Tree};
 ghost use Rattle.chunk_usage.specs.Ledger.{free_count};
-ghost use Rattle.chunk_usage.specs.Handing.{spent};
+ghost use Rattle.chunk_usage.specs.Handing.{consumed};
 ghost use Rattle.chunk_usage.specs.Rooms.{account_of, reserve_account_of};
 ghost use Rattle.trie_space.specs.Spaces.{Ready, Fenced, IsWritable};
 ghost use Rattle.trie_space.specs.Standing.{HasTrie};
@@ -51,7 +52,7 @@ pub fn evacuate<C: CellWrite>(
     ensures whole { result.1 ≡ Done.Whole → IsDense usage.new }
     ensures stopped { result.1 ≡ Done.Stopped → IsFull usage.new }
     ensures left { result.1 ≡ Done.Stopped → HasSparse usage.new }
-    ensures asks { (version : List Entry) → HasTrie C.has account_of cells.old usage.old root version → free_count usage.old + refused result.1 ≤ free_count usage.new + (cells_of version / 769 + 1) }
+    ensures asks { (version : List Entry) → HasTrie C.has account_of cells.old usage.old root version → free_count usage.old + refused result.1 ≤ free_count usage.new + (cells_of version / filled_cells + 1) }
     ensures frame { Fenced C.has C.kept C.given reserve_account_of cells.old usage.old cells.new usage.new }
     ensures ready { Ready C.kept C.given account_of cells.new usage.new }
 {
@@ -82,7 +83,7 @@ fn empty_sparse<C: CellWrite>(cells: &mut C, usage: &mut Usage, root: Ref) -> (R
     ensures left { result.1 ≡ Done.Stopped → HasSparse usage.new }
     ensures fills { FillsNew usage.old usage.new }
     ensures count { length usage.new.given ≡ length usage.old.given }
-    ensures paid { spent usage.new ≤ 769 * (length usage.old.given - free_count usage.old) + old_live usage.old.given usage.old.live }
+    ensures paid { consumed usage.new ≤ filled_cells * (length usage.old.given - free_count usage.old) + old_live usage.old.given usage.old.live }
     ensures frame { Fenced C.has C.kept C.given reserve_account_of cells.old usage.old cells.new usage.new }
     ensures ready { Ready C.kept C.given reserve_account_of cells.new usage.new }
 {

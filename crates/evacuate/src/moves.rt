@@ -13,7 +13,7 @@ ghost use Rattle.evacuate.specs.Chains.{Goes, GoesOn};
 ghost use Rattle.evacuate.specs.Fillings.{Fills, Moves, Paid, IsFull, is_old};
 ghost use Rattle.evacuate.specs.Places.{first_of, first_width, width_of, put_first, moved, Stood, Hung, IsStood, IsHung};
 
-use super::place::{cell_count, first_cell, first_extent_for, with_cells_at};
+use super::node_cells::{cell_count, first_cell, first_extent_for, with_cells_at};
 use super::room::room_for;
 use chunk_cells::CellWrite;
 use chunk_cells::extents::{LINKED_OCTETS, link_of, link_to, next_extent};

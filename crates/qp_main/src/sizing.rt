@@ -5,7 +5,6 @@ ghost use Rattle.zone_model.specs.Versions.{Version};
 ghost use Rattle.trie_model.specs.Keys.{Rises};
 ghost use Rattle.trie_size.specs.Sizes.{IsSizeOf};
 ghost use Rattle.job_model.specs.Sizes.{trie_entries};
-ghost use Rattle.shared_index.specs.Openings.{room_in};
 ghost use Rattle.job_report.specs.Pieces.{pieces_text};
 ghost use Rattle.qp_main.specs.Due.{Checks};
 
@@ -15,6 +14,7 @@ use crate::status::Status;
 use job_report::Pieces;
 use master_file::{Zone, ZoneItems};
 use rr_data::item_buffer;
+use shared_index::room_in;
 use std::alloc::{AllocError, Global};
 use trie_size::TrieSize;
 
@@ -45,14 +45,6 @@ pub fn zone_size(alloc: Global, zone: Zone) -> Result<TrieSize, AllocError>
     }
     let mut octets = item_buffer(alloc)?;
     Ok(count_items(zone.into_items(), &mut octets))
-}
-
-// How many cells are sure to find room in so many chunks.
-fn room_in(chunks: u32) -> u64
-    requires some { 1 ≤ chunks }
-    ensures { result ≡ room_in chunks }
-{
-    769 * u64::from(chunks - chunks / 4 - 1)
 }
 
 /// The status and the text for a zone whose trie has this size.

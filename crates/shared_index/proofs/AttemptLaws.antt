@@ -11,7 +11,7 @@ use Rattle.pin_core.specs.declared.kept.Kept.{Kept}
 use Rattle.chunk_cells.specs.Chunks.{IsGiven}
 use Rattle.chunk_usage.specs.declared.space.Full.{Full as NoRoom}
 use Rattle.chunk_usage.specs.Ledger.{Ledger, Frozen, is_bump, is_used, is_mutable, is_given, frozen_part, reserved}
-use Rattle.chunk_usage.specs.Handing.{Lacks, spent}
+use Rattle.chunk_usage.specs.Handing.{Lacks, consumed}
 use Rattle.chunk_usage.specs.Rooms.{Grows, OpensFree, account_of}
 use Rattle.chunk_sets.proofs.FlagLemmas.{get_set}
 use Rattle.trie_model.specs.Keys.{Entry}
@@ -165,9 +165,9 @@ module _ (first lent : Cells) (v w : Known) (u n : Ledger)
         → IfErr r (λ _. Same HasCell account_of first u lent n)
         → ((f : NoRoom) → r ≡ Err (Full f) → Lacks n f)
         → ((f : NoRoom) → r ≡ Err (Full f) → (branches : List ℕ) → BranchesOnPath HasCell account_of first u root (key_of c) branches → Contains (asked_by c branches) f.needed)
-        → ((twigs : ℕ) → TwigsOnPath HasCell account_of first u root (key_of c) twigs → spent n ≤ spent u + (written_by c + twigs))
+        → ((twigs : ℕ) → TwigsOnPath HasCell account_of first u root (key_of c) twigs → consumed n ≤ consumed u + (written_by c + twigs))
         → Tried c root v u w n r
-    tried_of reserve done refused denied stays same full asked spends = record {
+    tried_of reserve done refused denied stays same full asked consumes = record {
       done = if_ok _ _ r (λ new h es s. left new (operated es (operation_of c)) (h es (entered root es s))) done;
       refused = λ es s. refused es (entered root es s);
       denied = denied;
@@ -179,5 +179,5 @@ module _ (first lent : Cells) (v w : Known) (u n : Ledger)
       counts = if_err _ _ r (λ e s. s.counts) same;
       path = if_err _ _ r (λ e s twigs p. path_there lent (cells_with n w.turn) chunks_now words_now n root (key_of c) twigs (path_later root (key_of c) twigs s.untouched leaves.grows.stays s.counts (path_in twigs p))) same;
       branches = if_err _ _ r (λ e s branches p. branches_there lent (cells_with n w.turn) chunks_now words_now n root (key_of c) branches (branches_later root (key_of c) branches s.untouched leaves.grows.stays s.counts (branches_in branches p))) same;
-      spends = λ twigs p. spends twigs (path_in twigs p);
+      consumes = λ twigs p. consumes twigs (path_in twigs p);
     }

@@ -8,7 +8,7 @@ use Rattle.trie_model.specs.Keys.{Entry}
 use Rattle.trie_model.specs.Shape.{cells}
 use Rattle.chunk_usage.specs.declared.space.Full.{Full as NoRoom}
 use Rattle.trie_model.specs.Capacity.{is_roomy}
-use Rattle.chunk_usage.specs.Handing.{Lacks, spent}
+use Rattle.chunk_usage.specs.Handing.{Lacks, consumed}
 use Rattle.chunk_usage.specs.Keeping.{closed, is_among, rows_of}
 use Rattle.chunk_usage.specs.Ledger.{Ledger, Frozen, Row, free_count, reserve_of}
 use Rattle.shared_cells.specs.declared.view.Entry.{Entry as Commit}
@@ -23,7 +23,7 @@ use Rattle.shared_index.specs.Drafts.{working_set}
 use Rattle.shared_index.specs.Operations.{applied}
 use Rattle.shared_index.specs.Passes.{first_version, version_seen}
 use Rattle.shared_index.specs.Tries.{Grown}
-use Rattle.shared_index.proofs.GivenLaws.{given_short, given_spent, spent_given}
+use Rattle.shared_index.proofs.GivenLaws.{given_short, given_consumed, consumed_given}
 
 -- ---- numbers that bound a history bound what it begins with
 
@@ -72,7 +72,7 @@ given_all : (u : Ledger) → length u.given ≤ given_count u + free_count u
 given_all u = omega arith
 
 -- a try finds room: of what was given before, 40 chunks more are given at most, and those are no more than the reserve leaves
-pub no_shortage : (c o : ℕ) (u n : Ledger) (f : NoRoom) (done : ℕ) → 1 ≤ o → is_roomy u.passes c o (length u.given) → length n.given ≡ length u.given → done ≤ o → spent u ≤ 769 * (most_at_rest u c + 40 * done) → spent n ≤ spent u + 30760 → Lacks n f → ⊥
+pub no_shortage : (c o : ℕ) (u n : Ledger) (f : NoRoom) (done : ℕ) → 1 ≤ o → is_roomy u.passes c o (length u.given) → length n.given ≡ length u.given → done ≤ o → consumed u ≤ 769 * (most_at_rest u c + 40 * done) → consumed n ≤ consumed u + 30760 → Lacks n f → ⊥
 no_shortage c o u n f done some roomy wide few before after lacks =
     let w = most_met c in
     let a = more_passes u.passes w in
@@ -82,11 +82,11 @@ no_shortage c o u n f done some roomy wide few before after lacks =
     let none = lacks.0.none_free in omega arith
 
 -- an evacuation finds a chunk for each 769 cells
-pub none_wanting : (c o : ℕ) (u n : Ledger) (done many : ℕ) → is_roomy u.passes c o (length u.given) → done ≤ o → spent u ≤ 769 * (most_at_rest u c + 40 * done) → many ≤ c → free_count n ≡ 0 → free_count u + 1 ≤ free_count n + (many / 769 + 1) → ⊥
+pub none_wanting : (c o : ℕ) (u n : Ledger) (done many : ℕ) → is_roomy u.passes c o (length u.given) → done ≤ o → consumed u ≤ 769 * (most_at_rest u c + 40 * done) → many ≤ c → free_count n ≡ 0 → free_count u + 1 ≤ free_count n + (many / 769 + 1) → ⊥
 none_wanting c o u n done many roomy few before fits none asks =
     let w = most_met c in
     let a = more_passes u.passes w in
-    let g = given_spent u in
+    let g = given_consumed u in
     let h = given_all u in omega arith
 
 -- ---- a transaction begins
@@ -94,7 +94,7 @@ none_wanting c o u n done many roomy few before fits none asks =
 pub begins_roomy : (u : Ledger) (s : AllSeen) → RestsRoomy u s → WorksRoomy u s 0
 begins_roomy u s r = record {
   rows = r.rows;
-  spends = λ c o some b roomy few. let a = r.given c o some b roomy in let e = spent_given u in omega arith;
+  consumes = λ c o some b roomy few. let a = r.given c o some b roomy in let e = consumed_given u in omega arith;
 }
 
 pub closed_roomy : (u n : Ledger) (s : AllSeen) → n ≡ closed u → RestsRoomy u s → RestsRoomy n s
@@ -108,22 +108,22 @@ tried_rows u n s t grown opening history rows =
     each_on u n s t (ap (λ (f : Frozen). f.passes) grown.frozen) grown.wide opening (same_part s t history) (λ c o b few. subst (RowsAreFew c) (sym row) few) rows
 
 -- it was done
-pub done_roomy : (u n : Ledger) (s t : AllSeen) (done now : ℕ) → Grown u n → t.opening ≡ s.opening → t.history ≡ s.history → spent n ≤ spent u + 30760 → now ≡ done + 1 → WorksRoomy u s done → WorksRoomy n t now
+pub done_roomy : (u n : Ledger) (s t : AllSeen) (done now : ℕ) → Grown u n → t.opening ≡ s.opening → t.history ≡ s.history → consumed n ≤ consumed u + 30760 → now ≡ done + 1 → WorksRoomy u s done → WorksRoomy n t now
 done_roomy u n s t done now grown opening history cost one r =
     let passes : n.passes ≡ u.passes = ap (λ (f : Frozen). f.passes) grown.frozen in
     record {
       rows = tried_rows u n s t grown opening history r.rows;
-      spends = each_on u n s t passes grown.wide opening (same_part s t history) (λ c o b before few. let a = before (omega arith) in let e = rest_same u n c passes in omega arith) r.spends;
+      consumes = each_on u n s t passes grown.wide opening (same_part s t history) (λ c o b before few. let a = before (omega arith) in let e = rest_same u n c passes in omega arith) r.consumes;
     }
 
 -- it found no room: so none of these numbers are such
-pub cramped_of : (u n : Ledger) (s : AllSeen) (done : ℕ) (f : NoRoom) → length n.given ≡ length u.given → spent n ≤ spent u + 30760 → Lacks n f → WorksRoomy u s done → EachRoomy u s (λ c o. done ≤ o → ⊥)
-cramped_of u n s done f wide cost lacks r c o some b roomy few = no_shortage c o u n f done some roomy wide few (r.spends c o some b roomy few) cost lacks
+pub cramped_of : (u n : Ledger) (s : AllSeen) (done : ℕ) (f : NoRoom) → length n.given ≡ length u.given → consumed n ≤ consumed u + 30760 → Lacks n f → WorksRoomy u s done → EachRoomy u s (λ c o. done ≤ o → ⊥)
+cramped_of u n s done f wide cost lacks r c o some b roomy few = no_shortage c o u n f done some roomy wide few (r.consumes c o some b roomy few) cost lacks
 
-pub short_roomy : (u n : Ledger) (s t : AllSeen) (done : ℕ) (f : NoRoom) → Grown u n → t.opening ≡ s.opening → t.history ≡ s.history → spent n ≤ spent u + 30760 → Lacks n f → WorksRoomy u s done → WorksRoomy n t done
+pub short_roomy : (u n : Ledger) (s t : AllSeen) (done : ℕ) (f : NoRoom) → Grown u n → t.opening ≡ s.opening → t.history ≡ s.history → consumed n ≤ consumed u + 30760 → Lacks n f → WorksRoomy u s done → WorksRoomy n t done
 short_roomy u n s t done f grown opening history cost lacks r = record {
   rows = tried_rows u n s t grown opening history r.rows;
-  spends = each_on u n s t (ap (λ (f : Frozen). f.passes) grown.frozen) grown.wide opening (same_part s t history) (λ c o b none few. absurd (none few)) (cramped_of u n s done f grown.wide cost lacks r);
+  consumes = each_on u n s t (ap (λ (f : Frozen). f.passes) grown.frozen) grown.wide opening (same_part s t history) (λ c o b none few. absurd (none few)) (cramped_of u n s done f grown.wide cost lacks r);
 }
 
 -- ---- rows

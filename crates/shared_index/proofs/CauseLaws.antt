@@ -15,7 +15,7 @@ use Rattle.trie_model.proofs.ReachLaws.{live_is}
 use Rattle.chunk_usage.specs.declared.bump.Bump.{Bump}
 use Rattle.chunk_usage.specs.declared.space.Full.{Full}
 use Rattle.chunk_usage.specs.Ledger.{Ledger, Frozen, Row, is_in_row, frozen_part, is_bump, is_given, free_count, reserve_of}
-use Rattle.chunk_usage.specs.Handing.{Lacks, spent}
+use Rattle.chunk_usage.specs.Handing.{Lacks, consumed}
 use Rattle.chunk_usage.specs.Keeping.{is_in_rows, is_needed, freed}
 use Rattle.chunk_usage.proofs.RecyclingLaws.{freed_by_chunk}
 use Rattle.zone_model.specs.Keys.{Leads}
@@ -26,7 +26,7 @@ use Rattle.trie_space.specs.Standing.{StandsIn, Standing}
 use Rattle.trie_model.proofs.SizeLaws.{size_is, no_cells}
 use Rattle.shared_index.proofs.CountedLaws.{row_le}
 use Rattle.shared_index.proofs.MeetLaws.{firsts, branches, met_first, row_add, firsts_sum, firsts_few, equal_once, path_few, set_few}
-use Rattle.shared_index.proofs.OpenLaws.{none_unspent, clear_is}
+use Rattle.shared_index.proofs.OpenLaws.{none_unconsumed, clear_is}
 use Rattle.shared_index.proofs.RisenLaws.{risen, risen_few, risen_has, with_bump, open_first, open_later, open_few}
 use Rattle.std.specs.List.{All, list_any}
 use Rattle.std.proofs.lemmas.List.FromFn.{get_or-map-range_with_len}
@@ -212,9 +212,9 @@ kept_images v (k ∷ kept) all =
 
 -- so where a call then finds no room, the cells are many
 pub many : (m new : Ledger) (f : Full) (chunks cells_es cells_base meets_es meets_base b n written : ℕ) → length m.given ≡ chunks → length new.given ≡ chunks → chunks ≤ free_count m + (2 + meets_es + meets_base) → meets_es + b ≤ cells_es → meets_base ≤ cells_base
-    → n ≤ 47 * b → written ≤ 4115 → spent new ≤ spent m + (written + n) → Lacks new f → chunks - reserve_of new - 8 ≤ cells_es + cells_base
+    → n ≤ 47 * b → written ≤ 4115 → consumed new ≤ consumed m + (written + n) → Lacks new f → chunks - reserve_of new - 8 ≤ cells_es + cells_base
 many m new f chunks cells_es cells_base meets_es meets_base b n written old_length new_length given es base path short cost lacks =
-    let all = none_unspent new.bump f.needed lacks.0.few_left lacks.2 in
+    let all = none_unconsumed new.bump f.needed lacks.0.few_left lacks.2 in
     let none = lacks.0.none_free in
     let free = count_by-le-length not new.given in
     let free_m = count_by-le-length not m.given in omega arith
@@ -273,12 +273,12 @@ opened_is m new k h = go m.bump h
         (λ (e : o.chunk ≡ k). inl (eq-eqb o.chunk k e))
         (λ (d : Contains (taken m new) k). inr (since d)) (contains_cases o.chunk k (taken m new) c)
 
-pub few_taken : (m new : Ledger) (f : Full) (cost : ℕ) → length new.given ≡ length m.given → ((k : ℕ) → is_given m k ≡ true → is_given new k ≡ true) → spent new ≤ spent m + cost → Lacks new f → 769 * length (with_bump m.bump (taken m new)) ≤ 769 + cost
+pub few_taken : (m new : Ledger) (f : Full) (cost : ℕ) → length new.given ≡ length m.given → ((k : ℕ) → is_given m k ≡ true → is_given new k ≡ true) → consumed new ≤ consumed m + cost → Lacks new f → 769 * length (with_bump m.bump (taken m new)) ≤ 769 + cost
 few_taken m new f cost chunks stays short lacks =
     let a = open_few m.bump (taken m new) in
     let b = risen_few m.given new.given 0 chunks stays in
     let c = clear_is m.given in
     let d = clear_is new.given in
-    let all = none_unspent new.bump f.needed lacks.0.few_left lacks.2 in
+    let all = none_unconsumed new.bump f.needed lacks.0.few_left lacks.2 in
     let free = count_by-le-length not new.given in
     let free_m = count_by-le-length not m.given in omega arith

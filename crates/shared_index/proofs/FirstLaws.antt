@@ -25,7 +25,7 @@ use Rattle.shared_index.specs.Bases.{StandsFor}
 use Rattle.shared_index.specs.Images.{image_at}
 use Rattle.shared_index.specs.Openings.{IsUnused}
 use Rattle.shared_index.proofs.KeepLaws.{immutable_of}
-use Rattle.shared_index.proofs.OpenLaws.{none_spent}
+use Rattle.shared_index.proofs.OpenLaws.{none_consumed}
 use Rattle.shared_index.proofs.Lists.{all_from, all_from_flat, of_map}
 use Rattle.shared_index.proofs.VersionLaws.{version_image, image_fits, image_used, image_counts, live_counts, row_set}
 
@@ -107,7 +107,7 @@ is_unused size made passes u e = subst (λ (l : Ledger). IsUnused (made_turn siz
   given = ap (λ (n : ℕ). given_chunks (cells_of n (made_turn size made))) (length-replicate {A = Bool} size.chunks false) ∙ none_given size made;
   none_kept = refl;
   uncounted = zeros size.chunks;
-  none_spent = none_spent size.chunks passes;
+  none_consumed = none_consumed size.chunks passes;
   no_rows = refl;
   passes_are = refl;
 })

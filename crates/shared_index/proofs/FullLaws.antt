@@ -82,7 +82,7 @@ cause_of u room d c full f after request same works images leads t root on set l
     let needed : (k : ℕ) → is_given m k ≡ true → NeededBy m k = subst (λ (l : Ledger). (k : ℕ) → is_given l k ≡ true → NeededBy l k) (sym after) (each_needed (narrowed u (kept_versions room.usage))) in
     let p = path_of {has = HasCell (cells_with m v.turn)} {used = is_used m} {live = live_of m} room.root key (working_set room) works.stands works.tells in
     let each = each_of (HasCell (cells_with m v.turn)) (is_used m) (live_of m) room.root key (working_set room) works.stands works.tells in
-    let spends = t.spends p.n p.on_path in
+    let consumes = t.consumes p.n p.on_path in
     let rows : row (some_row m.rows) 0 n ≤ cells_kept w (versions_in f.kept) = (
     let a = rows_met n kept in
     let b = kept_images v kept images in
@@ -100,10 +100,10 @@ cause_of u room d c full f after request same works images leads t root on set l
       branches = each.0;
       on_branches = subst (λ (r : Option ℕ). PathHasEach w d.usage r key each.0) (sym root) (t.branches each.0 each.1);
       needed = subst (λ (n : ℕ). Contains (asked_by c each.0) n) (sym request) (t.asked full refl each.0 each.1);
-      few_opened = few_taken m d.usage full (written_by c + p.n) t.spares.grown.wide t.spares.grown.given spends lacks;
+      few_opened = few_taken m d.usage full (written_by c + p.n) t.spares.grown.wide t.spares.grown.given consumes lacks;
       others_met = met_or_opened m d.usage needed t.spares.grown.wide t.spares.grown.frozen t.counts;
       many_cells =
-          let a = many m d.usage full n (cells (working_set room)) (cells_kept w (versions_in f.kept)) (row (some_live (live_of m)) 0 n) (row (some_row m.rows) 0 n) p.b p.n (written_by c) refl t.spares.grown.wide few meets rows p.few (few_written c leads) spends lacks in
+          let a = many m d.usage full n (cells (working_set room)) (cells_kept w (versions_in f.kept)) (row (some_live (live_of m)) 0 n) (row (some_row m.rows) 0 n) p.b p.n (written_by c) refl t.spares.grown.wide few meets rows p.few (few_written c leads) consumes lacks in
           let b = ap cells set in
           let g = t.spares.grown.wide in omega arith;
     }

@@ -1,4 +1,4 @@
--- How many chunks are given: by what was spent, and by what kept versions have cells in.
+-- How many chunks are given: by what was consumed, and by what kept versions have cells in.
 use Rattle.std.proofs.Common.{◌≡◌, ◌⊎◌, ◌∙◌, ℕ, zero, suc, ◌+◌, ◌-◌, ◌*◌, ◌/◌, ◌<◌, ◌≤◌, ◌==◌, nat_lt, Bool, true, false, not, cond, ◌||◌, if◌then◌else◌, List, [], ◌∷◌, map, length, slice_index, slice_index_or, Option, Some, None, arith, refl, sym, ap, subst, inl, inr}
 use Rattle.std.specs.Prelude.{count_by}
 use Rattle.std.specs.List.{All, list_any, range_with_len}
@@ -15,7 +15,7 @@ use Rattle.trie_model.specs.Extents.{row}
 use Rattle.chunk_usage.specs.declared.bump.Bump.{Bump}
 use Rattle.chunk_usage.specs.declared.space.Full.{Full}
 use Rattle.chunk_usage.specs.Ledger.{Ledger, Row, free_count, is_given, is_in_row, is_bump}
-use Rattle.chunk_usage.specs.Handing.{Lacks, spent, unspent}
+use Rattle.chunk_usage.specs.Handing.{Lacks, consumed, unconsumed}
 use Rattle.chunk_usage.specs.Keeping.{is_in_rows}
 use Rattle.shared_cells.specs.Cells.{Cells}
 use Rattle.shared_index.specs.Capacity.{given_count, row_size}
@@ -24,23 +24,23 @@ use Rattle.shared_index.proofs.CauseLaws.{NeededBy, any_counts, open_once, open_
 use Rattle.shared_index.proofs.CountedLaws.{row_le}
 use Rattle.shared_index.proofs.Lists.{either_true}
 use Rattle.shared_index.proofs.MeetLaws.{row_add, set_few}
-use Rattle.shared_index.proofs.OpenLaws.{none_unspent}
+use Rattle.shared_index.proofs.OpenLaws.{none_unconsumed}
 
--- ---- by what was spent: 769 for each chunk, but for the bump chunk
+-- ---- by what was consumed: 769 for each chunk, but for the bump chunk
 
-unspent_few : (o : Option Bump) → unspent o ≤ 769
-unspent_few None = omega arith
-unspent_few (Some o) = omega arith
+unconsumed_few : (o : Option Bump) → unconsumed o ≤ 769
+unconsumed_few None = omega arith
+unconsumed_few (Some o) = omega arith
 
-pub given_spent : (l : Ledger) → 769 * given_count l ≤ spent l + 769
-given_spent l = let a = unspent_few l.bump in omega arith
+pub given_consumed : (l : Ledger) → 769 * given_count l ≤ consumed l + 769
+given_consumed l = let a = unconsumed_few l.bump in omega arith
 
-pub spent_given : (l : Ledger) → spent l ≤ 769 * given_count l
-spent_given l = omega arith
+pub consumed_given : (l : Ledger) → consumed l ≤ 769 * given_count l
+consumed_given l = omega arith
 
 -- where there is no room all of them count whole
-pub given_short : (l : Ledger) (f : Full) → Lacks l f → 769 * given_count l ≤ spent l
-given_short l f lacks = let a = none_unspent l.bump f.needed lacks.0.few_left lacks.2 in omega arith
+pub given_short : (l : Ledger) (f : Full) → Lacks l f → 769 * given_count l ≤ consumed l
+given_short l f lacks = let a = none_unconsumed l.bump f.needed lacks.0.few_left lacks.2 in omega arith
 
 -- ---- by rows
 

@@ -9,7 +9,7 @@ use Rattle.trie_read.specs.Reads.{EachTells}
 use Rattle.chunk_usage.specs.declared.bump.Bump.{Bump}
 use Rattle.chunk_usage.specs.declared.space.Full.{Full}
 use Rattle.chunk_usage.specs.Ledger.{Ledger, Frozen, Row, row_of, IsLedger, unused, frozen_part, free_count, left}
-use Rattle.chunk_usage.specs.Handing.{Lacks, spent, unspent}
+use Rattle.chunk_usage.specs.Handing.{Lacks, consumed, unconsumed}
 use Rattle.chunk_usage.specs.Keeping.{frozen}
 use Rattle.trie_write.specs.declared.item.Item.{Item}
 use Rattle.trie_write.specs.Entries.{entries_of_items}
@@ -29,18 +29,18 @@ clear_is flags = is_count_by clear not refl (λ flag flags. refl) flags
 all_free : (n : ℕ) → count_by not (replicate n false) ≡ n
 all_free n = sym (clear_is (replicate n false)) ∙ all_clear n
 
--- an open chunk with fewer than 256 cells left has nothing to spend
-pub none_unspent : (o : Option Bump) (n : ℕ) → left o < n → n ≤ 256 → unspent o ≡ 0
-none_unspent None n a b = refl
-none_unspent (Some o) n a b = omega arith
+-- an open chunk with fewer than 256 cells left has nothing to consume
+pub none_unconsumed : (o : Option Bump) (n : ℕ) → left o < n → n ≤ 256 → unconsumed o ≡ 0
+none_unconsumed None n a b = refl
+none_unconsumed (Some o) n a b = omega arith
 
-pub no_shortage : (l : Ledger) (f : Full) (chunks cells : ℕ) → length l.given ≡ chunks → 16 ≤ chunks → spent l ≤ cells → cells ≤ 769 * (chunks - chunks / 4 - 1) → free_count l ≤ length l.given → Lacks l f → ⊥
+pub no_shortage : (l : Ledger) (f : Full) (chunks cells : ℕ) → length l.given ≡ chunks → 16 ≤ chunks → consumed l ≤ cells → cells ≤ 769 * (chunks - chunks / 4 - 1) → free_count l ≤ length l.given → Lacks l f → ⊥
 no_shortage l f chunks cells n many s c free lacks =
-    let all = none_unspent l.bump f.needed lacks.0.few_left lacks.2 in
+    let all = none_unconsumed l.bump f.needed lacks.0.few_left lacks.2 in
     let none = lacks.0.none_free in omega arith
 
-pub none_spent : (chunks passes : ℕ) → spent (unused chunks passes) ≡ 0
-none_spent chunks passes = let n = length-replicate {A = Bool} chunks false in let k = all_free chunks in omega arith
+pub none_consumed : (chunks passes : ℕ) → consumed (unused chunks passes) ≡ 0
+none_consumed chunks passes = let n = length-replicate {A = Bool} chunks false in let k = all_free chunks in omega arith
 
 pub as_many : (old new : Ledger) → IsLedger new → frozen_part new ≡ frozen_part old → (chunks passes : ℕ) → old ≡ unused chunks passes → length new.given ≡ chunks
 as_many old new is same chunks passes e =

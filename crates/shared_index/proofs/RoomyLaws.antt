@@ -9,7 +9,7 @@ use Rattle.trie_model.specs.Shape.{cells}
 use Rattle.chunk_usage.specs.declared.space.Full.{Full as NoRoom}
 use Rattle.trie_model.specs.Capacity.{is_roomy}
 use Rattle.chunk_usage.specs.Counting.{sparse_count}
-use Rattle.chunk_usage.specs.Handing.{Lacks, spent}
+use Rattle.chunk_usage.specs.Handing.{Lacks, consumed}
 use Rattle.chunk_usage.specs.Keeping.{freed, frozen, is_among, kept_versions, narrowed, restored, rows_of}
 use Rattle.chunk_usage.specs.Ledger.{Ledger, Frozen, Row, IsLedger, free_count, is_given, is_used, row_of}
 use Rattle.shared_cells.specs.declared.view.Entry.{Entry as Commit}
@@ -35,10 +35,10 @@ use Rattle.shared_index.specs.Tries.{Grown, Spares, Tried}
 use Rattle.shared_index.specs.Turns.{Agrees, cells_with}
 use Rattle.shared_index.proofs.CapacityLaws.{bounds_part, cramped_draft, cramped_of, done_roomy, each_cramped, each_on, last_cells, last_operations, none_wanting, rows_narrowed, same_part, short_roomy, some_passes}
 use Rattle.shared_index.proofs.CauseLaws.{each_needed}
-use Rattle.shared_index.proofs.GivenLaws.{given_at_rest, given_spent}
+use Rattle.shared_index.proofs.GivenLaws.{given_at_rest, given_consumed}
 use Rattle.shared_index.proofs.GoesLaws.{goes_further, words_go_on}
 use Rattle.shared_index.proofs.SettleLaws.{IsAlike, alike_set, settled_set}
-use Rattle.shared_index.proofs.ShortLaws.{few_spent}
+use Rattle.shared_index.proofs.ShortLaws.{few_consumed}
 use Rattle.shared_index.proofs.ThinLaws.{live_few, live_given, met_few, set_size}
 use Rattle.shared_index.proofs.WorkLaws.{set_stays}
 use Rattle.shared_index.proofs.WordsLaws.{freed_chunks}
@@ -48,13 +48,13 @@ use Rattle.shared_index.proofs.WordsLaws.{freed_chunks}
 pub tried_done : (c : Change) (d : Draft) (w : Known) (n : Ledger) (new : Option ℕ) (operations : List Operation) → Works d → LeadsItem c → Tried c d.root d.seat.place.me.0 d.usage w n (Ok new) → operations ≡ d.log.operations ++ operation_of c ∷ [] → HasRoom d → WorksRoomy n w.seen (length operations)
 tried_done c d w n new operations works leads t log room =
     let on = words_go_on d.seat.place.me.0 w (words_of w.turn) t.same in
-    done_roomy d.usage n d.seat.place.me.0.seen w.seen (length d.log.operations) (length operations) t.spares.grown on.opening on.history (few_spent d c n works leads t.spends) (ap (λ (os : List Operation). length os) log ∙ length-append d.log.operations (operation_of c ∷ [])) room
+    done_roomy d.usage n d.seat.place.me.0.seen w.seen (length d.log.operations) (length operations) t.spares.grown on.opening on.history (few_consumed d c n works leads t.consumes) (ap (λ (os : List Operation). length os) log ∙ length-append d.log.operations (operation_of c ∷ [])) room
 
 -- nothing more is known of what was published
 kept_roomy : (s t : AllSeen) (u : Ledger) (done : ℕ) → t.opening ≡ s.opening → t.history ≡ s.history → WorksRoomy u s done → WorksRoomy u t done
 kept_roomy s t u done opening history r = record {
   rows = each_on u u s t refl refl opening (same_part s t history) (λ c o b few. few) r.rows;
-  spends = each_on u u s t refl refl opening (same_part s t history) (λ c o b few. few) r.spends;
+  consumes = each_on u u s t refl refl opening (same_part s t history) (λ c o b few. few) r.consumes;
 }
 
 pub tried_failed : (c : Change) (d : Draft) (w : Known) (n : Ledger) (x : Unchanged) → Works d → LeadsItem c → Tried c d.root d.seat.place.me.0 d.usage w n (Err x) → HasRoom d → WorksRoomy n w.seen (length d.log.operations)
@@ -63,10 +63,10 @@ tried_failed c d w n unchanged.Refused works leads t room =
     subst (λ (u : Ledger). WorksRoomy u w.seen (length d.log.operations)) (sym (t.denied refl)) (kept_roomy d.seat.place.me.0.seen w.seen d.usage (length d.log.operations) on.opening on.history room)
 tried_failed c d w n (unchanged.Full f) works leads t room =
     let on = words_go_on d.seat.place.me.0 w (words_of w.turn) t.same in
-    short_roomy d.usage n d.seat.place.me.0.seen w.seen (length d.log.operations) f t.spares.grown on.opening on.history (few_spent d c n works leads t.spends) (t.full f refl) room
+    short_roomy d.usage n d.seat.place.me.0.seen w.seen (length d.log.operations) f t.spares.grown on.opening on.history (few_consumed d c n works leads t.consumes) (t.full f refl) room
 
 pub tried_cramped : (c : Change) (d : Draft) (w : Known) (n : Ledger) (f : NoRoom) → Works d → LeadsItem c → Tried c d.root d.seat.place.me.0 d.usage w n (Err (unchanged.Full f)) → HasRoom d → IsCramped d
-tried_cramped c d w n f works leads t room = cramped_draft d (cramped_of d.usage n d.seat.place.me.0.seen (length d.log.operations) f t.spares.grown.wide (few_spent d c n works leads t.spends) (t.full f refl) room)
+tried_cramped c d w n f works leads t room = cramped_draft d (cramped_of d.usage n d.seat.place.me.0.seen (length d.log.operations) f t.spares.grown.wide (few_consumed d c n works leads t.consumes) (t.full f refl) room)
 
 -- ---- the rows that are left
 
@@ -108,7 +108,7 @@ no_fewer {o} {denied} {old} {new} (Err x) h = let e = ap (λ (os : List Operatio
 pub cramped_room : (d e : Draft) → HasRoom d → IsCramped d → KeepsRows d.usage e.usage → GoesOn d.seat.place.me.0 e.seat.place.me.0 → length d.log.operations ≤ length e.log.operations → HasRoom e
 cramped_room d e room cramped keeps on more = record {
   rows = each_kept d.usage e.usage d.seat.place.me.0.seen e.seat.place.me.0.seen keeps on.opening on.history room.rows;
-  spends = each_on d.usage e.usage d.seat.place.me.0.seen e.seat.place.me.0.seen keeps.passes keeps.wide on.opening (same_part d.seat.place.me.0.seen e.seat.place.me.0.seen on.history) (λ c o b none few. absurd (none (omega arith))) (each_cramped d cramped);
+  consumes = each_on d.usage e.usage d.seat.place.me.0.seen e.seat.place.me.0.seen keeps.passes keeps.wide on.opening (same_part d.seat.place.me.0.seen e.seat.place.me.0.seen on.history) (λ c o b none few. absurd (none (omega arith))) (each_cramped d cramped);
 }
 
 -- ---- a working set is made ready for a commit
@@ -116,7 +116,7 @@ cramped_room d e room cramped keeps on more = record {
 pub whole_where : (d e : Draft) (so : Type 0) → HasRoom d → free_count e.usage ≡ 0 → free_count d.usage + 1 ≤ free_count e.usage + (cells (working_set d) / 769 + 1) → WhereRoomy d so
 whole_where d e so room none asks c o b fits roomy =
     let r = subst (λ (p : ℕ). is_roomy p c o (length d.usage.given)) (sym d.agrees.passes) roomy in
-    absurd (none_wanting c o d.usage e.usage (length d.log.operations) (cells (working_set d)) r b.operations (room.spends c o b.some b.history r b.operations) fits none asks)
+    absurd (none_wanting c o d.usage e.usage (length d.log.operations) (cells (working_set d)) r b.operations (room.consumes c o b.some b.history r b.operations) fits none asks)
 
 pub alike_room : {first d : Draft} → IsAlike first d → HasRoom first → HasRoom d
 alike_room {first} {d} e room =
@@ -190,8 +190,8 @@ published_rests cells_now d n count version versions t entry is works after agre
         (All-push (λ (x : Row). row_size x ≤ most_met c) d.usage.rows (record { version = version; chunks = row_of d.usage.live }) (rows c o some before r) (omega arith))
 
 -- version 0 was written to few chunks
-pub first_rests : (u n : Ledger) (es : List Entry) (t : AllSeen) → IsLedger u → u.rows ≡ [] → n ≡ frozen u 0 → spent u ≤ cells es → first_version t ≡ es → RestsRoomy n t
-first_rests u n es t is none after spends first =
+pub first_rests : (u n : Ledger) (es : List Entry) (t : AllSeen) → IsLedger u → u.rows ≡ [] → n ≡ frozen u 0 → consumed u ≤ cells es → first_version t ≡ es → RestsRoomy n t
+first_rests u n es t is none after consumes first =
     subst (λ (l : Ledger). RestsRoomy l t) (sym after) (record {
       rows = λ c o some b roomy. let size = set_size u.live in let g = given_few c o b in
           subst (λ (rows : List Row). RowsAreFew c (rows ++ record { version = 0; chunks = row_of u.live } ∷ [])) (sym none)
@@ -202,5 +202,5 @@ first_rests u n es t is none after spends first =
     given_few : (c o : ℕ) → BoundsHistory c o t → (given_count u ≤ most_met c) × (count_by (nat_lt 0) u.live ≤ most_met c)
     given_few c o b =
         let fits : cells es ≤ c = subst (λ (xs : List Entry). cells xs ≤ c) first (b.versions [] (t.history, refl)) in
-        let a = given_spent u in
+        let a = given_consumed u in
         let l = live_given u.live u.given is.counted is.counts.in_given in (omega arith, omega arith)

@@ -1,4 +1,4 @@
--- How much a call of a transaction spends at most: a key's path has few branches, since their offsets rise, and each has at most 47 twigs.
+-- How much a call of a transaction consumes at most: a key's path has few branches, since their offsets rise, and each has at most 47 twigs.
 use Rattle.std.proofs.Common.{◌≡◌, ℕ, ◌+◌, ◌-◌, ◌*◌, ◌≤◌, ◌==◌, Bool, true, false, if◌then◌else◌, List, Option, Some, None, suc, slice_index, arith, refl}
 use Rattle.packed_node.specs.declared.Cell.{Cell}
 use Rattle.trie_model.specs.Keys.{Entry, at}
@@ -9,7 +9,7 @@ use Rattle.trie_model.proofs.BitmapLaws.{few}
 use Rattle.trie_model.proofs.SplitLaws.{rising_of}
 use Rattle.zone_model.specs.Keys.{Leads}
 use Rattle.trie_read.specs.Reads.{EachTells}
-use Rattle.chunk_usage.specs.Handing.{spent}
+use Rattle.chunk_usage.specs.Handing.{consumed}
 use Rattle.chunk_usage.specs.Ledger.{Ledger, is_used}
 use Rattle.trie_write.specs.Paths.{twigs_on_path, twigs_past}
 use Rattle.trie_write.specs.Roots.{OnPath}
@@ -46,9 +46,9 @@ short_path has used live None key es s tells = (0, refl, omega arith)
 short_path has used live (Some r) key es s tells = (twigs_on_path key s.0, (s.0, es, s.1, tells, refl), (let a = path_short key 0 s.0 s.1.trie.shape in omega arith))
 
 -- no more than 40 chunks hold: 27,803 cells, of which 30,760 could be
-pub few_spent : (d : Draft) (c : Change) (new : Ledger) → Works d → LeadsItem c → ((twigs : ℕ) → PathHas d.seat.place.me.0 d.usage d.root (key_of c) twigs → spent new ≤ spent d.usage + (written_by c + twigs)) → spent new ≤ spent d.usage + 30760
-few_spent d c new works leads spends =
+pub few_consumed : (d : Draft) (c : Change) (new : Ledger) → Works d → LeadsItem c → ((twigs : ℕ) → PathHas d.seat.place.me.0 d.usage d.root (key_of c) twigs → consumed new ≤ consumed d.usage + (written_by c + twigs)) → consumed new ≤ consumed d.usage + 30760
+few_consumed d c new works leads consumes =
     let p = short_path (HasCell (cells_with d.usage d.seat.place.me.0.turn)) (is_used d.usage) (λ k. slice_index d.usage.live k) d.root (key_of c) (working_set d) works.stands works.tells in
-    let a = spends p.0 p.1 in
+    let a = consumes p.0 p.1 in
     let b = few_written c leads in
     let e = p.2 in omega arith

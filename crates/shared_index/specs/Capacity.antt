@@ -2,8 +2,8 @@
 use Rattle.std.specs.Prelude.{ℕ, ◌+◌, ◌-◌, ◌*◌, ◌/◌, ◌≤◌, Bool, List, length, count_by, All, Contains}
 use Rattle.trie_model.specs.Keys.{Entry}
 use Rattle.trie_model.specs.Shape.{cells}
-use Rattle.trie_model.specs.Capacity.{is_roomy}
-use Rattle.chunk_usage.specs.Handing.{spent}
+use Rattle.trie_model.specs.Capacity.{filled_cells, is_roomy}
+use Rattle.chunk_usage.specs.Handing.{consumed}
 use Rattle.chunk_usage.specs.Ledger.{Ledger, Row, free_count}
 use Rattle.shared_cells.specs.declared.view.Entry.{Entry as Commit}
 use Rattle.shared_cells.specs.declared.view.Seen.{Seen}
@@ -49,4 +49,4 @@ pub record RestsRoomy (u : Ledger) (seen : Seen (List Entry) (List Operation)) :
 -- one is, and has done so many operations: of each at most 40 chunks were given
 pub record WorksRoomy (u : Ledger) (seen : Seen (List Entry) (List Operation)) (done : ℕ) : Type 0 where
   pub rows : EachRoomy u seen (λ most_cells _. RowsAreFew most_cells u.rows)
-  pub spends : EachRoomy u seen (λ most_cells most_operations. done ≤ most_operations → spent u ≤ 769 * (most_at_rest u most_cells + 40 * done))
+  pub consumes : EachRoomy u seen (λ most_cells most_operations. done ≤ most_operations → consumed u ≤ filled_cells * (most_at_rest u most_cells + 40 * done))

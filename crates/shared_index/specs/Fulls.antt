@@ -2,6 +2,7 @@
 use Rattle.std.specs.Prelude.{◌≡◌, ◌⊎◌, ℕ, ◌+◌, ◌-◌, ◌*◌, ◌<◌, ◌≤◌, true, false, List, Contains, length, take, slice_index}
 use Rattle.std.specs.List.{sum_by}
 use Rattle.trie_model.specs.Shape.{cells}
+use Rattle.trie_model.specs.Capacity.{filled_cells}
 use Rattle.chunk_usage.specs.declared.space.Full.{Full as NoRoom}
 use Rattle.chunk_usage.specs.Ledger.{Ledger, is_bump, is_given, free_count, reserve_of}
 use Rattle.chunk_usage.specs.Keeping.{is_in_rows, kept_versions}
@@ -35,7 +36,7 @@ full_with f versions = record { needed = f.needed; left = f.left; free = f.free;
 pub record FullCause (after : Ledger) (d : Draft) (key : List ℕ) (written : ℕ) (asks : List ℕ → List ℕ) (f : Full) : Type 0 where
   -- no chunk but the reserve is free
   pub none_free : free_count d.usage ≤ reserve_of d.usage
-  -- the bump chunk of that round, and the chunks that were allocated since: of 769 cells that were written one, at most
+  -- the bump chunk of that round, and the chunks that were allocated since: of `filled_cells` that were written one, at most
   pub opened : List ℕ
   pub opened_here : (k : ℕ) → Contains opened k → (is_bump after.bump k ≡ true) ⊎ ((is_given after k ≡ false) × (is_given d.usage k ≡ true))
   pub path : ℕ
@@ -43,7 +44,7 @@ pub record FullCause (after : Ledger) (d : Draft) (key : List ℕ) (written : �
   pub branches : List ℕ
   pub on_branches : PathHasEach d.seat.place.me.0 d.usage d.root key branches
   pub needed : Contains (asks branches) f.needed
-  pub few_opened : 769 * length opened ≤ 769 + (written + path)
+  pub few_opened : filled_cells * length opened ≤ filled_cells + (written + path)
   -- each other allocated chunk is the one to which a rollback returns, or has a cell of the working set or of a kept version
   pub others_met : (k : ℕ) → is_given d.usage k ≡ true
       → ((is_bump d.usage.fender k ≡ true) ⊎ Contains opened k) ⊎ ((0 < slice_index d.usage.live k) ⊎ (is_in_rows d.usage.rows k ≡ true))

@@ -3,6 +3,7 @@ use Rattle.std.specs.Prelude.{◌≡◌, ℕ, ◌+◌, ◌/◌, ◌≤◌, nat_l
 use Rattle.std.specs.List.{range_with_len}
 use Rattle.trie_model.specs.Keys.{Entry}
 use Rattle.trie_model.specs.Shape.{cells}
+use Rattle.trie_model.specs.Capacity.{filled_cells}
 use Rattle.chunk_usage.specs.Ledger.{Ledger, IsLedger, free_count}
 use Rattle.chunk_usage.specs.Counting.{is_sparse}
 use Rattle.evacuate.specs.declared.evacuation.Done.{Done}
@@ -30,8 +31,8 @@ pub record Moved (root : Option ℕ) (v : Known) (u : Ledger) (w : Known) (n : L
   pub stands : (es : List Entry) → StandsFor v u root es → StandsFor w n new es
   pub same : w ≡ with_words v (words_of w.turn)
   pub evacuates : Evacuates u n done
-  -- a chunk was asked for, or taken, for each 769 cells at most, and one more
-  pub asks : (es : List Entry) → StandsFor v u root es → free_count u + refused done ≤ free_count n + (cells es / 769 + 1)
+  -- a chunk was asked for, or taken, for each `filled_cells` at most, and one more
+  pub asks : (es : List Entry) → StandsFor v u root es → free_count u + refused done ≤ free_count n + (cells es / filled_cells + 1)
 
 -- cells of the chunk count, but few of them do
 abbrev pub is_thin : Ledger → ℕ → Bool

@@ -2,8 +2,9 @@
 use Rattle.std.specs.Prelude.{◌≡◌, ◌⊎◌, ℕ, ◌-◌, ◌*◌, ◌/◌, ◌^◌, ◌<◌, ◌≤◌, List, [], length, Option, slice_index}
 use Rattle.trie_model.specs.Keys.{Entry}
 use Rattle.trie_model.specs.Shape.{cells}
+use Rattle.trie_model.specs.Capacity.{filled_cells}
 use Rattle.chunk_usage.specs.Ledger.{Ledger}
-use Rattle.chunk_usage.specs.Handing.{spent}
+use Rattle.chunk_usage.specs.Handing.{consumed}
 use Rattle.shared_cells.specs.declared.view.TurnView.{TurnView}
 use Rattle.shared_cells.specs.Cells.{cells_of, given_chunks, kept_references}
 use Rattle.shared_index.specs.declared.opening.OpenRefusal.{OpenRefusal}
@@ -15,14 +16,14 @@ pub record IsUnused (t : Option TurnView) (u : Ledger) (passes : ℕ) : Type 0 w
   pub given : given_chunks (cells_of (length u.given) t) ≡ u.given
   pub none_kept : kept_references (cells_of (length u.given) t) ≡ []
   pub uncounted : (k : ℕ) → slice_index u.live k ≡ 0
-  pub none_spent : spent u ≡ 0
+  pub none_consumed : consumed u ≡ 0
   pub no_rows : u.rows ≡ []
   pub passes_are : u.passes ≡ passes
 
 -- How many cells are sure to find room. A quarter of the chunks is kept free, and one more may be left unfilled. Of each
--- other chunk at least 769 cells are filled before the next one is begun, for no cells that lie together are more than 256.
+-- other chunk at least `filled_cells` are filled before the next one is begun, for no cells that lie together are more than 256.
 abbrev pub room_in : ℕ → ℕ
-room_in chunks = 769 * (chunks - chunks / 4 - 1)
+room_in chunks = filled_cells * (chunks - chunks / 4 - 1)
 
 -- The trie may not fit, and both numbers are told; or it fits, and memory is wanting, or there are more entries than memory holds.
 abbrev pub Refuses : ℕ → List Entry → OpenRefusal → Type 0

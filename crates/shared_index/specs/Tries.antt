@@ -3,7 +3,7 @@ use Rattle.std.specs.Prelude.{◌≡◌, ◌↔◌, ◌⊎◌, ℕ, ◌+◌, ◌
 use Rattle.trie_model.specs.Keys.{Entry}
 use Rattle.chunk_usage.specs.declared.space.Full.{Full as NoRoom}
 use Rattle.chunk_usage.specs.Ledger.{Ledger, is_bump, is_used, is_given, frozen_part, reserved}
-use Rattle.chunk_usage.specs.Handing.{Lacks, spent}
+use Rattle.chunk_usage.specs.Handing.{Lacks, consumed}
 use Rattle.trie_write.specs.Roots.{OnPath, OnBranches}
 use Rattle.shared_cells.specs.Views.{words_of}
 use Rattle.shared_cells.specs.Cells.{HasCell, with_words}
@@ -52,4 +52,4 @@ pub record Tried (c : Change) (root : Option ℕ) (v : Known) (u : Ledger) (w : 
   pub counts : IfErr r (λ _. (k : ℕ) → slice_index n.live k ≡ slice_index u.live k)
   pub path : IfErr r (λ _. (twigs : ℕ) → PathHas v u root (key_of c) twigs → PathHas w n root (key_of c) twigs)
   pub branches : IfErr r (λ _. (branches : List ℕ) → PathHasEach v u root (key_of c) branches → PathHasEach w n root (key_of c) branches)
-  pub spends : (twigs : ℕ) → PathHas v u root (key_of c) twigs → spent n ≤ spent u + (written_by c + twigs)
+  pub consumes : (twigs : ℕ) → PathHas v u root (key_of c) twigs → consumed n ≤ consumed u + (written_by c + twigs)

@@ -3,7 +3,7 @@
 //! Nothing else in this crate names those calls.
 ghost use Rattle.std.specs.Prelude.{◌≡◌, ◌↔◌, ◌+◌, ◌≤◌, ℕ, List, Contains, IfOk, IfErr, Err};
 ghost use Rattle.trie_model.specs.Keys.{Entry};
-ghost use Rattle.chunk_usage.specs.Handing.{Lacks, spent};
+ghost use Rattle.chunk_usage.specs.Handing.{Lacks, consumed};
 ghost use Rattle.chunk_usage.specs.Rooms.{account_of};
 ghost use Rattle.trie_write.specs.Roots.{TwigsOnPath, BranchesOnPath};
 ghost use Rattle.trie_space.specs.Spaces.{Ready, Fenced, Unchanged as Same};
@@ -44,8 +44,8 @@ pub(crate) fn change_trie<C: CellWrite>(
     ensures full { (f : _) → result ≡ Err (Unchanged.Full f) → Lacks usage.new f }
     ensures asked { (f : _) → result ≡ Err (Unchanged.Full f) → (branches : List ℕ)
         → BranchesOnPath C.has account_of cells.old usage.old root (key_of change.now) branches → Contains (asked_by change.now branches) f.needed }
-    ensures spends { (n : ℕ) → TwigsOnPath C.has account_of cells.old usage.old root (key_of change.now) n
-        → spent usage.new ≤ spent usage.old + (written_by change.now + n) }
+    ensures consumes { (n : ℕ) → TwigsOnPath C.has account_of cells.old usage.old root (key_of change.now) n
+        → consumed usage.new ≤ consumed usage.old + (written_by change.now + n) }
     ensures frame { Fenced C.has C.kept C.given account_of cells.old usage.old cells.new usage.new }
     ensures ready { Ready C.kept C.given account_of cells.new usage.new }
 {

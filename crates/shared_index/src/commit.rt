@@ -8,10 +8,10 @@ ghost use Rattle.shared_index.specs.Meanings.{IsVersion};
 ghost use Rattle.shared_index.specs.Passes.{first_version};
 
 use crate::desk::{Desk, Draft};
+use crate::freeing::free_unreached;
+use crate::keeping::make_round;
 use crate::log::Log;
 use crate::meaning::{Law, Meaning, Operations, Version};
-use crate::recycling::free_unreached;
-use crate::rounds::make_round;
 use chunk_usage::Usage;
 use evacuate::Done;
 use packed_node::Ref;

@@ -10,9 +10,9 @@ ghost use Rattle.shared_index.specs.Capacity.{RestsRoomy};
 ghost use Rattle.trie_model.specs.Keys.{Entry};
 ghost use Rattle.chunk_usage.specs.Keeping.{closed, freed, restored};
 
+use crate::freeing::free_unreached;
 use crate::log::Log;
 use crate::meaning::{Law, Meaning, Operations, Version};
-use crate::recycling::free_unreached;
 use chunk_usage::Usage;
 use packed_node::Ref;
 use shared_cells::{JoinedSeat, PassSeat, Shared, TurnSeat};

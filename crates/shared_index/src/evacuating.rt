@@ -39,6 +39,7 @@ fn evacuate<L: Law, B: Lent<Version, Operations>>(
 }
 
 impl Draft {
+    ghost use Rattle.trie_model.specs.Capacity.{filled_cells};
     ghost use Rattle.trie_model.specs.Shape.{cells};
     ghost use Rattle.chunk_usage.specs.Ledger.{free_count};
     ghost use Rattle.evacuate.specs.Evacuations.{refused};
@@ -60,7 +61,7 @@ impl Draft {
         ensures works { Works result.0 }
         ensures log { result.0.log.operations ≡ self.log.operations }
         ensures evacuates { Evacuates self.usage result.0.usage result.1 }
-        ensures asks { free_count self.usage + refused result.1 ≤ free_count result.0.usage + (cells (working_set self) / 769 + 1) }
+        ensures asks { free_count self.usage + refused result.1 ≤ free_count result.0.usage + (cells (working_set self) / filled_cells + 1) }
     {
         let Draft {
             seat,

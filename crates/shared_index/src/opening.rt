@@ -5,7 +5,7 @@ ghost use Rattle.std.proofs.Props.{props};
 ghost use Rattle.trie_model.specs.Keys.{Rises};
 ghost use Rattle.trie_model.specs.Shape.{cells as cells_in_trie};
 ghost use Rattle.chunk_usage.specs.Ledger.{frozen_part};
-ghost use Rattle.chunk_usage.specs.Handing.{Lacks, spent};
+ghost use Rattle.chunk_usage.specs.Handing.{Lacks, consumed};
 ghost use Rattle.trie_write.specs.Entries.{entries_of_items};
 ghost use Rattle.shared_cells.specs.Views.{number_of, words_of};
 ghost use Rattle.shared_cells.specs.Cells.{given_chunks, with_words};
@@ -23,6 +23,7 @@ use crate::index::{Index, Turn};
 use crate::meaning::{Law, Meaning, Named, Operations, Version};
 use crate::pass::Pass;
 use chunk_usage::Usage;
+use chunk_usage::capacity::FILLED_CELLS;
 use packed_node::Ref;
 use shared_cells::{Lent, NewPassSeat, NewTurnSeat, Opening, Shared, TurnSeat};
 use std::alloc::{AllocError, Global};
@@ -82,13 +83,12 @@ impl<L: Law> Blank<L> {
     }
 }
 
-/// How many cells are sure to find room.
-fn room_in(chunks: u32) -> u64
-    requires enough { 16 ≤ chunks }
-    requires few { chunks ≤ 4096 }
+/// How many cells are sure to find room in so many chunks.
+pub fn room_in(chunks: u32) -> u64
+    requires some { 1 ≤ chunks }
     ensures { result ≡ room_in chunks }
 {
-    769 * u64::from(chunks - chunks / 4 - 1)
+    FILLED_CELLS * u64::from(chunks - chunks / 4 - 1)
 }
 
 /// Writes a trie of the items into cells whose seat is named.
@@ -112,7 +112,7 @@ fn fill<L: Law, B: Lent<Version, Operations>>(
     ensures frozen { frozen_part usage.new ≡ frozen_part usage.old }
     ensures given { given_chunks (cells_with usage.new result.0.place.me.0.turn) ≡ usage.new.given }
     ensures stands { IfOk result.1 (λ root. StandsFor result.0.place.me.0 usage.new root (entries_of_items items.now)) }
-    ensures spends { spent usage.new ≤ cells_in_trie (entries_of_items items.now) }
+    ensures consumes { consumed usage.new ≤ cells_in_trie (entries_of_items items.now) }
     ensures full { IfErr result.1 (λ f. Lacks usage.new f) }
 {
     usage.known(); // for the proof

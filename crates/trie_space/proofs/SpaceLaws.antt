@@ -129,8 +129,8 @@ module _ {S A : Type 0} {kept : S → List ℕ} {given : S → List Bool} {accou
   }
 
   -- so may a cell in use that is mutable
-  pub seat_open : {s : S} {a : A} {q : ℕ} → IsWritable given account s a q → Ready kept given account s a → Contains (kept s) q → ⊥
-  seat_open {q = q} w r k = true≢false (sym w.mutable ∙ r.settled q k)
+  pub slot_open : {s : S} {a : A} {q : ℕ} → IsWritable given account s a q → Ready kept given account s a → Contains (kept s) q → ⊥
+  slot_open {q = q} w r k = true≢false (sym w.mutable ∙ r.settled q k)
 
 module _ {S : Type 0} {kept : S → List ℕ} {given : S → List Bool} where
   -- some of them
@@ -218,7 +218,7 @@ module _ {S A : Type 0} {has : S → ℕ → Cell → Type 0} {kept : S → List
   }
 
   -- a mutable cell is written
-  pub fenced_put : {s s1 s2 : S} {a a1 : A} {seat : ℕ} → Fenced has kept given account s a s1 a1 → (account a1).mutable seat ≡ true → ((q : ℕ) (c : Cell) → (q ≡ seat → ⊥) → has s1 q c → has s2 q c) → given s2 ≡ given s1 → kept s2 ≡ kept s1 → Fenced has kept given account s a s2 a1
+  pub fenced_put : {s s1 s2 : S} {a a1 : A} {slot : ℕ} → Fenced has kept given account s a s1 a1 → (account a1).mutable slot ≡ true → ((q : ℕ) (c : Cell) → (q ≡ slot → ⊥) → has s1 q c → has s2 q c) → given s2 ≡ given s1 → kept s2 ≡ kept s1 → Fenced has kept given account s a s2 a1
   fenced_put {a1 = a1} f mutable others same_given same_kept = record {
     frozen = λ q c m h. others q c (λ e. true≢false (sym (ap (account a1).mutable e ∙ mutable) ∙ m)) (f.frozen q c m h);
     keeps = same_kept ∙ f.keeps;

@@ -38,8 +38,8 @@ clear_above b p l = let e : b ≡ 0 * 2 ^ p + b = omega arith in ap (λ (n : ℕ
 
 -- a leaf
 pub leaf_built : {has : ℕ → Cell → Type 0} {old new : Account} {l : Leaf} {x : Extents} {cell : Cell} (e : Entry) → IsEntry e → l.len ≡ length e.item → l.at ≡ place_of x → HandedItem old new (length e.item) x → ((q : ℕ) → old.used q ≡ true → new.used q ≡ true) →
-    new.spent ≤ old.spent + cells_in e.item → ItemLies has x e.item → cell ≡ packed (node.Leaf l) → Built has old new (leaf e x) cell
-leaf_built {l = l} {x} e is len at_first handed stays spends lies made = record {
+    new.consumed ≤ old.consumed + cells_in e.item → ItemLies has x e.item → cell ≡ packed (node.Leaf l) → Built has old new (leaf e x) cell
+leaf_built {l = l} {x} e is len at_first handed stays consumes lies made = record {
   is = made ∙ ap (λ (n : ℕ). packed (node.Leaf (record { len = n; at = l.at }))) len ∙ ap (λ (n : ℕ). packed (node.Leaf (record { len = length e.item; at = n }))) at_first;
   beneath = lies;
   counts = handed.counts;
@@ -55,7 +55,7 @@ leaf_node {l = l} x e is len at_first room =
 pub stopped_lower : {old new : Account} {low far : ℕ} {es : List Entry} → Stopped old new far es → low ≤ far → Stopped old new low es
 stopped_lower {low = low} {far = far} s l = record { t = s.t; rest = s.rest; shape = tree_lower low far s.t l s.shape; whole = s.whole; cost = s.cost }
 
-pub leaf_stopped : {old new : Account} {low : ℕ} {es : List Entry} (e : Entry) (rest : List Entry) → IsEntry e → es ≡ e ∷ rest → new.spent < old.spent + cells (e ∷ []) → Stopped old new low es
+pub leaf_stopped : {old new : Account} {low : ℕ} {es : List Entry} (e : Entry) (rest : List Entry) → IsEntry e → es ≡ e ∷ rest → new.consumed < old.consumed + cells (e ∷ []) → Stopped old new low es
 leaf_stopped e rest is whole l = let there = laid (length e.item) in record { t = leaf e there.extents; rest = rest; shape = (is, there.are); whole = whole; cost = l }
 
 pub built_lower : {has : ℕ → Cell → Type 0} {old new : Account} {low far : ℕ} {es rest : List Entry} {next : Option BranchPoint} {cell : Cell} → BuiltFront has old new far es rest next cell → low ≤ far → Before low next → BuiltFront has old new low es rest next cell
@@ -74,7 +74,7 @@ pub record Making (has : ℕ → Cell → Type 0) (base now : Account) (o : ℕ)
   pub counts : (k : ℕ) → now.live k ≡ base.live k + under (in_chunk k) made
   pub fresh : (q : ℕ) → under (at_place q) made + mark base.used q ≤ mark now.used q
   -- each twig's own cell is still to come
-  pub cost : now.spent + count made ≤ base.spent + twig_sizes made
+  pub cost : now.consumed + count made ≤ base.consumed + twig_sizes made
 
 pub making_as : {has : ℕ → Cell → Type 0} {base now : Account} {o : ℕ} {es rest : List Entry} {next next_new : Option BranchPoint} {bits bits_new : ℕ} {cs cs_new : List Cell} → next_new ≡ next → bits_new ≡ bits → cs_new ≡ cs → Making has base now o es rest next bits cs → Making has base now o es rest next_new bits_new cs_new
 making_as {has} {base} {now} {o} {es} {rest} {next} {next_new} {bits} {bits_new} {cs} {cs_new} n b c m =
@@ -136,7 +136,7 @@ module _ {has : ℕ → Cell → Type 0} {base now : Account} {o : ℕ} {es rest
       shape : IsTree o (branch o 0 more)
       shape = (omega arith, m.so_far.early, short_row (count more) (let n = twigs_few o more j.twigs in omega arith), j.two, j.agree, j.twigs)
 
-      cost : new.spent < base.spent + cells (entries more)
+      cost : new.consumed < base.consumed + cells (entries more)
       cost =
           let a = m.cost in let b = s.cost in let c = size_is (suc o) s.t s.shape in let d = size_is o (branch o 0 more) shape in
           let e = size_branch o 0 more in let f = twig_sizes-beside m.made (twig point.after s.t none) in omega arith
@@ -152,21 +152,21 @@ module _ {has : ℕ → Cell → Type 0} {base now : Account} {o : ℕ} {es rest
   closed : (w : ℕ) → IsRow w (length cs) → Front o es rest next (branch o w m.made)
   closed w is = open_close m.so_far short w (subst (IsRow w) row_length is)
 
-  cost_of : (w : ℕ) → IsRow w (length cs) → (spent : ℕ) → spent ≤ now.spent + length cs → spent < base.spent + cells (entries m.made)
-  cost_of w is spent l = let a = m.cost in let b = row_length in let c = size_is o (branch o w m.made) (closed w is).shape in let d = size_branch o w m.made in omega arith
+  cost_of : (w : ℕ) → IsRow w (length cs) → (consumed : ℕ) → consumed ≤ now.consumed + length cs → consumed < base.consumed + cells (entries m.made)
+  cost_of w is consumed l = let a = m.cost in let b = row_length in let c = size_is o (branch o w m.made) (closed w is).shape in let d = size_branch o w m.made in omega arith
 
-  pub stopped_here : {new : Account} → new.spent ≤ now.spent + length cs → Stopped base new o es
+  pub stopped_here : {new : Account} → new.consumed ≤ now.consumed + length cs → Stopped base new o es
   stopped_here {new} l =
       let is = short_row (length cs) (let n = twigs_few o m.made m.so_far.twigs in let a = row_length in omega arith) in
-      record { t = branch o 0 m.made; rest = rest; shape = (closed 0 is).shape; whole = m.so_far.whole; cost = cost_of 0 is new.spent l }
+      record { t = branch o 0 m.made; rest = rest; shape = (closed 0 is).shape; whole = m.so_far.whole; cost = cost_of 0 is new.consumed l }
 
   module _ {new : Account} {w : ℕ} (handed : Handed now new w (length cs)) where
     pub branch_node : IsNode (node.Branch (record { offset = o; bitmap = bits; twigs = w }))
     branch_node = subst (λ (b : ℕ). IsNode (node.Branch (record { offset = o; bitmap = b; twigs = w }))) (sym m.bits_are) (is_node o (branch o w m.made) (closed w handed.twigs).shape)
 
     pub branch_built : {has_new : ℕ → Cell → Type 0} {cell : Cell} → Keeps now.used has has_new → ((q : ℕ) → now.used q ≡ true → new.used q ≡ true) → ((i : ℕ) (c : Cell) → slice_get cs i ≡ Some c → has_new (w + i) c) →
-        new.spent ≤ now.spent + length cs → cell ≡ packed (node.Branch (record { offset = o; bitmap = bits; twigs = w })) → BuiltFront has_new base new o es rest next cell
-    branch_built {has_new} {cell} keep stays written spends is = (
+        new.consumed ≤ now.consumed + length cs → cell ≡ packed (node.Branch (record { offset = o; bitmap = bits; twigs = w })) → BuiltFront has_new base new o es rest next cell
+    branch_built {has_new} {cell} keep stays written consumes is = (
       branch o w m.made,
       closed w handed.twigs,
       record {
@@ -175,7 +175,7 @@ module _ {has : ℕ → Cell → Type 0} {base now : Account} {o : ℕ} {es rest
             (all_kept now.used has has_new keep m.made (all_within_met now.used m.made (λ q l. mark_tells now.used q (let f = m.fresh q in omega arith))) m.beneath);
         counts = λ k. let a = m.counts k in let b = handed.counts k in let c = weigh_is (in_chunk k) w m.made in let d = ap (row (in_chunk k) w) row_length in omega arith;
         fresh = λ q. let a = m.fresh q in let b = handed_fresh handed stays q in let c = weigh_is (at_place q) w m.made in let d = ap (row (at_place q) w) row_length in omega arith;
-        cost = cost_of w handed.twigs new.spent spends;
+        cost = cost_of w handed.twigs new.consumed consumes;
       },
     )
 
@@ -200,12 +200,12 @@ root_stands {has} {has_new} {old} {now} {new} {cell = cell} {r = r} uncounted (t
 )
 
 -- what was asked for is no more than all need
-pub root_cost : {has : ℕ → Cell → Type 0} {old new : Account} {es rest : List Entry} {next : Option BranchPoint} {cell : Cell} → BuiltFront has old new 0 es rest next cell → new.spent < old.spent + cells es
+pub root_cost : {has : ℕ → Cell → Type 0} {old new : Account} {es rest : List Entry} {next : Option BranchPoint} {cell : Cell} → BuiltFront has old new 0 es rest next cell → new.consumed < old.consumed + cells es
 root_cost (t, f, b) = let a = b.cost in let c = ap cells (nothing_left f) in omega arith
 
 later_entries : (xs ys : List Entry) → EachIsEntry (xs ++ ys) → EachIsEntry ys
 later_entries [] ys each = each
 later_entries (x ∷ xs) ys each = later_entries xs ys each.1
 
-pub stopped_cost : {old new : Account} {es : List Entry} → EachIsEntry es → Rises es → Stopped old new 0 es → new.spent < old.spent + cells es
+pub stopped_cost : {old new : Account} {es : List Entry} → EachIsEntry es → Rises es → Stopped old new 0 es → new.consumed < old.consumed + cells es
 stopped_cost {es = es} each rises s = let a = s.cost in let b = fewer_cells 0 s.t s.rest es s.shape s.whole (later_entries (entries_of s.t) s.rest (subst EachIsEntry s.whole each)) rises in omega arith

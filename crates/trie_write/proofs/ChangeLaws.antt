@@ -16,7 +16,7 @@ use Rattle.chunk_usage.specs.Rooms.{Account}
 use Rattle.std.proofs.lemmas.Bool.{cases_lt}
 use Rattle.trie_write.specs.declared.change.Change.{Change}
 use Rattle.trie_space.specs.Rooted.{Rooted, no_spare}
-use Rattle.trie_write.specs.Mutable.{IsSeat}
+use Rattle.trie_write.specs.Mutable.{IsSlot}
 use Rattle.trie_write.specs.Puts.{taken, left, Makes, IsTaken, PutAsks, IsPut, GivenBack}
 use Rattle.trie_space.proofs.WayLaws.{beneath_met, Follows, low_at, plug_tree, weigh_plug, before, after, entries_plug}
 use Rattle.chunk_usage.specs.declared.space.Full.{Full}
@@ -38,14 +38,14 @@ module _ {S A : Type 0} {has : S → ℕ → Cell → Type 0} {account : A → A
     once = λ q. let o = h.once q in let m = taken_is.fresh q in omega arith;
   }
 
--- ---- at the seat
+-- ---- at the slot
 
-module _ {S A : Type 0} {has : S → ℕ → Cell → Type 0} {given : S → List Bool} {account : A → Account} {s s1 : S} {a a1 : A} {place r root seat : ℕ} {key : List ℕ} {c : Change} {way : List Fork} {end u : Tree} (asks : PutAsks has account s a place key r c way end u) (opened : IsSeat has given account s a s1 a1 place key (taken c) r way end root seat) where
+module _ {S A : Type 0} {has : S → ℕ → Cell → Type 0} {given : S → List Bool} {account : A → Account} {s s1 : S} {a a1 : A} {place r root slot : ℕ} {key : List ℕ} {c : Change} {way : List Fork} {end u : Tree} (asks : PutAsks has account s a place key r c way end u) (opened : IsSlot has given account s a s1 a1 place key (taken c) r way end root slot) where
   -- what the new tree meets is spare, or met by the old one below its top; so it stays while the way is opened
   beneath_opened : Beneath (has s1) u
   beneath_opened = beneath_met (has s) (has s1) u (λ q x m h. elim (cases_lt 0 (weigh_tree (at_place q) end)) [
     | inl l ↦ opened.below q x l h
-    | inr l ↦ (let w = asks.makes.weigh (at_place q) in let o = asks.seat.rooted.once q in
+    | inr l ↦ (let w = asks.makes.weigh (at_place q) in let o = asks.slot.rooted.once q in
         opened.outside q x (mark_tells (account a).used q (omega arith)) (let k = mark_le (account a).used q in omega arith) h)
   ]) asks.makes.beneath
 
@@ -53,7 +53,7 @@ module _ {S A : Type 0} {has : S → ℕ → Cell → Type 0} {given : S → Lis
   pub left_counted : (k : ℕ) → left c (in_chunk k) ≤ (account a1).live k
   left_counted k = let x = opened.rooted.counted k in let w = asks.makes.weigh (in_chunk k) in let p = weigh_plug (in_chunk k) root opened.copy end in omega arith
 
-  pub put_is : {s2 : S} {a2 : A} → has s2 seat c.cell → ((q : ℕ) (x : Cell) → (q ≡ seat → ⊥) → has s1 q x → has s2 q x) → ((k : ℕ) → (account a2).live k + left c (in_chunk k) ≡ (account a1).live k) → account a2 ≡ record (account a1) { live = (account a2).live } →
+  pub put_is : {s2 : S} {a2 : A} → has s2 slot c.cell → ((q : ℕ) (x : Cell) → (q ≡ slot → ⊥) → has s1 q x → has s2 q x) → ((k : ℕ) → (account a2).live k + left c (in_chunk k) ≡ (account a1).live k) → account a2 ≡ record (account a1) { live = (account a2).live } →
       IsPut has account s2 a2 place key way end u root
   put_is {s2} {a2} put others released rest = record {
     copy = opened.copy;
@@ -63,22 +63,22 @@ module _ {S A : Type 0} {has : S → ℕ → Cell → Type 0} {given : S → Lis
     rooted = put_rooted opened.copy end u opened.rooted (λ q x used h. h) beneath_opened
         (λ k. let x = asks.makes.weigh (in_chunk k) in let y = released k in omega arith)
         (λ q. let x = asks.makes.weigh (at_place q) in let y = mark_grows (account a1).used (account a2).used q (λ h. ap (λ (v : Account). v.used q) rest ∙ h) in omega arith)
-        asks.makes.is (subst (λ q. has s2 q c.cell) opened.seat_is put) (λ q x ne. others q x (λ e. ne (e ∙ opened.seat_is)));
+        asks.makes.is (subst (λ q. has s2 q c.cell) opened.slot_is put) (λ q x ne. others q x (λ e. ne (e ∙ opened.slot_is)));
   }
 
-  pub outside_opened : {s2 : S} → ((q : ℕ) (x : Cell) → (q ≡ seat → ⊥) → has s1 q x → has s2 q x) → (q : ℕ) (x : Cell) → (account a).used q ≡ true → at_place q r + weigh_tree (at_place q) (plug way end) ≡ 0 → has s q x → has s2 q x
+  pub outside_opened : {s2 : S} → ((q : ℕ) (x : Cell) → (q ≡ slot → ⊥) → has s1 q x → has s2 q x) → (q : ℕ) (x : Cell) → (account a).used q ≡ true → at_place q r + weigh_tree (at_place q) (plug way end) ≡ 0 → has s q x → has s2 q x
   outside_opened others q x used out h = others q x (opened.apart q used out) (opened.outside q x used out h)
 
 -- the cells that were taken count
 pub taken_counted : {S A : Type 0} {has : S → ℕ → Cell → Type 0} {account : A → Account} {s : S} {a : A} {place r : ℕ} {key : List ℕ} {c : Change} {way : List Fork} {end u : Tree} (a1 : A) → PutAsks has account s a place key r c way end u → ((k : ℕ) → (account a1).live k ≡ (account a).live k) → (k : ℕ) → taken c (in_chunk k) ≤ (account a1).live k
-taken_counted a1 asks same k = let x = asks.seat.rooted.counted k in let y = same k in omega arith
+taken_counted a1 asks same k = let x = asks.slot.rooted.counted k in let y = same k in omega arith
 
 -- ---- a change that is prepared below a root that stands
 
 module _ {S A : Type 0} {has : S → ℕ → Cell → Type 0} {account : A → Account} {s : S} {a : A} {r : ℕ} {t : Tree} {version : List Entry} (stands : StandsIn (has s) (account a).used (account a).live r t version) (way : List Fork) (end : Tree) (is : t ≡ plug way end) where
   pub put_asks : {kept : S → List ℕ} {given : S → List Bool} {s1 : S} {a1 : A} {place : ℕ} {key : List ℕ} {c : Change} {u : Tree} → IsWay place key way end → Frame has kept given account s a s1 a1 → IsTaken (account a) (account a1) c → Makes has s1 c end u → PutAsks has account s1 a1 place key r c way end u
   put_asks {s1 = s1} {a1} {c = c} w f taken_is makes = record {
-    seat = record {
+    slot = record {
       tree = subst (IsTree 0) is stands.trie.shape;
       rooted = subst (Rooted has account s1 a1 (taken c) r) is (rooted_taken (stands_rooted has account s a stands) f taken_is);
       is_way = w;

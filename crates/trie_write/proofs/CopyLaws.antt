@@ -104,10 +104,10 @@ same_asks {has = has} {account} {a = a} {place} {low} {key} {cell} {way} {end} s
 
 -- ---- its twigs are copied
 
-module _ {S A : Type 0} {has : S → ℕ → Cell → Type 0} {kept : S → List ℕ} {given : S → List Bool} {account : A → Account} {s s1 s2 s3 : S} {a a1 a2 a3 : A} {place low to index seat : ℕ} {key : List ℕ} {cell next : Cell} {way : List Fork} {end : Tree} {b : Branch}
+module _ {S A : Type 0} {has : S → ℕ → Cell → Type 0} {kept : S → List ℕ} {given : S → List Bool} {account : A → Account} {s s1 s2 s3 : S} {a a1 a2 a3 : A} {place low to index slot : ℕ} {key : List ℕ} {cell next : Cell} {way : List Fork} {end : Tree} {b : Branch}
     (asks : WayAsks has account s a place low key cell way end) (t : Through b way end) (i_is : index ≡ count t.left)
     (handed : Handed (account a) (account a1) to (count_ones b.bitmap)) (may : MayWrite kept given s1 to (count_ones b.bitmap)) (f : Frame has kept given account s a s1 a1) (g : Frame has kept given account s1 a1 s2 a2)
-    (deep : IsCopied has given account a1 s2 a2 place (b.offset + 1) key (to + index) t.rest end next seat)
+    (deep : IsCopied has given account a1 s2 a2 place (b.offset + 1) key (to + index) t.rest end next slot)
     (copies : (i : ℕ) (c : Cell) → i < count_ones b.bitmap → (i ≡ index → ⊥) → has s2 (b.twigs + i) c → has s3 (to + i) c) (put : has s3 (to + index) next) (wrote : Wrote has kept given s2 s3 to (count_ones b.bitmap))
     (released : (k : ℕ) → (account a3).live k + row (in_chunk k) b.twigs (count_ones b.bitmap) ≡ (account a2).live k) (rest : account a3 ≡ record (account a2) { live = (account a3).live }) where
   abbrev new_below : Tree
@@ -158,7 +158,7 @@ module _ {S A : Type 0} {has : S → ℕ → Cell → Type 0} {kept : S → List
       let u = under-beside w t.left (twig t.position new_below t.right) in
       let r = ap (row w to) (fork_count new_fork new_below ∙ sym (n_here asks t)) in omega arith
 
-  pub copied_step : (at_new : ℕ) → IsCopied has given account a s3 a3 place low key at_new way end (branch_cell (record b { twigs = to })) seat
+  pub copied_step : (at_new : ℕ) → IsCopied has given account a s3 a3 place low key at_new way end (branch_cell (record b { twigs = to })) slot
   copied_step at_new = record {
     copy = new_fork ∷ deep.copy;
     shape = fork_tree low to (branch_here asks t) (plug t.rest end) new_below (known asks.hangs.top asks.is_way t) lies_here (let m : b.offset + 1 ≡ suc b.offset = omega arith in subst (λ (x : ℕ). IsTree x new_below) m deep.shape)
@@ -167,16 +167,16 @@ module _ {S A : Type 0} {has : S → ℕ → Cell → Type 0} {kept : S → List
     along = (let l = (subst (Along place key) t.is asks.is_way.along) in (l.0, l.1, deep.along));
     is = ap (λ (x : ℕ). branch_cell (record { offset = b.offset; bitmap = x; twigs = to })) (t.bits ∙ fork_bits (branch_here asks t) (plug t.rest end) new_below);
     beneath = lies_new;
-    seat_is = deep.seat_is ∙ ap (λ (i : ℕ). end_at (to + i) deep.copy) i_is;
+    slot_is = deep.slot_is ∙ ap (λ (i : ℕ). end_at (to + i) deep.copy) i_is;
     writable = λ w. let l : index < count_ones b.bitmap = let e = n_here asks t in omega arith in
         let v = deep.writable (record {
           in_use = g.grows.stays (to + index) (handed.taken index l);
           mutable = g.grows.fresher (to + index) (handed.writable index l);
           in_given = g.given_stays ((to + index) / 1024) (may.in_given index l);
         }) in record {
-          in_use = ap (λ (z : Account). z.used seat) rest ∙ v.in_use;
-          mutable = ap (λ (z : Account). z.mutable seat) rest ∙ v.mutable;
-          in_given = subst (λ (x : List Bool). IsGiven x (seat / 1024)) (sym wrote.same_given) v.in_given;
+          in_use = ap (λ (z : Account). z.used slot) rest ∙ v.in_use;
+          mutable = ap (λ (z : Account). z.mutable slot) rest ∙ v.mutable;
+          in_given = subst (λ (x : List Bool). IsGiven x (slot / 1024)) (sym wrote.same_given) v.in_given;
         };
     counts = λ k. let x = handed.counts k in let y = deep.counts k in let z = released k in let u = weighs_old (in_chunk k) in let v = weighs_new (in_chunk k) in omega arith;
     met = λ q. let x = handed_fresh handed f.grows.stays q in let y = deep.met q in let u = weighs_old (at_place q) in let v = weighs_new (at_place q) in
@@ -188,5 +188,5 @@ pub copied_none : {S A : Type 0} {has : S → ℕ → Cell → Type 0} {given : 
 copied_none {has = has} {given} {account} {s} {a} {place} {low} {at_new} {key} {cell} {end = end} asks is =
     subst (λ (w : List Fork). IsCopied has given account a s a place low key at_new w end cell at_new) (sym is) (
     let h : IsTop (has s) low cell end = subst (λ (w : List Fork). IsTop (has s) low cell (plug w end)) is asks.hangs.top in
-    record { copy = []; shape = h.tree; entries = refl; along = tt; is = h.is; beneath = h.beneath; seat_is = refl; writable = λ w. w; counts = λ k. refl; met = λ q. omega arith }
+    record { copy = []; shape = h.tree; entries = refl; along = tt; is = h.is; beneath = h.beneath; slot_is = refl; writable = λ w. w; counts = λ k. refl; met = λ q. omega arith }
     )

@@ -11,7 +11,7 @@ pub mod TopLaws
 pub mod KeyLaws
 pub mod CopyLaws
 pub mod DescentLaws
-pub mod SeatLaws
+pub mod SlotLaws
 pub mod PathLaws
 pub mod AskLaws
 pub mod ChangeLaws

@@ -34,7 +34,7 @@ use Rattle.trie_write.proofs.AskLaws.{on_way}
 use Rattle.trie_write.proofs.CopyLaws.{here_asked}
 use Rattle.trie_write.proofs.PathLaws.{path_plug, branches_plug}
 use Rattle.trie_space.proofs.WayLaws.{plug-append, Follows, low_at, is_fork, end_tree, low_rises, before, after, entries_plug}
-use Rattle.trie_write.proofs.SeatLaws.{along_parts}
+use Rattle.trie_write.proofs.SlotLaws.{along_parts}
 use Rattle.trie_write.proofs.WithoutLaws.{last_is, last_along}
 
 -- offsets rise, so those of a way are before that of the branch at its end

@@ -18,7 +18,7 @@ pub record Built (has : ℕ → Cell → Type 0) (old new : Account) (t : Tree) 
   pub beneath : Beneath has t
   pub counts : (k : ℕ) → new.live k ≡ old.live k + weigh_tree (in_chunk k) t
   pub fresh : (q : ℕ) → weigh_tree (at_place q) t + mark old.used q ≤ mark new.used q
-  pub cost : new.spent < old.spent + cells (entries_of t)
+  pub cost : new.consumed < old.consumed + cells (entries_of t)
 
 -- the tree of the first of these entries is built
 abbrev pub BuiltFront : (ℕ → Cell → Type 0) → Account → Account → ℕ → List Entry → List Entry → Option BranchPoint → Cell → Type 0
@@ -30,4 +30,4 @@ pub record Stopped (old new : Account) (low : ℕ) (es : List Entry) : Type 0 wh
   pub rest : List Entry
   pub shape : IsTree low t
   pub whole : es ≡ entries_of t ++ rest
-  pub cost : new.spent < old.spent + cells (entries_of t)
+  pub cost : new.consumed < old.consumed + cells (entries_of t)

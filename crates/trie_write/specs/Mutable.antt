@@ -22,15 +22,15 @@ pub record WayAsked {S A : Type 0} (has : S → ℕ → Cell → Type 0) (accoun
 
 -- The twigs on the way were copied: the cell is the top of a tree with the same entries, in which another way, with the same offsets,
 -- leads to the same end. What that tree reaches is in cells of the old one or in cells that weren't in use, and the counts follow.
-pub record IsCopied {S A : Type 0} (has : S → ℕ → Cell → Type 0) (given : S → List Bool) (account : A → Account) (a : A) (s_new : S) (a_new : A) (place low : ℕ) (key : List ℕ) (at : ℕ) (way : List Fork) (end : Tree) (cell : Cell) (seat : ℕ) : Type 0 where
+pub record IsCopied {S A : Type 0} (has : S → ℕ → Cell → Type 0) (given : S → List Bool) (account : A → Account) (a : A) (s_new : S) (a_new : A) (place low : ℕ) (key : List ℕ) (at : ℕ) (way : List Fork) (end : Tree) (cell : Cell) (slot : ℕ) : Type 0 where
   pub copy : List Fork
   pub shape : IsTree low (plug copy end)
   pub entries : entries_of (plug copy end) ≡ entries_of (plug way end)
   pub along : Along place key copy
   pub is : cell ≡ top_cell (plug copy end)
   pub beneath : Beneath (has s_new) (plug copy end)
-  pub seat_is : seat ≡ end_at at copy
-  pub writable : IsWritable given account s_new a_new at → IsWritable given account s_new a_new seat
+  pub slot_is : slot ≡ end_at at copy
+  pub writable : IsWritable given account s_new a_new at → IsWritable given account s_new a_new slot
   pub counts : (k : ℕ) → (account a_new).live k + weigh_tree (in_chunk k) (plug way end) ≡ (account a).live k + weigh_tree (in_chunk k) (plug copy end)
   pub met : (q : ℕ) → weigh_tree (at_place q) (plug copy end) + mark (account a).used q ≤ weigh_tree (at_place q) (plug way end) + mark (account a_new).used q
 
@@ -43,27 +43,27 @@ pub record IsParted (mutable : ℕ → Bool) (at : ℕ) (way : List Fork) (end :
   pub is : cell ≡ top_cell (plug lower end)
   pub copied : (n : ℕ) → copied_along mutable n at way ≡ twigs_along lower
 
-pub record SeatAsks {S A : Type 0} (has : S → ℕ → Cell → Type 0) (account : A → Account) (s : S) (a : A) (place : ℕ) (key : List ℕ) (spare : (ℕ → ℕ) → ℕ) (r : ℕ) (way : List Fork) (end : Tree) : Type 0 where
+pub record SlotAsks {S A : Type 0} (has : S → ℕ → Cell → Type 0) (account : A → Account) (s : S) (a : A) (place : ℕ) (key : List ℕ) (spare : (ℕ → ℕ) → ℕ) (r : ℕ) (way : List Fork) (end : Tree) : Type 0 where
   pub tree : IsTree 0 (plug way end)
   pub rooted : Rooted has account s a spare r (plug way end)
   pub is_way : IsWay place key way end
 
-pub record SeatAsked {S A : Type 0} (has : S → ℕ → Cell → Type 0) (account : A → Account) (s : S) (a : A) (place : ℕ) (key : List ℕ) (r : ℕ) : Type 0 where
+pub record SlotAsked {S A : Type 0} (has : S → ℕ → Cell → Type 0) (account : A → Account) (s : S) (a : A) (place : ℕ) (key : List ℕ) (r : ℕ) : Type 0 where
   pub spare : (ℕ → ℕ) → ℕ
   pub way : List Fork
   pub end : Tree
-  pub asks : SeatAsks has account s a place key spare r way end
+  pub asks : SlotAsks has account s a place key spare r way end
 
 -- A tree with the same entries stands at the root, in which a way leads to the same end, whose cell may be written. That cell, and all
 -- that were written, were met by the old tree if they were in use, but not by what hangs at the end.
-pub record IsSeat {S A : Type 0} (has : S → ℕ → Cell → Type 0) (given : S → List Bool) (account : A → Account) (s : S) (a : A) (s_new : S) (a_new : A) (place : ℕ) (key : List ℕ) (spare : (ℕ → ℕ) → ℕ) (old : ℕ) (way : List Fork) (end : Tree) (root seat : ℕ) : Type 0 where
+pub record IsSlot {S A : Type 0} (has : S → ℕ → Cell → Type 0) (given : S → List Bool) (account : A → Account) (s : S) (a : A) (s_new : S) (a_new : A) (place : ℕ) (key : List ℕ) (spare : (ℕ → ℕ) → ℕ) (old : ℕ) (way : List Fork) (end : Tree) (root slot : ℕ) : Type 0 where
   pub copy : List Fork
   pub tree : IsTree 0 (plug copy end)
   pub rooted : Rooted has account s_new a_new spare root (plug copy end)
   pub entries : entries_of (plug copy end) ≡ entries_of (plug way end)
   pub along : Along place key copy
-  pub seat_is : seat ≡ end_at root copy
-  pub writable : IsWritable given account s_new a_new seat
+  pub slot_is : slot ≡ end_at root copy
+  pub writable : IsWritable given account s_new a_new slot
   pub outside : (q : ℕ) (c : Cell) → (account a).used q ≡ true → at_place q old + weigh_tree (at_place q) (plug way end) ≡ 0 → has s q c → has s_new q c
-  pub apart : (q : ℕ) → (account a).used q ≡ true → at_place q old + weigh_tree (at_place q) (plug way end) ≡ 0 → q ≡ seat → ⊥
+  pub apart : (q : ℕ) → (account a).used q ≡ true → at_place q old + weigh_tree (at_place q) (plug way end) ≡ 0 → q ≡ slot → ⊥
   pub below : (q : ℕ) (c : Cell) → 1 ≤ weigh_tree (at_place q) end → has s q c → has s_new q c

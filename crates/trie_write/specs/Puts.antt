@@ -12,7 +12,7 @@ use Rattle.chunk_usage.specs.Rooms.{Account}
 use Rattle.trie_write.specs.declared.change.Span.{Span}
 use Rattle.trie_write.specs.declared.change.Change.{Change}
 use Rattle.trie_space.specs.Rooted.{Rooted, no_spare}
-use Rattle.trie_write.specs.Mutable.{SeatAsks}
+use Rattle.trie_write.specs.Mutable.{SlotAsks}
 use Rattle.trie_space.specs.Ways.{Fork, plug, Along}
 use Rattle.trie_space.specs.Weights.{at_place, mark}
 
@@ -50,7 +50,7 @@ pub record IsTaken (old new : Account) (c : Change) : Type 0 where
   pub fresh : (q : ℕ) → taken c (at_place q) + mark old.used q ≤ mark new.used q
 
 pub record PutAsks {S A : Type 0} (has : S → ℕ → Cell → Type 0) (account : A → Account) (s : S) (a : A) (place : ℕ) (key : List ℕ) (r : ℕ) (c : Change) (way : List Fork) (end u : Tree) : Type 0 where
-  pub seat : SeatAsks has account s a place key (taken c) r way end
+  pub slot : SlotAsks has account s a place key (taken c) r way end
   pub makes : Makes has s c end u
 
 pub record PutAsked {S A : Type 0} (has : S → ℕ → Cell → Type 0) (account : A → Account) (s : S) (a : A) (place : ℕ) (key : List ℕ) (r : ℕ) (c : Change) : Type 0 where

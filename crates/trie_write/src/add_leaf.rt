@@ -69,7 +69,7 @@ fn pair_with<C: CellWrite, U: Space>(
         → IsWith C.has cells.new change first.place (record { key = key.now; item = octets }) end) }
     ensures handed { IfOk result (λ change. Handed (U.account usage.old) (U.account usage.new) change.new_twigs.at change.new_twigs.n) }
     ensures item { IfOk result (λ change. change.new_item ≡ item.now) }
-    ensures spends { (U.account usage.new).spent ≤ (U.account usage.old).spent + 2 }
+    ensures consumes { (U.account usage.new).consumed ≤ (U.account usage.old).consumed + 2 }
     ensures refused { IfErr result (λ f. Refused C.has U.account U.lacks cells.old usage.old cells.new usage.new f) }
     ensures asked { IfErr result (λ f. f.needed ≡ 2) }
     ensures frame { Frame C.has C.kept C.given U.account cells.old usage.old cells.new usage.new }
@@ -104,7 +104,7 @@ fn join_twigs<C: CellWrite, U: Space>(
         → IsWith C.has cells.new change first.place (record { key = key.now; item = octets }) end) }
     ensures handed { IfOk result (λ change. Handed (U.account usage.old) (U.account usage.new) change.new_twigs.at change.new_twigs.n) }
     ensures item { IfOk result (λ change. change.new_item ≡ item.now) }
-    ensures spends { (U.account usage.new).spent ≤ (U.account usage.old).spent + (count_ones branch.bitmap + 1) }
+    ensures consumes { (U.account usage.new).consumed ≤ (U.account usage.old).consumed + (count_ones branch.bitmap + 1) }
     ensures refused { IfErr result (λ f. Refused C.has U.account U.lacks cells.old usage.old cells.new usage.new f) }
     ensures asked { IfErr result (λ f. f.needed ≡ count_ones branch.bitmap + 1) }
     ensures frame { Frame C.has C.kept C.given U.account cells.old usage.old cells.new usage.new }
@@ -141,9 +141,9 @@ pub fn with_leaf<C: CellWrite, U: Space>(
         → IsWith C.has cells.new change first.place (record { key = key.now; item = octets }) end) }
     ensures handed { IfOk result (λ change. Handed (U.account usage.old) (U.account usage.new) change.new_twigs.at change.new_twigs.n) }
     ensures item { IfOk result (λ change. change.new_item ≡ item.now) }
-    ensures spends { (octets : List ℕ) (end : Tree) → WithAsks C.has U.account cells.old usage.old key.now octets first node item.now end
-        → (U.account usage.new).spent ≤ (U.account usage.old).spent + (2 + twigs_on_path key.now end) }
-    ensures copies { (U.account usage.new).spent ≤ (U.account usage.old).spent + 47 }
+    ensures consumes { (octets : List ℕ) (end : Tree) → WithAsks C.has U.account cells.old usage.old key.now octets first node item.now end
+        → (U.account usage.new).consumed ≤ (U.account usage.old).consumed + (2 + twigs_on_path key.now end) }
+    ensures copies { (U.account usage.new).consumed ≤ (U.account usage.old).consumed + 47 }
     ensures refused { IfErr result (λ f. Refused C.has U.account U.lacks cells.old usage.old cells.new usage.new f) }
     ensures asked { IfErr result (λ f. (octets : List ℕ) (end : Tree) → WithAsks C.has U.account cells.old usage.old key.now octets first node item.now end
         → Contains (2 ∷ map suc (branches_on_path key.now end)) f.needed) }

@@ -21,7 +21,7 @@ pub fn room_for<C: CellWrite, U: Space>(cells: &mut C, usage: &mut U, n: u32) ->
     ensures handed { IfOk result (λ at. Handed (U.account usage.old) (U.account usage.new) at n) }
     ensures blank { IfOk result (λ at. MayWrite C.kept C.given cells.new at n) }
     ensures all { (q : ℕ) (c : Cell) → C.has cells.old q c → C.has cells.new q c }
-    ensures spends { (U.account usage.new).spent ≤ (U.account usage.old).spent + n }
+    ensures consumes { (U.account usage.new).consumed ≤ (U.account usage.old).consumed + n }
     ensures refused { IfErr result (λ f. Refused C.has U.account U.lacks cells.old usage.old cells.new usage.new f) }
     ensures asked { IfErr result (λ f. f.needed ≡ n) }
     ensures frame { Frame C.has C.kept C.given U.account cells.old usage.old cells.new usage.new }
@@ -58,7 +58,7 @@ pub fn lay_row<C: CellWrite, U: Space>(
     requires ready { Ready C.kept C.given U.account cells.old usage.old }
     ensures handed { IfOk result (λ at. Handed (U.account usage.old) (U.account usage.new) at (length row.now)) }
     ensures written { IfOk result (λ at. (i : ℕ) (c : Cell) → slice_get row.now i ≡ Some c → C.has cells.new (at + i) c) }
-    ensures spends { (U.account usage.new).spent ≤ (U.account usage.old).spent + length row.now }
+    ensures consumes { (U.account usage.new).consumed ≤ (U.account usage.old).consumed + length row.now }
     ensures refused { IfErr result (λ f. Refused C.has U.account U.lacks cells.old usage.old cells.new usage.new f) }
     ensures asked { IfErr result (λ f. f.needed ≡ length row.now) }
     ensures frame { Frame C.has C.kept C.given U.account cells.old usage.old cells.new usage.new }
@@ -90,7 +90,7 @@ pub fn copy_apart<C: CellWrite, U: Space>(
     ensures before { IfOk result (λ to. (i : ℕ) (c : Cell) → i < index → C.has cells.old (from.at + i) c → C.has cells.new (to + i) c) }
     ensures after { IfOk result (λ to. (i : ℕ) (c : Cell) → index + skip + i < from.n
         → C.has cells.old (from.at + (index + skip + i)) c → C.has cells.new (to + (index + gap + i)) c) }
-    ensures spends { (U.account usage.new).spent ≤ (U.account usage.old).spent + (from.n - skip + gap) }
+    ensures consumes { (U.account usage.new).consumed ≤ (U.account usage.old).consumed + (from.n - skip + gap) }
     ensures refused { IfErr result (λ f. Refused C.has U.account U.lacks cells.old usage.old cells.new usage.new f) }
     ensures asked { IfErr result (λ f. f.needed ≡ from.n - skip + gap) }
     ensures frame { Frame C.has C.kept C.given U.account cells.old usage.old cells.new usage.new }

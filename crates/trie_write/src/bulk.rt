@@ -46,7 +46,7 @@ pub fn build<C: CellWrite, U: Space>(
     requires ready { Ready C.kept C.given U.account cells.old usage.old }
     ensures built { IfOk result (λ root. HasTrie C.has U.account cells.new usage.new root (entries_of_items items.now)) }
     ensures uncounted { IfErr result (λ _. (k : ℕ) → (U.account usage.new).live k ≡ 0) }
-    ensures spends { (U.account usage.new).spent ≤ (U.account usage.old).spent + cells_of (entries_of_items items.now) }
+    ensures consumes { (U.account usage.new).consumed ≤ (U.account usage.old).consumed + cells_of (entries_of_items items.now) }
     ensures full { IfErr result (λ f. U.lacks usage.new f) }
     ensures frame { Frame C.has C.kept C.given U.account cells.old usage.old cells.new usage.new }
     ensures ready { Ready C.kept C.given U.account cells.new usage.new }
@@ -74,7 +74,7 @@ fn build_root<C: CellWrite, U: Space>(
     requires uncounted { (k : ℕ) → (U.account usage.old).live k ≡ 0 }
     requires ready { Ready C.kept C.given U.account cells.old usage.old }
     ensures built { IfOk result (λ root. HasTrie C.has U.account cells.new usage.new (Some root) (entries_of_items items.now)) }
-    ensures spends { (U.account usage.new).spent ≤ (U.account usage.old).spent + cells_of (entries_of_items items.now) }
+    ensures consumes { (U.account usage.new).consumed ≤ (U.account usage.old).consumed + cells_of (entries_of_items items.now) }
     ensures full { IfErr result (λ f. U.lacks usage.new f) }
     ensures frame { Frame C.has C.kept C.given U.account cells.old usage.old cells.new usage.new }
     ensures ready { Ready C.kept C.given U.account cells.new usage.new }
@@ -93,7 +93,7 @@ fn build_leaf<C: CellWrite, U: Space>(
     requires { Ready C.kept C.given U.account cells.old usage.old }
     ensures built { IfOk result (λ cell. (at : Extents) × IsTree 0 (leaf (entry_of item.now) at)
         × Built (C.has cells.new) (U.account usage.old) (U.account usage.new) (leaf (entry_of item.now) at) cell) }
-    ensures spends { (U.account usage.new).spent < (U.account usage.old).spent + cells_of (entry_of item.now ∷ []) }
+    ensures consumes { (U.account usage.new).consumed < (U.account usage.old).consumed + cells_of (entry_of item.now ∷ []) }
     ensures full { IfErr result (λ f. U.lacks usage.new f) }
     ensures frame { Frame C.has C.kept C.given U.account cells.old usage.old cells.new usage.new }
     ensures ready { Ready C.kept C.given U.account cells.new usage.new }

@@ -83,8 +83,8 @@ pub fn put_change<C: CellWrite, U: Space>(
         → IsPut C.has U.account cells.new usage.new place key.now way end u new) }
     ensures outside { (way : List Fork) (end u : Tree) → PutAsks C.has U.account cells.old usage.old place key.now root change way end u
         → (q : ℕ) (c : Cell) → (U.account usage.old).used q ≡ true → IsOutside root (plug way end) q → C.has cells.old q c → C.has cells.new q c }
-    ensures spends { (way : List Fork) (end u : Tree) → PutAsks C.has U.account cells.old usage.old place key.now root change way end u
-        → (U.account usage.new).spent ≤ (U.account usage.old).spent + copied_along (U.account usage.old).mutable 1 root way }
+    ensures consumes { (way : List Fork) (end u : Tree) → PutAsks C.has U.account cells.old usage.old place key.now root change way end u
+        → (U.account usage.new).consumed ≤ (U.account usage.old).consumed + copied_along (U.account usage.old).mutable 1 root way }
     ensures refused { IfErr result (λ f. GivenBack C.has U.account U.lacks cells.old usage.old cells.new usage.new (taken change) f) }
     ensures asked { IfErr result (λ f. (way : List Fork) (end u : Tree) → PutAsks C.has U.account cells.old usage.old place key.now root change way end u
         → Contains (1 ∷ map twigs_of way) f.needed) }
@@ -96,11 +96,11 @@ pub fn put_change<C: CellWrite, U: Space>(
             let_go(usage, change.new_twigs, &change.new_item);
             Err(full)
         }
-        Ok(seat) => {
-            cells.put(seat.at, change.cell);
+        Ok(slot) => {
+            cells.put(slot.at, change.cell);
             let_go(usage, change.old_twigs, &change.old_item);
             usage.note(path);
-            Ok(seat.root)
+            Ok(slot.root)
         }
     }
 }

@@ -39,10 +39,10 @@ fn drop_leaf<C: CellWrite, U: Space>(
         → (next : List Entry) × Deleted key.now version next × HasTrie C.has U.account cells.new usage.new (Some new) next) }
     ensures outside { (t : Tree) (version : List Entry) → DropAsks C.has U.account cells.old usage.old root key.now descent t version
         → (q : ℕ) (c : Cell) → (U.account usage.old).used q ≡ true → IsOutside root t q → C.has cells.old q c → C.has cells.new q c }
-    ensures spends { (t : Tree) (version : List Entry) → DropAsks C.has U.account cells.old usage.old root key.now descent t version
-        → (U.account usage.new).spent ≤ (U.account usage.old).spent + twigs_on_path key.now t }
+    ensures consumes { (t : Tree) (version : List Entry) → DropAsks C.has U.account cells.old usage.old root key.now descent t version
+        → (U.account usage.new).consumed ≤ (U.account usage.old).consumed + twigs_on_path key.now t }
     ensures copies { (t : Tree) (version : List Entry) → DropAsks C.has U.account cells.old usage.old root key.now descent t version
-        → (U.account usage.new).spent ≤ (U.account usage.old).spent + (46 + to_copy (U.account usage.old).mutable key.now root t) }
+        → (U.account usage.new).consumed ≤ (U.account usage.old).consumed + (46 + to_copy (U.account usage.old).mutable key.now root t) }
     ensures refused { IfErr result (λ f. Refused C.has U.account U.lacks cells.old usage.old cells.new usage.new f) }
     ensures asked { IfErr result (λ f. (t : Tree) (version : List Entry) → DropAsks C.has U.account cells.old usage.old root key.now descent t version
         → Contains (delete_asks (branches_on_path key.now t)) f.needed) }
@@ -66,10 +66,10 @@ fn delete_item<C: CellWrite, U: Space>(
         → (next : List Entry) × Deleted key.now version next × HasTrie C.has U.account cells.new usage.new new next) }
     ensures outside { (t : Tree) (version : List Entry) → HasKey C.has U.account cells.old usage.old root key.now t version
         → (q : ℕ) (c : Cell) → (U.account usage.old).used q ≡ true → IsOutside root t q → C.has cells.old q c → C.has cells.new q c }
-    ensures spends { (t : Tree) (version : List Entry) → HasKey C.has U.account cells.old usage.old root key.now t version
-        → (U.account usage.new).spent ≤ (U.account usage.old).spent + twigs_on_path key.now t }
+    ensures consumes { (t : Tree) (version : List Entry) → HasKey C.has U.account cells.old usage.old root key.now t version
+        → (U.account usage.new).consumed ≤ (U.account usage.old).consumed + twigs_on_path key.now t }
     ensures copies { (t : Tree) (version : List Entry) → HasKey C.has U.account cells.old usage.old root key.now t version
-        → (U.account usage.new).spent ≤ (U.account usage.old).spent + (46 + to_copy (U.account usage.old).mutable key.now root t) }
+        → (U.account usage.new).consumed ≤ (U.account usage.old).consumed + (46 + to_copy (U.account usage.old).mutable key.now root t) }
     ensures refused { IfErr result (λ f. Refused C.has U.account U.lacks cells.old usage.old cells.new usage.new f) }
     ensures asked { IfErr result (λ f. (t : Tree) (version : List Entry) → HasKey C.has U.account cells.old usage.old root key.now t version
         → Contains (delete_asks (branches_on_path key.now t)) f.needed) }
@@ -115,10 +115,10 @@ pub fn delete<C: CellWrite, U: Space>(
     ensures full { (f : _) → result ≡ Err (Unchanged.Full f) → U.lacks usage.new f }
     ensures asked { (f : _) → result ≡ Err (Unchanged.Full f) → (branches : List ℕ)
         → BranchesOnPath C.has U.account cells.old usage.old root key.now branches → Contains (delete_asks branches) f.needed }
-    ensures spends { (n : ℕ) → TwigsOnPath C.has U.account cells.old usage.old root key.now n
-        → (U.account usage.new).spent ≤ (U.account usage.old).spent + (1 + n) }
+    ensures consumes { (n : ℕ) → TwigsOnPath C.has U.account cells.old usage.old root key.now n
+        → (U.account usage.new).consumed ≤ (U.account usage.old).consumed + (1 + n) }
     ensures copies { (n : ℕ) → ToCopy C.has U.account cells.old usage.old root key.now n
-        → (U.account usage.new).spent ≤ (U.account usage.old).spent + (46 + n) }
+        → (U.account usage.new).consumed ≤ (U.account usage.old).consumed + (46 + n) }
     ensures frame { Fenced C.has C.kept C.given U.account cells.old usage.old cells.new usage.new }
     ensures ready { Ready C.kept C.given U.account cells.new usage.new }
 {

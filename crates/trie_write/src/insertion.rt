@@ -40,7 +40,7 @@ fn insert_first<C: CellWrite, U: Space>(
     requires uncounted { (k : ℕ) → (U.account usage.old).live k ≡ 0 }
     requires ready { Ready C.kept C.given U.account cells.old usage.old }
     ensures stands { IfOk result (λ root. (e : Entry) → IsEntry e → e.item ≡ item.now → HasTrie C.has U.account cells.new usage.new (Some root) (e ∷ [])) }
-    ensures spends { (U.account usage.new).spent ≤ (U.account usage.old).spent + (cells_in item.now + 1) }
+    ensures consumes { (U.account usage.new).consumed ≤ (U.account usage.old).consumed + (cells_in item.now + 1) }
     ensures refused { IfErr result (λ f. Refused C.has U.account U.lacks cells.old usage.old cells.new usage.new f) }
     ensures asked { IfErr result (λ f. Contains (extent_sizes (length item.now) ++ (1 ∷ [])) f.needed) }
     ensures frame { Frame C.has C.kept C.given U.account cells.old usage.old cells.new usage.new }
@@ -75,9 +75,9 @@ fn new_leaf<C: CellWrite, U: Space>(
     ensures with { IfOk result (λ change. (t : Tree) (version : List Entry) (h : LacksKey C.has U.account cells.old usage.old root key.now first t version)
         → IsWith C.has cells.new change first.place (record { key = key.now; item = item.now }) h.end) }
     ensures taken { IfOk result (λ change. IsTaken (U.account usage.old) (U.account usage.new) change) }
-    ensures spends { (t : Tree) (version : List Entry) (h : LacksKey C.has U.account cells.old usage.old root key.now first t version)
-        → (U.account usage.new).spent ≤ (U.account usage.old).spent + (cells_in item.now + (2 + twigs_on_path key.now h.end)) }
-    ensures copies { (U.account usage.new).spent ≤ (U.account usage.old).spent + (cells_in item.now + 47) }
+    ensures consumes { (t : Tree) (version : List Entry) (h : LacksKey C.has U.account cells.old usage.old root key.now first t version)
+        → (U.account usage.new).consumed ≤ (U.account usage.old).consumed + (cells_in item.now + (2 + twigs_on_path key.now h.end)) }
+    ensures copies { (U.account usage.new).consumed ≤ (U.account usage.old).consumed + (cells_in item.now + 47) }
     ensures refused { IfErr result (λ f. Refused C.has U.account U.lacks cells.old usage.old cells.new usage.new f) }
     ensures asked { IfErr result (λ f. (t : Tree) (version : List Entry) (h : LacksKey C.has U.account cells.old usage.old root key.now first t version)
         → Contains (extent_sizes (length item.now) ++ (2 ∷ map suc (branches_on_path key.now h.end))) f.needed) }
@@ -113,10 +113,10 @@ fn insert_further<C: CellWrite, U: Space>(
         × HasTrie C.has U.account cells.new usage.new (Some new) next) }
     ensures outside { (t : Tree) (version : List Entry) → LacksKey C.has U.account cells.old usage.old root key.now first t version
         → (q : ℕ) (c : Cell) → (U.account usage.old).used q ≡ true → IsOutside root t q → C.has cells.old q c → C.has cells.new q c }
-    ensures spends { (t : Tree) (version : List Entry) → LacksKey C.has U.account cells.old usage.old root key.now first t version
-        → (U.account usage.new).spent ≤ (U.account usage.old).spent + (3 + cells_in item.now + twigs_on_path key.now t) }
+    ensures consumes { (t : Tree) (version : List Entry) → LacksKey C.has U.account cells.old usage.old root key.now first t version
+        → (U.account usage.new).consumed ≤ (U.account usage.old).consumed + (3 + cells_in item.now + twigs_on_path key.now t) }
     ensures copies { (t : Tree) (version : List Entry) → LacksKey C.has U.account cells.old usage.old root key.now first t version
-        → (U.account usage.new).spent ≤ (U.account usage.old).spent + (47 + cells_in item.now + to_copy (U.account usage.old).mutable key.now root t) }
+        → (U.account usage.new).consumed ≤ (U.account usage.old).consumed + (47 + cells_in item.now + to_copy (U.account usage.old).mutable key.now root t) }
     ensures refused { IfErr result (λ f. Refused C.has U.account U.lacks cells.old usage.old cells.new usage.new f) }
     ensures asked { IfErr result (λ f. (t : Tree) (version : List Entry) → LacksKey C.has U.account cells.old usage.old root key.now first t version
         → Contains (insert_asks item.now (branches_on_path key.now t)) f.needed) }
@@ -153,10 +153,10 @@ pub fn insert<C: CellWrite, U: Space>(
     ensures full { (f : _) → result ≡ Err (Unchanged.Full f) → U.lacks usage.new f }
     ensures asked { (f : _) → result ≡ Err (Unchanged.Full f) → (branches : List ℕ)
         → BranchesOnPath C.has U.account cells.old usage.old root key.now branches → Contains (insert_asks item.now branches) f.needed }
-    ensures spends { (n : ℕ) → TwigsOnPath C.has U.account cells.old usage.old root key.now n
-        → (U.account usage.new).spent ≤ (U.account usage.old).spent + (3 + cells_in item.now + n) }
+    ensures consumes { (n : ℕ) → TwigsOnPath C.has U.account cells.old usage.old root key.now n
+        → (U.account usage.new).consumed ≤ (U.account usage.old).consumed + (3 + cells_in item.now + n) }
     ensures copies { (n : ℕ) → ToCopy C.has U.account cells.old usage.old root key.now n
-        → (U.account usage.new).spent ≤ (U.account usage.old).spent + (47 + cells_in item.now + n) }
+        → (U.account usage.new).consumed ≤ (U.account usage.old).consumed + (47 + cells_in item.now + n) }
     ensures frame { Fenced C.has C.kept C.given U.account cells.old usage.old cells.new usage.new }
     ensures ready { Ready C.kept C.given U.account cells.new usage.new }
 {

@@ -25,7 +25,7 @@ pub fn lay_item<C: CellWrite, U: Space>(
     ensures len { IfOk result (λ x. x.len ≡ length item.now) }
     ensures handed { IfOk result (λ x. HandedItem (U.account usage.old) (U.account usage.new) (length item.now) (extents_in x)) }
     ensures lies { IfOk result (λ x. ItemLies (C.has cells.new) (extents_in x) item.now) }
-    ensures spends { (U.account usage.new).spent ≤ (U.account usage.old).spent + cells_in item.now }
+    ensures consumes { (U.account usage.new).consumed ≤ (U.account usage.old).consumed + cells_in item.now }
     ensures refused { IfErr result (λ f. Refused C.has U.account U.lacks cells.old usage.old cells.new usage.new f) }
     ensures asked { IfErr result (λ f. Contains (extent_sizes (length item.now)) f.needed) }
     ensures frame { Frame C.has C.kept C.given U.account cells.old usage.old cells.new usage.new }
@@ -50,7 +50,7 @@ fn room_for_extents<C: CellWrite, U: Space>(
     requires enough { links len < length out.old }
     requires ready { Ready C.kept C.given U.account cells.old usage.old }
     ensures handed { IfOk result (λ _. HandedItem (U.account usage.old) (U.account usage.new) len (extents_at (links len) out.new)) }
-    ensures spends { (U.account usage.new).spent ≤ (U.account usage.old).spent + (content_cells len + links len) }
+    ensures consumes { (U.account usage.new).consumed ≤ (U.account usage.old).consumed + (content_cells len + links len) }
     ensures refused { IfErr result (λ f. Refused C.has U.account U.lacks cells.old usage.old cells.new usage.new f) }
     ensures asked { IfErr result (λ f. Contains (extent_sizes len) f.needed) }
     ensures frame { Frame C.has C.kept C.given U.account cells.old usage.old cells.new usage.new }

@@ -8,7 +8,7 @@ ghost use Rattle.trie_model.specs.Reach.{in_chunk};
 ghost use Rattle.trie_model.specs.Trees.{Tree};
 ghost use Rattle.trie_space.specs.Spaces.{Ready, Frame, Fenced, Refused, MayWrite, Wrote, IsWritable};
 ghost use Rattle.trie_space.specs.Ways.{Fork, plug, IsWay, twigs_of, twigs_along, copied_along};
-ghost use Rattle.trie_write.specs.Mutable.{WayAsks, WayAsked, IsCopied, IsParted, SeatAsks, SeatAsked, IsSeat};
+ghost use Rattle.trie_write.specs.Mutable.{WayAsks, WayAsked, IsCopied, IsParted, SlotAsks, SlotAsked, IsSlot};
 
 use super::alloc::room_for;
 use super::descend::{Descent, next_descent};
@@ -27,7 +27,7 @@ pub struct Spot {
 
 /// A root, and the cell below it that may be written.
 #[derive(Clone, Copy)]
-pub struct Seat {
+pub struct Slot {
     pub root: Ref,
     pub at: Ref,
 }
@@ -38,16 +38,16 @@ pub struct Copied {
     /// What goes into the cell that the way begins at.
     pub node: Cell,
     /// The cell that the way ends at.
-    pub seat: Ref,
+    pub slot: Ref,
 }
 
 /// What copying gives where nothing below a cell is copied.
 fn left_alone(spot: Spot) -> Copied
-    ensures { result ≡ record { node = spot.node; seat = spot.at } }
+    ensures { result ≡ record { node = spot.node; slot = spot.at } }
 {
     Copied {
         node: spot.node,
-        seat: spot.at,
+        slot: spot.at,
     }
 }
 
@@ -68,7 +68,7 @@ fn move_twigs<C: CellWrite, U: Space>(
     requires blank { MayWrite C.kept C.given cells.old to (count_ones descent.branch.bitmap) }
     requires counted { (k : ℕ) → row (in_chunk k) descent.branch.twigs (count_ones descent.branch.bitmap) ≤ (U.account usage.old).live k }
     ensures node { result.node ≡ branch_cell (record descent.branch { twigs = to }) }
-    ensures seat { result.seat ≡ below.seat }
+    ensures slot { result.slot ≡ below.slot }
     ensures twig { C.has cells.new (to + descent.index) below.node }
     ensures copied { (i : ℕ) (c : Cell) → i < count_ones descent.branch.bitmap → i ≢ descent.index
         → C.has cells.old (descent.branch.twigs + i) c → C.has cells.new (to + i) c }
@@ -89,7 +89,7 @@ fn move_twigs<C: CellWrite, U: Space>(
     };
     Copied {
         node: Node::Branch(moved).pack(),
-        seat: below.seat,
+        slot: below.slot,
     }
 }
 
@@ -106,9 +106,9 @@ fn copy_way<C: CellWrite, U: Space>(
     requires asks { WayAsked C.has U.account cells.old usage.old place low key.now from.node }
     requires ready { Ready C.kept C.given U.account cells.old usage.old }
     ensures copied { IfOk result (λ copied. (way : List Fork) (end : Tree) → WayAsks C.has U.account cells.old usage.old place low key.now from.node way end
-        → IsCopied C.has C.given U.account usage.old cells.new usage.new place low key.now from.at way end copied.node copied.seat) }
-    ensures spends { (way : List Fork) (end : Tree) → WayAsks C.has U.account cells.old usage.old place low key.now from.node way end
-        → (U.account usage.new).spent ≤ (U.account usage.old).spent + twigs_along way }
+        → IsCopied C.has C.given U.account usage.old cells.new usage.new place low key.now from.at way end copied.node copied.slot) }
+    ensures consumes { (way : List Fork) (end : Tree) → WayAsks C.has U.account cells.old usage.old place low key.now from.node way end
+        → (U.account usage.new).consumed ≤ (U.account usage.old).consumed + twigs_along way }
     ensures refused { IfErr result (λ f. Refused C.has U.account U.lacks cells.old usage.old cells.new usage.new f) }
     // A branch on the way has so many twigs.
     ensures asked { IfErr result (λ f. (way : List Fork) (end : Tree) → WayAsks C.has U.account cells.old usage.old place low key.now from.node way end
@@ -176,17 +176,17 @@ fn open_below<C: CellWrite, U: Space>(
     key: &Key,
     place: u16,
     top: Spot,
-) -> Result<Seat, Full>
-    requires asks { SeatAsked C.has U.account cells.old usage.old place key.now top.at }
+) -> Result<Slot, Full>
+    requires asks { SlotAsked C.has U.account cells.old usage.old place key.now top.at }
     requires node { (c : Cell) → C.has cells.old top.at c → top.node ≡ c }
     requires writable { IsWritable C.given U.account cells.old usage.old top.at }
     requires ready { Ready C.kept C.given U.account cells.old usage.old }
-    ensures seat { IfOk result (λ seat. (spare : _) (way : _) (end : _) → SeatAsks C.has U.account cells.old usage.old place key.now spare top.at way end
-        → IsSeat C.has C.given U.account cells.old usage.old cells.new usage.new place key.now spare top.at way end seat.root seat.at) }
-    ensures spends { (spare : _) (way : _) (end : _) → SeatAsks C.has U.account cells.old usage.old place key.now spare top.at way end
-        → (U.account usage.new).spent ≤ (U.account usage.old).spent + copied_along (U.account usage.old).mutable 1 top.at way }
+    ensures slot { IfOk result (λ slot. (spare : _) (way : _) (end : _) → SlotAsks C.has U.account cells.old usage.old place key.now spare top.at way end
+        → IsSlot C.has C.given U.account cells.old usage.old cells.new usage.new place key.now spare top.at way end slot.root slot.at) }
+    ensures consumes { (spare : _) (way : _) (end : _) → SlotAsks C.has U.account cells.old usage.old place key.now spare top.at way end
+        → (U.account usage.new).consumed ≤ (U.account usage.old).consumed + copied_along (U.account usage.old).mutable 1 top.at way }
     ensures refused { IfErr result (λ f. Refused C.has U.account U.lacks cells.old usage.old cells.new usage.new f) }
-    ensures asked { IfErr result (λ f. (spare : _) (way : _) (end : _) → SeatAsks C.has U.account cells.old usage.old place key.now spare top.at way end
+    ensures asked { IfErr result (λ f. (spare : _) (way : _) (end : _) → SlotAsks C.has U.account cells.old usage.old place key.now spare top.at way end
         → Contains (map twigs_of way) f.needed) }
     ensures frame { Fenced C.has C.kept C.given U.account cells.old usage.old cells.new usage.new }
     ensures ready { Ready C.kept C.given U.account cells.new usage.new }
@@ -194,9 +194,9 @@ fn open_below<C: CellWrite, U: Space>(
     let last = last_mutable(cells, usage, key, place, 0, top);
     let copied = copy_way(cells, usage, key, place, 0, last)?;
     cells.put(last.at, copied.node);
-    Ok(Seat {
+    Ok(Slot {
         root: top.at,
-        at: copied.seat,
+        at: copied.slot,
     })
 }
 
@@ -207,17 +207,17 @@ fn open_anew<C: CellWrite, U: Space>(
     key: &Key,
     place: u16,
     top: Spot,
-) -> Result<Seat, Full>
-    requires asks { SeatAsked C.has U.account cells.old usage.old place key.now top.at }
+) -> Result<Slot, Full>
+    requires asks { SlotAsked C.has U.account cells.old usage.old place key.now top.at }
     requires node { (c : Cell) → C.has cells.old top.at c → top.node ≡ c }
     requires immutable { (U.account usage.old).mutable top.at ≡ false }
     requires ready { Ready C.kept C.given U.account cells.old usage.old }
-    ensures seat { IfOk result (λ seat. (spare : _) (way : _) (end : _) → SeatAsks C.has U.account cells.old usage.old place key.now spare top.at way end
-        → IsSeat C.has C.given U.account cells.old usage.old cells.new usage.new place key.now spare top.at way end seat.root seat.at) }
-    ensures spends { (spare : _) (way : _) (end : _) → SeatAsks C.has U.account cells.old usage.old place key.now spare top.at way end
-        → (U.account usage.new).spent ≤ (U.account usage.old).spent + copied_along (U.account usage.old).mutable 1 top.at way }
+    ensures slot { IfOk result (λ slot. (spare : _) (way : _) (end : _) → SlotAsks C.has U.account cells.old usage.old place key.now spare top.at way end
+        → IsSlot C.has C.given U.account cells.old usage.old cells.new usage.new place key.now spare top.at way end slot.root slot.at) }
+    ensures consumes { (spare : _) (way : _) (end : _) → SlotAsks C.has U.account cells.old usage.old place key.now spare top.at way end
+        → (U.account usage.new).consumed ≤ (U.account usage.old).consumed + copied_along (U.account usage.old).mutable 1 top.at way }
     ensures refused { IfErr result (λ f. Refused C.has U.account U.lacks cells.old usage.old cells.new usage.new f) }
-    ensures asked { IfErr result (λ f. (spare : _) (way : _) (end : _) → SeatAsks C.has U.account cells.old usage.old place key.now spare top.at way end
+    ensures asked { IfErr result (λ f. (spare : _) (way : _) (end : _) → SlotAsks C.has U.account cells.old usage.old place key.now spare top.at way end
         → Contains (1 ∷ map twigs_of way) f.needed) }
     ensures frame { Fenced C.has C.kept C.given U.account cells.old usage.old cells.new usage.new }
     ensures ready { Ready C.kept C.given U.account cells.new usage.new }
@@ -235,8 +235,8 @@ fn open_anew<C: CellWrite, U: Space>(
         Ok(copied) => {
             cells.put(root, copied.node);
             usage.release(top.at, 1);
-            let at = copied.seat;
-            Ok(Seat { root, at })
+            let at = copied.slot;
+            Ok(Slot { root, at })
         }
     }
 }
@@ -249,16 +249,16 @@ pub fn make_mutable<C: CellWrite, U: Space>(
     root: Ref,
     key: &Key,
     place: u16,
-) -> Result<Seat, Full>
-    requires asks { SeatAsked C.has U.account cells.old usage.old place key.now root }
+) -> Result<Slot, Full>
+    requires asks { SlotAsked C.has U.account cells.old usage.old place key.now root }
     requires ready { Ready C.kept C.given U.account cells.old usage.old }
-    ensures seat { IfOk result (λ seat. (spare : _) (way : _) (end : _) → SeatAsks C.has U.account cells.old usage.old place key.now spare root way end
-        → IsSeat C.has C.given U.account cells.old usage.old cells.new usage.new place key.now spare root way end seat.root seat.at) }
-    ensures spends { (spare : _) (way : _) (end : _) → SeatAsks C.has U.account cells.old usage.old place key.now spare root way end
-        → (U.account usage.new).spent ≤ (U.account usage.old).spent + copied_along (U.account usage.old).mutable 1 root way }
+    ensures slot { IfOk result (λ slot. (spare : _) (way : _) (end : _) → SlotAsks C.has U.account cells.old usage.old place key.now spare root way end
+        → IsSlot C.has C.given U.account cells.old usage.old cells.new usage.new place key.now spare root way end slot.root slot.at) }
+    ensures consumes { (spare : _) (way : _) (end : _) → SlotAsks C.has U.account cells.old usage.old place key.now spare root way end
+        → (U.account usage.new).consumed ≤ (U.account usage.old).consumed + copied_along (U.account usage.old).mutable 1 root way }
     ensures refused { IfErr result (λ f. Refused C.has U.account U.lacks cells.old usage.old cells.new usage.new f) }
     // The root's cell alone, or as many as a branch on the way has twigs.
-    ensures asked { IfErr result (λ f. (spare : _) (way : _) (end : _) → SeatAsks C.has U.account cells.old usage.old place key.now spare root way end
+    ensures asked { IfErr result (λ f. (spare : _) (way : _) (end : _) → SlotAsks C.has U.account cells.old usage.old place key.now spare root way end
         → Contains (1 ∷ map twigs_of way) f.needed) }
     ensures frame { Fenced C.has C.kept C.given U.account cells.old usage.old cells.new usage.new }
     ensures ready { Ready C.kept C.given U.account cells.new usage.new }

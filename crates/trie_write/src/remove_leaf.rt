@@ -48,7 +48,7 @@ pub fn without_leaf<C: CellWrite, U: Space>(
         → LeafDescent C.has U.account cells.old usage.old key.now descent lower e x
         → IsWithout C.has cells.new change e (plug lower (leaf e x))) }
     ensures taken { IfOk result (λ change. IsTaken (U.account usage.old) (U.account usage.new) change) }
-    ensures spends { (U.account usage.new).spent + 1 ≤ (U.account usage.old).spent + count_ones descent.branch.bitmap }
+    ensures consumes { (U.account usage.new).consumed + 1 ≤ (U.account usage.old).consumed + count_ones descent.branch.bitmap }
     ensures refused { IfErr result (λ f. Refused C.has U.account U.lacks cells.old usage.old cells.new usage.new f) }
     ensures asked { IfErr result (λ f. f.needed ≡ count_ones descent.branch.bitmap - 1) }
     ensures frame { Frame C.has C.kept C.given U.account cells.old usage.old cells.new usage.new }

@@ -45,7 +45,7 @@ fn other_leaf<C: CellWrite, U: Space>(
         → Makes C.has cells.new change (leaf h.entry h.first) (leaf (record { key = key.now; item = item.now }) (extents_in change.new_item))) }
     ensures extents { IfOk result (λ change. AreExtents (length item.now) (extents_in change.new_item)) }
     ensures taken { IfOk result (λ change. IsTaken (U.account usage.old) (U.account usage.new) change) }
-    ensures spends { (U.account usage.new).spent ≤ (U.account usage.old).spent + cells_in item.now }
+    ensures consumes { (U.account usage.new).consumed ≤ (U.account usage.old).consumed + cells_in item.now }
     ensures refused { IfErr result (λ f. Refused C.has U.account U.lacks cells.old usage.old cells.new usage.new f) }
     ensures asked { IfErr result (λ f. Contains (extent_sizes (length item.now)) f.needed) }
     ensures frame { Frame C.has C.kept C.given U.account cells.old usage.old cells.new usage.new }
@@ -81,7 +81,7 @@ fn replace_item<C: CellWrite, U: Space>(
     ensures outside { (t : Tree) (version : List Entry) → HasKey C.has U.account cells.old usage.old root key.now t version
         → (q : ℕ) (c : Cell) → (U.account usage.old).used q ≡ true → IsOutside root t q → C.has cells.old q c → C.has cells.new q c }
     ensures copies { (t : Tree) (version : List Entry) → HasKey C.has U.account cells.old usage.old root key.now t version
-        → (U.account usage.new).spent ≤ (U.account usage.old).spent + (cells_in item.now + to_copy (U.account usage.old).mutable key.now root t) }
+        → (U.account usage.new).consumed ≤ (U.account usage.old).consumed + (cells_in item.now + to_copy (U.account usage.old).mutable key.now root t) }
     ensures refused { IfErr result (λ f. Refused C.has U.account U.lacks cells.old usage.old cells.new usage.new f) }
     ensures asked { IfErr result (λ f. (t : Tree) (version : List Entry) → HasKey C.has U.account cells.old usage.old root key.now t version
         → Contains (replace_asks item.now (branches_on_path key.now t)) f.needed) }
@@ -118,10 +118,10 @@ pub fn replace<C: CellWrite, U: Space>(
     ensures full { (f : _) → result ≡ Err (Unchanged.Full f) → U.lacks usage.new f }
     ensures asked { (f : _) → result ≡ Err (Unchanged.Full f) → (branches : List ℕ)
         → BranchesOnPath C.has U.account cells.old usage.old root key.now branches → Contains (replace_asks item.now branches) f.needed }
-    ensures spends { (n : ℕ) → TwigsOnPath C.has U.account cells.old usage.old root key.now n
-        → (U.account usage.new).spent ≤ (U.account usage.old).spent + (3 + cells_in item.now + n) }
+    ensures consumes { (n : ℕ) → TwigsOnPath C.has U.account cells.old usage.old root key.now n
+        → (U.account usage.new).consumed ≤ (U.account usage.old).consumed + (3 + cells_in item.now + n) }
     ensures copies { (n : ℕ) → ToCopy C.has U.account cells.old usage.old root key.now n
-        → (U.account usage.new).spent ≤ (U.account usage.old).spent + (cells_in item.now + n) }
+        → (U.account usage.new).consumed ≤ (U.account usage.old).consumed + (cells_in item.now + n) }
     ensures frame { Fenced C.has C.kept C.given U.account cells.old usage.old cells.new usage.new }
     ensures ready { Ready C.kept C.given U.account cells.new usage.new }
 {

@@ -1,7 +1,7 @@
 use Rattle.std.proofs.Common.{◌≡◌, ℕ, false, ◌+◌, ◌*◌, ◌-◌, ◌≤◌, length, inl, inr, refl, sym, ◌∙◌, ap, subst, arith}
 use Rattle.std.proofs.lemmas.Bool.{cases_Bool}
 use Rattle.std.proofs.lemmas.Bool.Decides.{nat_tests}
-use Rattle.chunk_usage.specs.Handing.{spent}
+use Rattle.chunk_usage.specs.Handing.{consumed}
 use Rattle.chunk_usage.specs.Ledger.{Ledger, free_count}
 use Rattle.chunk_usage.specs.Rooms.{reserve_account_of}
 use Rattle.trie_space.specs.Spaces.{Fenced, IsWritable}
@@ -10,7 +10,7 @@ use Rattle.std.specs.Prelude.{Option, Some}
 use Rattle.evacuate.specs.declared.evacuation.Done.{Done}
 use Rattle.evacuate.specs.Evacuations.{FillsNew, HasSparse}
 use Rattle.evacuate.specs.Fillings.{Moves, begun, filled_on, is_old, old_chunks, old_live}
-use Rattle.evacuate.proofs.BeginLaws.{begun_spent, fenced_begun, fills_count, fills_new, fills_there, left_begun, nothing_moved, opened, opened_then, ready_begun, stood_begun}
+use Rattle.evacuate.proofs.BeginLaws.{begun_consumed, fenced_begun, fills_count, fills_new, fills_there, left_begun, nothing_moved, opened, opened_then, ready_begun, stood_begun}
 use Rattle.evacuate.proofs.DescentLaws.{stood_same}
 use Rattle.evacuate.proofs.EndLaws.{all_cleared, node_top}
 use Rattle.evacuate.proofs.FillingLaws.{moves_then}
@@ -22,13 +22,13 @@ use Rattle.evacuate.proofs.evacuation.empty_sparse.Goals as goal
 record Since (l new : Ledger) : Type 0 where
   fills : FillsNew l new
   count : length new.given ≡ length l.given
-  paid : spent new ≤ 769 * (length l.given - free_count l) + old_live l.given l.live
+  paid : consumed new ≤ 769 * (length l.given - free_count l) + old_live l.given l.live
 
 since : (l new : Ledger) (filled_on : Option ℕ) → Moves (old_chunks l.given filled_on) 0 (begun l filled_on) new → Since l new
 since l new filled_on m = record {
   fills = fills_new l new filled_on m.fills;
   count = fills_count l.given new filled_on m.fills;
-  paid = let p = m.paid in let s = begun_spent l filled_on in omega arith;
+  paid = let p = m.paid in let s = begun_consumed l filled_on in omega arith;
 }
 
 pub open_root-requires-clause-stood : goal.open_root-requires-clause-stood

@@ -1,6 +1,6 @@
 use Rattle.std.proofs.Common.{◌+◌, ◌*◌, ◌-◌, ◌≤◌, ℕ, Option, length, slice_index, refl, subst, arith}
 use Rattle.trie_model.specs.Shape.{cells}
-use Rattle.chunk_usage.specs.Handing.{spent}
+use Rattle.chunk_usage.specs.Handing.{consumed}
 use Rattle.chunk_usage.specs.Ledger.{is_used, free_count}
 use Rattle.trie_space.specs.Standing.{Standing}
 use Rattle.evacuate.proofs.EndLaws.{stood_of, stands_again, asked_by, old_cells}
@@ -40,5 +40,5 @@ pub returns-then-is_any_sparse-clause-asks : goal.returns-then-is_any_sparse-cla
 returns-then-is_any_sparse-clause-asks g c version stands =
     let h = subst (λ (r : Option ℕ). Standing (g.C.CellRead.has c.args.cells.now) (is_used c.args.usage.now) (slice_index c.args.usage.now.live) r version) c.in-Some.is stands in
     let most = old_cells {has = g.C.CellRead.has} {s = c.args.cells.now} {l = c.args.usage.now} (stood_of h.1) in
-    let paid : spent c.empty_sparse-new.new.usage ≤ 769 * (length c.args.usage.now.given - free_count c.args.usage.now) + cells version = let p = c.empty_sparse-new.ensures.paid in omega arith in
+    let paid : consumed c.empty_sparse-new.new.usage ≤ 769 * (length c.args.usage.now.given - free_count c.args.usage.now) + cells version = let p = c.empty_sparse-new.ensures.paid in omega arith in
     asked_by c.args.usage.now c.empty_sparse-new.new.usage c.empty_sparse-new.ensures.count (cells version) paid c.empty_sparse-new.result.1 c.empty_sparse-new.ensures.stopped

@@ -53,4 +53,4 @@ returns-clause-tried g c =
     let wide : lent.chunks ≡ length u.given = same_chunks _ _ _ _ back.size c.requires.wide (same_words _ _ (sym c.requires.lent.0)) in
     tried_of c.lend-cells.result lent seat.place.me.0 c.into_joined.result.place.me.0 u c.change_trie-outcome.new.usage
     (lent_begins _ _ _ _ _ c.lend-cells.ensures.cells c.requires.lent.1 chunks) (lent_back _ lent _ _ back.cells c.requires.lent.1) (lent_seat _ _ _ _ back.seat c.requires.lent.1)
-    (leaves_of trie.frame trie.ready) wide seat.passes c.requires.agrees c.args.root c.args.change.now c.change_trie-outcome.result trie.frame.spares trie.done trie.refused trie.denied trie.stays trie.unchanged trie.full trie.asked trie.spends
+    (leaves_of trie.frame trie.ready) wide seat.passes c.requires.agrees c.args.root c.args.change.now c.change_trie-outcome.result trie.frame.spares trie.done trie.refused trie.denied trie.stays trie.unchanged trie.full trie.asked trie.consumes

@@ -56,14 +56,14 @@ returns-in-Replace-clause-stays g c = if_err _ _ c.replace.result (λ e kept es 
 pub returns-in-Delete-clause-stays : goal.returns-in-Delete-clause-stays
 returns-in-Delete-clause-stays g c = if_err _ _ c.delete.result (λ e kept es is. record { stands = kept es is.stands; tells = is.tells }) c.delete.ensures.refused
 
-pub returns-in-Insert-clause-spends : goal.returns-in-Insert-clause-spends
-returns-in-Insert-clause-spends g c = rw c.in-Insert.is c.insert.ensures.spends
+pub returns-in-Insert-clause-consumes : goal.returns-in-Insert-clause-consumes
+returns-in-Insert-clause-consumes g c = rw c.in-Insert.is c.insert.ensures.consumes
 
-pub returns-in-Replace-clause-spends : goal.returns-in-Replace-clause-spends
-returns-in-Replace-clause-spends g c = rw c.in-Replace.is c.replace.ensures.spends
+pub returns-in-Replace-clause-consumes : goal.returns-in-Replace-clause-consumes
+returns-in-Replace-clause-consumes g c = rw c.in-Replace.is c.replace.ensures.consumes
 
-pub returns-in-Delete-clause-spends : goal.returns-in-Delete-clause-spends
-returns-in-Delete-clause-spends g c = rw c.in-Delete.is c.delete.ensures.spends
+pub returns-in-Delete-clause-consumes : goal.returns-in-Delete-clause-consumes
+returns-in-Delete-clause-consumes g c = rw c.in-Delete.is c.delete.ensures.consumes
 
 pub returns-in-Insert-clause-asked : goal.returns-in-Insert-clause-asked
 returns-in-Insert-clause-asked g c = rw c.in-Insert.is c.insert.ensures.asked

@@ -21,13 +21,13 @@ returns-in-None-clause-with g c = ok_map c.pair_with.result (λ change with item
 pub returns-in-Some-clause-with : goal.returns-in-Some-clause-with
 returns-in-Some-clause-with g c = ok_map c.join_twigs.result (λ change with item end x. with c.args.node item end x (c.in-Some.ensures.branch 0 end x.top.tree x.top.is)) c.join_twigs.ensures.with
 
-pub returns-in-Some-clause-spends : goal.returns-in-Some-clause-spends
-returns-in-Some-clause-spends g c item end x = let p = among_path x (c.in-Some.ensures.branch 0 end x.top.tree x.top.is) c.in-Some.ensures.at in let s = c.join_twigs.ensures.spends in omega arith
+pub returns-in-Some-clause-consumes : goal.returns-in-Some-clause-consumes
+returns-in-Some-clause-consumes g c item end x = let p = among_path x (c.in-Some.ensures.branch 0 end x.top.tree x.top.is) c.in-Some.ensures.at in let s = c.join_twigs.ensures.consumes in omega arith
 
 pub returns-in-Some-clause-copies : goal.returns-in-Some-clause-copies
 returns-in-Some-clause-copies g c =
     let a = c.requires.asks in let x = a.asks in
-    let p = among_few x (c.in-Some.ensures.branch 0 a.end x.top.tree x.top.is) c.in-Some.ensures.at in let s = c.join_twigs.ensures.spends in omega arith
+    let p = among_few x (c.in-Some.ensures.branch 0 a.end x.top.tree x.top.is) c.in-Some.ensures.at in let s = c.join_twigs.ensures.consumes in omega arith
 
 pub returns-in-None-clause-asked : goal.returns-in-None-clause-asked
 returns-in-None-clause-asked g c = err_map c.pair_with.result (λ full two item end x. first_of 2 full.needed (map suc (branches_on_path c.args.key.now end)) (sym two)) c.pair_with.ensures.asked

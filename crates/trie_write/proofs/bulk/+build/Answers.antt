@@ -82,7 +82,7 @@ build_branch-lay_row-requires-clause-some g t c =
 
 pub build_branch-returns-in_err-twigs-clause-stopped : goal.build_branch-returns-in_err-twigs-clause-stopped
 build_branch-returns-in_err-twigs-clause-stopped g t c = err_all c.from_residual-in_err-twigs.result (λ _ base es b.
-    building.stopped_here (c.loop-beside.invariant.making base es b) (c.in_default.ensures.none refl) (let n = ap (λ (xs : List Cell). length xs) c.as_slice.ensures.cells in let s = c.lay_row.ensures.spends in omega arith))
+    building.stopped_here (c.loop-beside.invariant.making base es b) (c.in_default.ensures.none refl) (let n = ap (λ (xs : List Cell). length xs) c.as_slice.ensures.cells in let s = c.lay_row.ensures.consumes in omega arith))
 
 pub build_branch-pack-cell-requires : goal.build_branch-pack-cell-requires
 build_branch-pack-cell-requires g t c =
@@ -96,7 +96,7 @@ build_branch-returns-clause-built g t c base es b =
     let frame = c.in_ok-twigs.ensures.frame in
     building.branch_built (c.loop-beside.invariant.making base es b) (c.in_default.ensures.none refl) handed frame.stays frame.grows.stays
     (λ i x e. c.in_ok-twigs.ensures.written i x (subst (λ (cs : List Cell). slice_get cs i ≡ Some x) (sym c.as_slice.ensures.cells) e))
-    (let n = ap (λ (xs : List Cell). length xs) c.as_slice.ensures.cells in let s = c.in_ok-twigs.ensures.spends in omega arith) c.pack-cell.ensures
+    (let n = ap (λ (xs : List Cell). length xs) c.as_slice.ensures.cells in let s = c.in_ok-twigs.ensures.consumes in omega arith) c.pack-cell.ensures
 
 pub build_branch-returns-clause-shorter : goal.build_branch-returns-clause-shorter
 build_branch-returns-clause-shorter g t c = c.loop-beside.invariant.went (c.in_default.ensures.none refl)
@@ -106,7 +106,7 @@ build_branch-returns-clause-shorter g t c = c.loop-beside.invariant.went (c.in_d
 pub build_front-returns-in_err-cell-clause-stopped : goal.build_front-returns-in_err-cell-clause-stopped
 build_front-returns-in_err-cell-clause-stopped g t c =
     let split = rw c.unwrap.ensures at c.split_first.ensures.cases in
-    err_all c.from_residual.result (λ _. building.leaf_stopped (entry_of c.unwrap.result.0.now) (entries_of_items c.unwrap.result.1.now) (item_entry c.unwrap.result.0.now) (ap entries_of_items split.0) c.build_leaf.ensures.spends)
+    err_all c.from_residual.result (λ _. building.leaf_stopped (entry_of c.unwrap.result.0.now) (entries_of_items c.unwrap.result.1.now) (item_entry c.unwrap.result.0.now) (ap entries_of_items split.0) c.build_leaf.ensures.consumes)
 
 pub build_front-loop-above-init : goal.build_front-loop-above-init
 build_front-loop-above-init g t c =

@@ -9,17 +9,17 @@ use Rattle.trie_write.proofs.ItemLaws.{item_entry}
 use Rattle.trie_write.proofs.BuildLaws.{leaf_built, leaf_node}
 use Rattle.trie_write.proofs.bulk.build_leaf.Goals as goal
 
-pub returns-in_err-there-clause-spends : goal.returns-in_err-there-clause-spends
-returns-in_err-there-clause-spends g c =
+pub returns-in_err-there-clause-consumes : goal.returns-in_err-there-clause-consumes
+returns-in_err-there-clause-consumes g c =
     let n = entry_cells (entry_of c.args.item.now) (item_entry c.args.item.now) in
     let e = ap (λ (xs : List ℕ). length xs) c.octets.ensures.octets in
-    let s = c.lay_item.ensures.spends in omega arith
+    let s = c.lay_item.ensures.consumes in omega arith
 
-pub returns-clause-spends : goal.returns-clause-spends
-returns-clause-spends g c =
+pub returns-clause-consumes : goal.returns-clause-consumes
+returns-clause-consumes g c =
     let n = entry_cells (entry_of c.args.item.now) (item_entry c.args.item.now) in
     let e = ap (λ (xs : List ℕ). length xs) c.octets.ensures.octets in
-    let s = c.lay_item.ensures.spends in omega arith
+    let s = c.lay_item.ensures.consumes in omega arith
 
 pub pack-requires : goal.pack-requires
 pack-requires g c = leaf_node _ (with_item c.octets.result.now) (subst (λ (item : List ℕ). IsEntry (with_item item)) (sym c.octets.ensures.octets) c.octets.ensures.entry) (c.leaf.ensures.len ∙ c.in_ok-there.ensures.len) c.leaf.ensures.at c.in_ok-there.ensures.handed.are
@@ -32,7 +32,7 @@ returns-clause-built g c =
     let is = item_entry c.args.item.now in
     let same = c.octets.ensures.octets in
     let handed = subst (λ (xs : List ℕ). HandedItem (g.U.Space.account c.args.usage.now) (g.U.Space.account c.lay_item.new.usage) (length xs) (extents_in c.in_ok-there.there)) same c.in_ok-there.ensures.handed in
-    let spends = c.in_ok-there.ensures.spends in
+    let consumes = c.in_ok-there.ensures.consumes in
     let cells = ap (λ (xs : List ℕ). cells_in xs) same in (
       extents_in c.in_ok-there.there,
       (is, handed.are),

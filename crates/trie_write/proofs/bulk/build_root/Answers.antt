@@ -3,14 +3,14 @@ use Rattle.trie_write.proofs.BuildLaws.{root_stands, root_cost, stopped_cost}
 use Rattle.trie_write.proofs.ItemLaws.{each_entry}
 use Rattle.trie_write.proofs.bulk.build_root.Goals as goal
 
-pub returns-in_err-whole-clause-spends : goal.returns-in_err-whole-clause-spends
-returns-in_err-whole-clause-spends g c = let s = stopped_cost (each_entry c.args.items.now) c.requires.rising c.in_err-whole.ensures.stopped in omega arith
+pub returns-in_err-whole-clause-consumes : goal.returns-in_err-whole-clause-consumes
+returns-in_err-whole-clause-consumes g c = let s = stopped_cost (each_entry c.args.items.now) c.requires.rising c.in_err-whole.ensures.stopped in omega arith
 
-pub returns-in_err-root-clause-spends : goal.returns-in_err-root-clause-spends
-returns-in_err-root-clause-spends g c = let s = root_cost c.in_ok-whole.ensures.built in let n = c.lay_row.ensures.spends in omega arith
+pub returns-in_err-root-clause-consumes : goal.returns-in_err-root-clause-consumes
+returns-in_err-root-clause-consumes g c = let s = root_cost c.in_ok-whole.ensures.built in let n = c.lay_row.ensures.consumes in omega arith
 
-pub returns-clause-spends : goal.returns-clause-spends
-returns-clause-spends g c = let s = root_cost c.in_ok-whole.ensures.built in let n = c.lay_row.ensures.spends in omega arith
+pub returns-clause-consumes : goal.returns-clause-consumes
+returns-clause-consumes g c = let s = root_cost c.in_ok-whole.ensures.built in let n = c.lay_row.ensures.consumes in omega arith
 
 pub returns-clause-built : goal.returns-clause-built
 returns-clause-built g c =

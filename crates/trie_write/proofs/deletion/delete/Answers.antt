@@ -29,15 +29,15 @@ returns-in_ok-delete_item-in-Some-clause-outside g c q x b h =
     let o = beyond_key c.in-Some.ensures.same c.in-Some.ensures.root q b c.in-Some.ensures.there in
     c.delete_item.ensures.outside o.0 o.1 o.2 q x b.0 o.3 (subst (λ s. g.C.CellRead.has s q x) (sym c.in-Some.ensures.same) h)
 
-pub returns-in_ok-delete_item-in-Some-clause-spends : goal.returns-in_ok-delete_item-in-Some-clause-spends
-returns-in_ok-delete_item-in-Some-clause-spends g c n on =
+pub returns-in_ok-delete_item-in-Some-clause-consumes : goal.returns-in_ok-delete_item-in-Some-clause-consumes
+returns-in_ok-delete_item-in-Some-clause-consumes g c n on =
     let o = on_path c.in-Some.ensures.same c.in-Some.ensures.root n on c.in-Some.ensures.there in
-    let m = c.delete_item.ensures.spends o.0 o.1 o.2 in let e = o.3 in omega arith
+    let m = c.delete_item.ensures.consumes o.0 o.1 o.2 in let e = o.3 in omega arith
 
-pub returns-in_err-delete_item-in-Some-clause-spends : goal.returns-in_err-delete_item-in-Some-clause-spends
-returns-in_err-delete_item-in-Some-clause-spends g c n on =
+pub returns-in_err-delete_item-in-Some-clause-consumes : goal.returns-in_err-delete_item-in-Some-clause-consumes
+returns-in_err-delete_item-in-Some-clause-consumes g c n on =
     let o = on_path c.in-Some.ensures.same c.in-Some.ensures.root n on c.in-Some.ensures.there in
-    let m = c.delete_item.ensures.spends o.0 o.1 o.2 in let e = o.3 in omega arith
+    let m = c.delete_item.ensures.consumes o.0 o.1 o.2 in let e = o.3 in omega arith
 
 pub returns-in_err-delete_item-in-Some-clause-asked : goal.returns-in_err-delete_item-in-Some-clause-asked
 returns-in_err-delete_item-in-Some-clause-asked g c f e branches on =

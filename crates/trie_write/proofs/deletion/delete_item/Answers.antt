@@ -34,13 +34,13 @@ let_go-requires-clause-item g c =
 pub returns-in-None : goal.returns-in-None
 returns-in-None g c =
     let same = c.item_below-item.ensures.same ∙ c.last_descent.ensures.same ∙ c.cell-node.ensures.same in
-    let spent = ap (λ (z : Account). z.spent) c.let_go.ensures.rest in
+    let consumed = ap (λ (z : Account). z.consumed) c.let_go.ensures.rest in
     record {
       stands = λ t version h.
           let alone = c.last_descent.ensures.none c.in-None.is h.way _ (same_top g.C.CellRead.has c.cell-node.ensures.same (root_top h c.cell-node.ensures.value)) h.is_way in
           only_gone h alone (only_item h alone (c.last_descent.ensures.same ∙ c.cell-node.ensures.same) c.cell-node.ensures.value c.item_below-item.ensures.len c.item_below-item.ensures.there) c.let_go.ensures.counts;
       outside = λ t version h q x used out there. subst (λ s. g.C.CellRead.has s q x) (sym same) there;
-      spends = λ t version h. omega arith;
+      consumes = λ t version h. omega arith;
       copies = λ t version h. omega arith;
       refused = tt;
       asked = tt;
@@ -54,7 +54,7 @@ returns-in-Ok g c =
     record {
       stands = λ t version h. c.in-Ok.ensures.stands t version (drop_asks (c.in-Some.ensures.same ∙ c.cell-node.ensures.same) h (c.in-Some.ensures.last h.way _ (same_top g.C.CellRead.has c.cell-node.ensures.same (root_top h c.cell-node.ensures.value)) h.is_way));
       outside = λ t version h q x used out there. c.drop_leaf.ensures.outside t version (drop_asks (c.in-Some.ensures.same ∙ c.cell-node.ensures.same) h (c.in-Some.ensures.last h.way _ (same_top g.C.CellRead.has c.cell-node.ensures.same (root_top h c.cell-node.ensures.value)) h.is_way)) q x used out (subst (λ s. g.C.CellRead.has s q x) (sym same) there);
-      spends = λ t version h. c.drop_leaf.ensures.spends t version (drop_asks (c.in-Some.ensures.same ∙ c.cell-node.ensures.same) h (c.in-Some.ensures.last h.way _ (same_top g.C.CellRead.has c.cell-node.ensures.same (root_top h c.cell-node.ensures.value)) h.is_way));
+      consumes = λ t version h. c.drop_leaf.ensures.consumes t version (drop_asks (c.in-Some.ensures.same ∙ c.cell-node.ensures.same) h (c.in-Some.ensures.last h.way _ (same_top g.C.CellRead.has c.cell-node.ensures.same (root_top h c.cell-node.ensures.value)) h.is_way));
       copies = λ t version h. c.drop_leaf.ensures.copies t version (drop_asks (c.in-Some.ensures.same ∙ c.cell-node.ensures.same) h (c.in-Some.ensures.last h.way _ (same_top g.C.CellRead.has c.cell-node.ensures.same (root_top h c.cell-node.ensures.value)) h.is_way));
       refused = tt;
       asked = tt;
@@ -68,7 +68,7 @@ returns-in-Err g c =
     record {
       stands = tt;
       outside = λ t version h q x used out there. c.drop_leaf.ensures.outside t version (drop_asks (c.in-Some.ensures.same ∙ c.cell-node.ensures.same) h (c.in-Some.ensures.last h.way _ (same_top g.C.CellRead.has c.cell-node.ensures.same (root_top h c.cell-node.ensures.value)) h.is_way)) q x used out (subst (λ s. g.C.CellRead.has s q x) (sym same) there);
-      spends = λ t version h. c.drop_leaf.ensures.spends t version (drop_asks (c.in-Some.ensures.same ∙ c.cell-node.ensures.same) h (c.in-Some.ensures.last h.way _ (same_top g.C.CellRead.has c.cell-node.ensures.same (root_top h c.cell-node.ensures.value)) h.is_way));
+      consumes = λ t version h. c.drop_leaf.ensures.consumes t version (drop_asks (c.in-Some.ensures.same ∙ c.cell-node.ensures.same) h (c.in-Some.ensures.last h.way _ (same_top g.C.CellRead.has c.cell-node.ensures.same (root_top h c.cell-node.ensures.value)) h.is_way));
       copies = λ t version h. c.drop_leaf.ensures.copies t version (drop_asks (c.in-Some.ensures.same ∙ c.cell-node.ensures.same) h (c.in-Some.ensures.last h.way _ (same_top g.C.CellRead.has c.cell-node.ensures.same (root_top h c.cell-node.ensures.value)) h.is_way));
       refused = refused_same same c.in-Err.ensures.refused;
       asked = λ t version h. c.in-Err.ensures.asked t version (drop_asks (c.in-Some.ensures.same ∙ c.cell-node.ensures.same) h (c.in-Some.ensures.last h.way _ (same_top g.C.CellRead.has c.cell-node.ensures.same (root_top h c.cell-node.ensures.value)) h.is_way));

@@ -12,11 +12,11 @@ use Rattle.trie_write.proofs.deletion.drop_leaf.Goals as goal
 pub without_leaf-requires-clause-last : goal.without_leaf-requires-clause-last
 without_leaf-requires-clause-last g c = let d = c.requires.there.asks in record { lower = d.last.lower; entry = d.there.entry; first = d.there.first; last = leaf_descent d }
 
-pub returns-in_err-change-clause-spends : goal.returns-in_err-change-clause-spends
-returns-in_err-change-clause-spends g c t version d = let s = c.without_leaf.ensures.spends in let p = path_parts d in omega arith
+pub returns-in_err-change-clause-consumes : goal.returns-in_err-change-clause-consumes
+returns-in_err-change-clause-consumes g c t version d = let s = c.without_leaf.ensures.consumes in let p = path_parts d in omega arith
 
 pub returns-in_err-change-clause-copies : goal.returns-in_err-change-clause-copies
-returns-in_err-change-clause-copies g c t version d = let s = c.without_leaf.ensures.spends in let n = last_n (leaf_descent d) in let k = (last_known (leaf_descent d)).few in omega arith
+returns-in_err-change-clause-copies g c t version d = let s = c.without_leaf.ensures.consumes in let n = last_n (leaf_descent d) in let k = (last_known (leaf_descent d)).few in omega arith
 
 pub returns-in_err-change-clause-asked : goal.returns-in_err-change-clause-asked
 returns-in_err-change-clause-asked g c = err_on _ c.from_residual.result c.from_residual.ensures.1 (λ t version d.
@@ -35,13 +35,13 @@ returns g c = record {
   outside = λ t version d. let w = c.in_ok-change.ensures.without _ _ _ (leaf_descent d) in
       outside_put c.args.root d.last.upper _ c.in_ok-change.ensures.frame
       (c.put_change.ensures.outside d.last.upper _ w.new (put_asks d.there.stands d.last.upper _ (parts_is d) (upper_way d) c.in_ok-change.ensures.frame c.in_ok-change.ensures.taken w.makes)) (parts_is d);
-  spends = λ t version d. let w = c.in_ok-change.ensures.without _ _ _ (leaf_descent d) in
-      let s = c.without_leaf.ensures.spends in
-      let p = c.put_change.ensures.spends d.last.upper _ w.new (put_asks d.there.stands d.last.upper _ (parts_is d) (upper_way d) c.in_ok-change.ensures.frame c.in_ok-change.ensures.taken w.makes) in
+  consumes = λ t version d. let w = c.in_ok-change.ensures.without _ _ _ (leaf_descent d) in
+      let s = c.without_leaf.ensures.consumes in
+      let p = c.put_change.ensures.consumes d.last.upper _ w.new (put_asks d.there.stands d.last.upper _ (parts_is d) (upper_way d) c.in_ok-change.ensures.frame c.in_ok-change.ensures.taken w.makes) in
       let m = copied_most (g.U.Space.account c.without_leaf.new.usage).mutable 1 c.args.root d.last.upper in let q = path_parts d in omega arith;
   copies = λ t version d. let w = c.in_ok-change.ensures.without _ _ _ (leaf_descent d) in
-      let s = c.without_leaf.ensures.spends in
-      let p = c.put_change.ensures.spends d.last.upper _ w.new (put_asks d.there.stands d.last.upper _ (parts_is d) (upper_way d) c.in_ok-change.ensures.frame c.in_ok-change.ensures.taken w.makes) in
+      let s = c.without_leaf.ensures.consumes in
+      let p = c.put_change.ensures.consumes d.last.upper _ w.new (put_asks d.there.stands d.last.upper _ (parts_is d) (upper_way d) c.in_ok-change.ensures.frame c.in_ok-change.ensures.taken w.makes) in
       let n = last_n (leaf_descent d) in let k = (last_known (leaf_descent d)).few in
       let v = copied_way (g.U.Space.account c.args.usage.now).mutable (g.U.Space.account c.without_leaf.new.usage).mutable c.args.descent.branch.offset c.args.key.now c.args.root t d.last.upper _ d.there.stands.trie.shape (parts_is d) (upper_way d).along c.in_ok-change.ensures.frame.grows.fresher in omega arith;
   refused = err_map c.put_change.result (λ full b. refused_back c.in_ok-change.ensures.frame c.in_ok-change.ensures.taken b) c.put_change.ensures.refused;

@@ -46,15 +46,15 @@ pub returns-in_err-insert_further-in-Some-compare-clause-exists : goal.returns-i
 returns-in_err-insert_further-in-Some-compare-clause-exists g c version standing tells =
     (λ e. absurd (not_refused _ _ c.from_residual-in_err-insert_further-in-Some-compare.ensures.1 e), λ x. absurd (never_there g.C.CellRead.has g.U.Space.account c.args.usage.now c.in-Some.is c.cell-node.ensures.value c.cell-node.ensures.same c.compare.ensures.same c.compare.ensures.value c.in-Some-compare.is version standing tells x.0 x.1 x.2))
 
-pub returns-in_ok-insert_further-in-Some-compare-clause-spends : goal.returns-in_ok-insert_further-in-Some-compare-clause-spends
-returns-in_ok-insert_further-in-Some-compare-clause-spends g c n on =
+pub returns-in_ok-insert_further-in-Some-compare-clause-consumes : goal.returns-in_ok-insert_further-in-Some-compare-clause-consumes
+returns-in_ok-insert_further-in-Some-compare-clause-consumes g c n on =
     let o = missing_path g.C.CellRead.has g.U.Space.account c.args.usage.now c.in-Some.is c.cell-node.ensures.value c.cell-node.ensures.same c.compare.ensures.same c.compare.ensures.value c.in-Some-compare.is n on in
-    let m = c.insert_further.ensures.spends o.0 o.1 o.2 in let e = o.3 in omega arith
+    let m = c.insert_further.ensures.consumes o.0 o.1 o.2 in let e = o.3 in omega arith
 
-pub returns-in_err-insert_further-in-Some-compare-clause-spends : goal.returns-in_err-insert_further-in-Some-compare-clause-spends
-returns-in_err-insert_further-in-Some-compare-clause-spends g c n on =
+pub returns-in_err-insert_further-in-Some-compare-clause-consumes : goal.returns-in_err-insert_further-in-Some-compare-clause-consumes
+returns-in_err-insert_further-in-Some-compare-clause-consumes g c n on =
     let o = missing_path g.C.CellRead.has g.U.Space.account c.args.usage.now c.in-Some.is c.cell-node.ensures.value c.cell-node.ensures.same c.compare.ensures.same c.compare.ensures.value c.in-Some-compare.is n on in
-    let m = c.insert_further.ensures.spends o.0 o.1 o.2 in let e = o.3 in omega arith
+    let m = c.insert_further.ensures.consumes o.0 o.1 o.2 in let e = o.3 in omega arith
 
 pub returns-in_err-insert_first-clause-asked : goal.returns-in_err-insert_first-clause-asked
 returns-in_err-insert_first-clause-asked g c f e branches on =

@@ -13,8 +13,8 @@ put_change-requires-clause-asks g c =
     let h = c.requires.missing.asks in let w = c.in_ok-change.ensures.with _ _ h in
     record { way = h.way; end = h.end; u = w.new; asks = put_asks h.stands h.way h.end h.is h.is_way c.in_ok-change.ensures.frame c.in_ok-change.ensures.taken w.makes }
 
-pub returns-in_err-change-clause-spends : goal.returns-in_err-change-clause-spends
-returns-in_err-change-clause-spends g c t version h = let s = c.new_leaf.ensures.spends t version h in let p = lacks_path h in omega arith
+pub returns-in_err-change-clause-consumes : goal.returns-in_err-change-clause-consumes
+returns-in_err-change-clause-consumes g c t version h = let s = c.new_leaf.ensures.consumes t version h in let p = lacks_path h in omega arith
 
 pub returns-in_err-change-clause-copies : goal.returns-in_err-change-clause-copies
 returns-in_err-change-clause-copies g c t version h = let s = c.new_leaf.ensures.copies in omega arith
@@ -30,13 +30,13 @@ returns g c = record {
   outside = λ t version h. let w = c.in_ok-change.ensures.with t version h in
       outside_put c.args.root h.way h.end c.in_ok-change.ensures.frame
       (c.put_change.ensures.outside h.way h.end w.new (put_asks h.stands h.way h.end h.is h.is_way c.in_ok-change.ensures.frame c.in_ok-change.ensures.taken w.makes)) h.is;
-  spends = λ t version h. let w = c.in_ok-change.ensures.with t version h in
-      let s = c.new_leaf.ensures.spends t version h in
-      let p = c.put_change.ensures.spends h.way h.end w.new (put_asks h.stands h.way h.end h.is h.is_way c.in_ok-change.ensures.frame c.in_ok-change.ensures.taken w.makes) in
+  consumes = λ t version h. let w = c.in_ok-change.ensures.with t version h in
+      let s = c.new_leaf.ensures.consumes t version h in
+      let p = c.put_change.ensures.consumes h.way h.end w.new (put_asks h.stands h.way h.end h.is h.is_way c.in_ok-change.ensures.frame c.in_ok-change.ensures.taken w.makes) in
       let m = copied_most (g.U.Space.account c.new_leaf.new.usage).mutable 1 c.args.root h.way in let q = lacks_path h in omega arith;
   copies = λ t version h. let w = c.in_ok-change.ensures.with t version h in
       let s = c.new_leaf.ensures.copies in
-      let p = c.put_change.ensures.spends h.way h.end w.new (put_asks h.stands h.way h.end h.is h.is_way c.in_ok-change.ensures.frame c.in_ok-change.ensures.taken w.makes) in
+      let p = c.put_change.ensures.consumes h.way h.end w.new (put_asks h.stands h.way h.end h.is h.is_way c.in_ok-change.ensures.frame c.in_ok-change.ensures.taken w.makes) in
       let v = copied_way (g.U.Space.account c.args.usage.now).mutable (g.U.Space.account c.new_leaf.new.usage).mutable c.args.first.place c.args.key.now c.args.root t h.way h.end h.stands.trie.shape h.is h.is_way.along c.in_ok-change.ensures.frame.grows.fresher in omega arith;
   refused = err_map c.put_change.result (λ full b. refused_back c.in_ok-change.ensures.frame c.in_ok-change.ensures.taken b) c.put_change.ensures.refused;
   asked = err_map c.put_change.result (λ full n t version h. let w = c.in_ok-change.ensures.with t version h in

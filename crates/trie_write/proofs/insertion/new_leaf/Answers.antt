@@ -40,19 +40,19 @@ returns-in-Ok-clause-with g c t version h =
 pub returns-in-Ok-clause-taken : goal.returns-in-Ok-clause-taken
 returns-in-Ok-clause-taken g c = taken_both c.in_ok-there.there c.args.item.now c.in_ok-there.ensures.len c.in_ok-there.ensures.handed c.in_ok-there.ensures.frame.grows.stays c.in-Ok.ensures.handed c.in-Ok.ensures.frame.grows.stays c.in-Ok.ensures.item
 
-pub returns-in-Ok-clause-spends : goal.returns-in-Ok-clause-spends
-returns-in-Ok-clause-spends g c t version h =
+pub returns-in-Ok-clause-consumes : goal.returns-in-Ok-clause-consumes
+returns-in-Ok-clause-consumes g c t version h =
     let same = c.end_node-node.ensures.same ∙ c.cell-top.ensures.same in
-    let m = c.with_leaf.ensures.spends c.args.item.now h.end (with_asks h (leads_entry c.requires.leads (λ i. Fits-lt-pow {w = w8} (c.type_inv.item i))) (laid_is c.lay_item.new.usage c.in_ok-there.ensures.len c.in_ok-there.ensures.handed c.in_ok-there.ensures.lies) (frame_same same c.in_ok-there.ensures.frame)
+    let m = c.with_leaf.ensures.consumes c.args.item.now h.end (with_asks h (leads_entry c.requires.leads (λ i. Fits-lt-pow {w = w8} (c.type_inv.item i))) (laid_is c.lay_item.new.usage c.in_ok-there.ensures.len c.in_ok-there.ensures.handed c.in_ok-there.ensures.lies) (frame_same same c.in_ok-there.ensures.frame)
     (c.end_node-node.ensures.end h.way h.end (same_top g.C.CellRead.has c.cell-top.ensures.same (lacks_top h c.cell-top.ensures.value)) h.is_way)) in
-    let s = c.lay_item.ensures.spends in omega arith
+    let s = c.lay_item.ensures.consumes in omega arith
 
-pub returns-in-Err-clause-spends : goal.returns-in-Err-clause-spends
-returns-in-Err-clause-spends g c t version h =
+pub returns-in-Err-clause-consumes : goal.returns-in-Err-clause-consumes
+returns-in-Err-clause-consumes g c t version h =
     let same = c.end_node-node.ensures.same ∙ c.cell-top.ensures.same in
-    let m = c.with_leaf.ensures.spends c.args.item.now h.end (with_asks h (leads_entry c.requires.leads (λ i. Fits-lt-pow {w = w8} (c.type_inv.item i))) (laid_is c.lay_item.new.usage c.in_ok-there.ensures.len c.in_ok-there.ensures.handed c.in_ok-there.ensures.lies) (frame_same same c.in_ok-there.ensures.frame)
+    let m = c.with_leaf.ensures.consumes c.args.item.now h.end (with_asks h (leads_entry c.requires.leads (λ i. Fits-lt-pow {w = w8} (c.type_inv.item i))) (laid_is c.lay_item.new.usage c.in_ok-there.ensures.len c.in_ok-there.ensures.handed c.in_ok-there.ensures.lies) (frame_same same c.in_ok-there.ensures.frame)
     (c.end_node-node.ensures.end h.way h.end (same_top g.C.CellRead.has c.cell-top.ensures.same (lacks_top h c.cell-top.ensures.value)) h.is_way)) in
-    let s = c.lay_item.ensures.spends in let r = ap (λ (z : Account). z.spent) c.release_item.ensures.rest in omega arith
+    let s = c.lay_item.ensures.consumes in let r = ap (λ (z : Account). z.consumed) c.release_item.ensures.rest in omega arith
 
 pub returns-in_err-there-clause-asked : goal.returns-in_err-there-clause-asked
 returns-in_err-there-clause-asked g c = err_on _ c.from_residual.result c.from_residual.ensures.1 (λ t version h. Contains-append_left (extent_sizes (length c.args.item.now)) (2 ∷ map suc (branches_on_path c.args.key.now h.end)) _ c.in_err-there.ensures.asked)
@@ -65,7 +65,7 @@ returns-in-Err-clause-asked g c t version h =
     (c.end_node-node.ensures.end h.way h.end (same_top g.C.CellRead.has c.cell-top.ensures.same (lacks_top h c.cell-top.ensures.value)) h.is_way)))
 
 pub returns-in-Err-clause-copies : goal.returns-in-Err-clause-copies
-returns-in-Err-clause-copies g c = let m = c.with_leaf.ensures.copies in let s = c.lay_item.ensures.spends in let r = ap (λ (z : Account). z.spent) c.release_item.ensures.rest in omega arith
+returns-in-Err-clause-copies g c = let m = c.with_leaf.ensures.copies in let s = c.lay_item.ensures.consumes in let r = ap (λ (z : Account). z.consumed) c.release_item.ensures.rest in omega arith
 
 pub returns-in-Ok-clause-frame : goal.returns-in-Ok-clause-frame
 returns-in-Ok-clause-frame g c = frame_same (c.end_node-node.ensures.same ∙ c.cell-top.ensures.same) (frame_then c.in_ok-there.ensures.frame c.in-Ok.ensures.frame)

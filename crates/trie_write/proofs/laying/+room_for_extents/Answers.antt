@@ -37,17 +37,17 @@ room_for-requires-2-clause-some g t c = let e = linked_is in let f = c.linked_ex
 pub room_for-requires-2-clause-few : goal.room_for-requires-2-clause-few
 room_for-requires-2-clause-few g t c = let e = linked_is in let f = c.linked_extent.ensures in omega arith
 
-pub returns-in-Err-clause-spends : goal.returns-in-Err-clause-spends
-returns-in-Err-clause-spends g t c =
-    let a = c.room_for_extents.ensures.spends in let b = c.room_for-2.ensures.spends in let r = ap (λ (z : Account). z.spent) c.release_extents.ensures.rest in
+pub returns-in-Err-clause-consumes : goal.returns-in-Err-clause-consumes
+returns-in-Err-clause-consumes g t c =
+    let a = c.room_for_extents.ensures.consumes in let b = c.room_for-2.ensures.consumes in let r = ap (λ (z : Account). z.consumed) c.release_extents.ensures.rest in
     let f = c.linked_extent.ensures in let m = cells_behind c.args.len (omega arith) in omega arith
 
 pub returns-in-Err-clause-asked : goal.returns-in-Err-clause-asked
 returns-in-Err-clause-asked g t c = linked_asked c.args.len c.in-Err.full.needed (omega arith) (c.in-Err.ensures.asked ∙ c.linked_extent.ensures)
 
-pub returns-in-Ok-clause-spends : goal.returns-in-Ok-clause-spends
-returns-in-Ok-clause-spends g t c =
-    let a = c.room_for_extents.ensures.spends in let b = c.room_for-2.ensures.spends in
+pub returns-in-Ok-clause-consumes : goal.returns-in-Ok-clause-consumes
+returns-in-Ok-clause-consumes g t c =
+    let a = c.room_for_extents.ensures.consumes in let b = c.room_for-2.ensures.consumes in
     let f = c.linked_extent.ensures in let m = cells_behind c.args.len (omega arith) in omega arith
 
 pub returns-in-Ok-clause-handed : goal.returns-in-Ok-clause-handed

@@ -12,7 +12,7 @@ use Rattle.trie_write.proofs.CopyLaws.{n_here, cell_there, cell_used, part_count
 use Rattle.trie_write.proofs.mutable.+copy_way.Goals as goal
 
 abbrev gives : Cell → ℕ → Copied
-gives node seat = record { node = node; seat = seat }
+gives node slot = record { node = node; slot = slot }
 
 pub next_descent-requires : goal.next_descent-requires
 next_descent-requires g t c = let a = c.requires.asks.asks in record { way = (c.args.low, record { way = c.requires.asks.way; end = c.requires.asks.end; top = a.hangs.top; is_way = a.is_way }) }
@@ -30,10 +30,10 @@ room_for-requires-clause-few g t c =
     let few = (known a.hangs.top a.is_way descent).few in
     let n = n_here a descent in let m = c.twig_count-n.ensures in omega arith
 
-pub returns-in_err-to-in-Some-clause-spends : goal.returns-in_err-to-in-Some-clause-spends
-returns-in_err-to-in-Some-clause-spends g t c way end asks =
+pub returns-in_err-to-in-Some-clause-consumes : goal.returns-in_err-to-in-Some-clause-consumes
+returns-in_err-to-in-Some-clause-consumes g t c way end asks =
     let descent = (c.in-Some.ensures.on c.args.low way end asks.hangs.top asks.is_way).through in
-    let n = along_here asks descent in let m = c.twig_count-n.ensures in let s = c.room_for.ensures.spends in omega arith
+    let n = along_here asks descent in let m = c.twig_count-n.ensures in let s = c.room_for.ensures.consumes in omega arith
 
 pub returns-in_err-to-in-Some-clause-asked : goal.returns-in_err-to-in-Some-clause-asked
 returns-in_err-to-in-Some-clause-asked g t c = err_on _ c.from_residual.result c.from_residual.ensures.1 (λ way end asks.
@@ -50,16 +50,16 @@ copy_way-requires g t c κs within =
 
 pub returns-in-None-clause-copied : goal.returns-in-None-clause-copied
 returns-in-None-clause-copied g t c way end asks =
-    subst (λ (x : Copied). IsCopied g.C.CellRead.has g.C.CellWrite.given g.U.Space.account c.args.usage.now c.next_descent.new.cells c.args.usage.now c.args.place c.args.low c.args.key.now c.args.from.at way end x.node x.seat) (sym c.left_alone.ensures)
+    subst (λ (x : Copied). IsCopied g.C.CellRead.has g.C.CellWrite.given g.U.Space.account c.args.usage.now c.next_descent.new.cells c.args.usage.now c.args.place c.args.low c.args.key.now c.args.from.at way end x.node x.slot) (sym c.left_alone.ensures)
     (copied_none (same_asks c.next_descent.ensures.same asks) (c.next_descent.ensures.none c.in-None.is c.args.low way end asks.hangs.top asks.is_way))
 
-pub returns-in-Err-clause-spends : goal.returns-in-Err-clause-spends
-returns-in-Err-clause-spends g t c way end asks =
+pub returns-in-Err-clause-consumes : goal.returns-in-Err-clause-consumes
+returns-in-Err-clause-consumes g t c way end asks =
     let a = same_asks c.next_descent.ensures.same asks in
     let told = c.in-Some.ensures.on c.args.low way end asks.hangs.top asks.is_way in
-    let n = along_here a (told.through) in let m = c.twig_count-n.ensures in let s = c.room_for.ensures.spends in
-    let d = c.copy_way.ensures.spends told.through.rest end (asks_after a (told.through) c.in_ok-to-in-Some.ensures.handed c.in_ok-to-in-Some.ensures.frame told.next_is) in
-    let r = ap (λ (z : Account). z.spent) c.release.ensures.rest in omega arith
+    let n = along_here a (told.through) in let m = c.twig_count-n.ensures in let s = c.room_for.ensures.consumes in
+    let d = c.copy_way.ensures.consumes told.through.rest end (asks_after a (told.through) c.in_ok-to-in-Some.ensures.handed c.in_ok-to-in-Some.ensures.frame told.next_is) in
+    let r = ap (λ (z : Account). z.consumed) c.release.ensures.rest in omega arith
 
 pub returns-in-Err-clause-asked : goal.returns-in-Err-clause-asked
 returns-in-Err-clause-asked g t c way end asks =
@@ -105,20 +105,20 @@ returns-in-Ok-clause-copied g t c way end asks =
     let told = c.in-Some.ensures.on c.args.low way end asks.hangs.top asks.is_way in
     let descent = told.through in
     let n = c.twig_count-n.ensures in
-    let is : c.move_twigs.result ≡ gives (branch_cell (record c.in-Some.descent.branch { twigs = c.in_ok-to-in-Some.to })) c.in-Ok.copied.seat = ap₂ gives c.move_twigs.ensures.node c.move_twigs.ensures.seat in
-    subst (λ (x : Copied). IsCopied g.C.CellRead.has g.C.CellWrite.given g.U.Space.account c.args.usage.now c.move_twigs.new.cells c.move_twigs.new.usage c.args.place c.args.low c.args.key.now c.args.from.at way end x.node x.seat) (sym is)
+    let is : c.move_twigs.result ≡ gives (branch_cell (record c.in-Some.descent.branch { twigs = c.in_ok-to-in-Some.to })) c.in-Ok.copied.slot = ap₂ gives c.move_twigs.ensures.node c.move_twigs.ensures.slot in
+    subst (λ (x : Copied). IsCopied g.C.CellRead.has g.C.CellWrite.given g.U.Space.account c.args.usage.now c.move_twigs.new.cells c.move_twigs.new.usage c.args.place c.args.low c.args.key.now c.args.from.at way end x.node x.slot) (sym is)
     (copied_step a descent told.index_is (subst (Handed (g.U.Space.account c.args.usage.now) (g.U.Space.account c.room_for.new.usage) c.in_ok-to-in-Some.to) n c.in_ok-to-in-Some.ensures.handed)
     (subst (MayWrite g.C.CellWrite.kept g.C.CellWrite.given c.room_for.new.cells c.in_ok-to-in-Some.to) n c.in_ok-to-in-Some.ensures.blank) c.in_ok-to-in-Some.ensures.frame c.in-Ok.ensures.frame
     (c.in-Ok.ensures.copied told.through.rest end (asks_after a descent c.in_ok-to-in-Some.ensures.handed c.in_ok-to-in-Some.ensures.frame told.next_is))
     c.move_twigs.ensures.copied c.move_twigs.ensures.twig c.move_twigs.ensures.wrote c.move_twigs.ensures.counts c.move_twigs.ensures.rest c.args.from.at)
 
-pub returns-in-Ok-clause-spends : goal.returns-in-Ok-clause-spends
-returns-in-Ok-clause-spends g t c way end asks =
+pub returns-in-Ok-clause-consumes : goal.returns-in-Ok-clause-consumes
+returns-in-Ok-clause-consumes g t c way end asks =
     let a = same_asks c.next_descent.ensures.same asks in
     let told = c.in-Some.ensures.on c.args.low way end asks.hangs.top asks.is_way in
-    let n = along_here a (told.through) in let m = c.twig_count-n.ensures in let s = c.room_for.ensures.spends in
-    let d = c.copy_way.ensures.spends told.through.rest end (asks_after a (told.through) c.in_ok-to-in-Some.ensures.handed c.in_ok-to-in-Some.ensures.frame told.next_is) in
-    let r = ap (λ (z : Account). z.spent) c.move_twigs.ensures.rest in omega arith
+    let n = along_here a (told.through) in let m = c.twig_count-n.ensures in let s = c.room_for.ensures.consumes in
+    let d = c.copy_way.ensures.consumes told.through.rest end (asks_after a (told.through) c.in_ok-to-in-Some.ensures.handed c.in_ok-to-in-Some.ensures.frame told.next_is) in
+    let r = ap (λ (z : Account). z.consumed) c.move_twigs.ensures.rest in omega arith
 
 pub returns-in-Ok-clause-frame : goal.returns-in-Ok-clause-frame
 returns-in-Ok-clause-frame g t c =

@@ -5,7 +5,7 @@ use Rattle.trie_space.specs.Spaces.{Ready}
 use Rattle.trie_write.specs.Mutable.{IsParted}
 use Rattle.trie_write.proofs.DescentLaws.{known}
 use Rattle.trie_write.proofs.CopyLaws.{n_here, cell_used, old_lies, asks_on}
-use Rattle.trie_write.proofs.SeatLaws.{parted_end, parted_here, parted_on}
+use Rattle.trie_write.proofs.SlotLaws.{parted_end, parted_here, parted_on}
 use Rattle.trie_write.proofs.mutable.+last_mutable.Goals as goal
 
 pub next_descent-requires : goal.next_descent-requires

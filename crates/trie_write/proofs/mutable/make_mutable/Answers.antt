@@ -4,7 +4,7 @@ use Rattle.trie_space.specs.Ways.{twigs_of}
 use Rattle.trie_write.proofs.AskLaws.{later_of}
 use Rattle.trie_space.proofs.SpaceLaws.{fenced_same, refused_same, ready_put, ok_map, err_map}
 use Rattle.trie_space.proofs.RootedLaws.{end_used}
-use Rattle.trie_write.proofs.SeatLaws.{same_seat_asks, same_seat}
+use Rattle.trie_write.proofs.SlotLaws.{same_slot_asks, same_slot}
 use Rattle.trie_write.proofs.mutable.make_mutable.Goals as goal
 
 pub cell-node-requires : goal.cell-node-requires
@@ -14,7 +14,7 @@ pub open_below-requires : goal.open_below-requires
 open_below-requires g c =
     let used = end_used [] _ c.requires.asks.asks.rooted in
     record {
-      asks = record { spare = c.requires.asks.spare; way = c.requires.asks.way; end = c.requires.asks.end; asks = same_seat_asks c.cell-node.ensures.same c.requires.asks.asks };
+      asks = record { spare = c.requires.asks.spare; way = c.requires.asks.way; end = c.requires.asks.end; asks = same_slot_asks c.cell-node.ensures.same c.requires.asks.asks };
       node = λ x h. c.cell-node.ensures.value x (subst (λ s. g.C.CellRead.has s c.args.root x) c.cell-node.ensures.same h);
       writable = record {
         in_use = used;
@@ -26,7 +26,7 @@ open_below-requires g c =
 
 pub open_anew-requires : goal.open_anew-requires
 open_anew-requires g c = record {
-  asks = record { spare = c.requires.asks.spare; way = c.requires.asks.way; end = c.requires.asks.end; asks = same_seat_asks c.cell-node.ensures.same c.requires.asks.asks };
+  asks = record { spare = c.requires.asks.spare; way = c.requires.asks.way; end = c.requires.asks.end; asks = same_slot_asks c.cell-node.ensures.same c.requires.asks.asks };
   node = λ x h. c.cell-node.ensures.value x (subst (λ s. g.C.CellRead.has s c.args.root x) c.cell-node.ensures.same h);
   immutable = sym c.is_mutable.ensures.value ∙ c.if-is_mutable.false;
   ready = ready_put c.requires.ready (ap g.C.CellWrite.given c.cell-node.ensures.same) (ap g.C.CellWrite.kept c.cell-node.ensures.same);
@@ -34,20 +34,20 @@ open_anew-requires g c = record {
 
 pub returns-then-is_mutable : goal.returns-then-is_mutable
 returns-then-is_mutable g c = record {
-  seat = ok_map c.open_below.result (λ seat made spare way end a. same_seat c.cell-node.ensures.same (made spare way end (same_seat_asks c.cell-node.ensures.same a))) c.open_below.ensures.seat;
-  spends = λ spare way end a. c.open_below.ensures.spends spare way end (same_seat_asks c.cell-node.ensures.same a);
+  slot = ok_map c.open_below.result (λ slot made spare way end a. same_slot c.cell-node.ensures.same (made spare way end (same_slot_asks c.cell-node.ensures.same a))) c.open_below.ensures.slot;
+  consumes = λ spare way end a. c.open_below.ensures.consumes spare way end (same_slot_asks c.cell-node.ensures.same a);
   refused = err_map c.open_below.result (λ full r. refused_same c.cell-node.ensures.same r) c.open_below.ensures.refused;
-  asked = err_map c.open_below.result (λ full n spare way end a. later_of 1 full.needed (map twigs_of way) (n spare way end (same_seat_asks c.cell-node.ensures.same a))) c.open_below.ensures.asked;
+  asked = err_map c.open_below.result (λ full n spare way end a. later_of 1 full.needed (map twigs_of way) (n spare way end (same_slot_asks c.cell-node.ensures.same a))) c.open_below.ensures.asked;
   frame = fenced_same c.cell-node.ensures.same c.open_below.ensures.frame;
   ready = c.open_below.ensures.ready;
 }
 
 pub returns-else-is_mutable : goal.returns-else-is_mutable
 returns-else-is_mutable g c = record {
-  seat = ok_map c.open_anew.result (λ seat made spare way end a. same_seat c.cell-node.ensures.same (made spare way end (same_seat_asks c.cell-node.ensures.same a))) c.open_anew.ensures.seat;
-  spends = λ spare way end a. c.open_anew.ensures.spends spare way end (same_seat_asks c.cell-node.ensures.same a);
+  slot = ok_map c.open_anew.result (λ slot made spare way end a. same_slot c.cell-node.ensures.same (made spare way end (same_slot_asks c.cell-node.ensures.same a))) c.open_anew.ensures.slot;
+  consumes = λ spare way end a. c.open_anew.ensures.consumes spare way end (same_slot_asks c.cell-node.ensures.same a);
   refused = err_map c.open_anew.result (λ full r. refused_same c.cell-node.ensures.same r) c.open_anew.ensures.refused;
-  asked = err_map c.open_anew.result (λ full n spare way end a. n spare way end (same_seat_asks c.cell-node.ensures.same a)) c.open_anew.ensures.asked;
+  asked = err_map c.open_anew.result (λ full n spare way end a. n spare way end (same_slot_asks c.cell-node.ensures.same a)) c.open_anew.ensures.asked;
   frame = fenced_same c.cell-node.ensures.same c.open_anew.ensures.frame;
   ready = c.open_anew.ensures.ready;
 }

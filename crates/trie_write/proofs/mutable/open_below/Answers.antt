@@ -1,8 +1,8 @@
 use Rattle.std.proofs.Common.{arith}
-use Rattle.trie_space.proofs.SpaceLaws.{err_on, frame_same, fenced_of, fenced_put, ready_put, writable_later, seat_open}
+use Rattle.trie_space.proofs.SpaceLaws.{err_on, frame_same, fenced_of, fenced_put, ready_put, writable_later, slot_open}
 use Rattle.trie_write.proofs.AskLaws.{lower_asked}
 use Rattle.trie_write.proofs.CopyLaws.{same_asks}
-use Rattle.trie_write.proofs.SeatLaws.{root_asks, lower_asks, opened_below}
+use Rattle.trie_write.proofs.SlotLaws.{root_asks, lower_asks, opened_below}
 use Rattle.trie_write.proofs.mutable.open_below.Goals as goal
 
 pub last_mutable-last-requires : goal.last_mutable-last-requires
@@ -14,10 +14,10 @@ copy_way-requires-clause-asks g c =
     let p = c.last_mutable-last.ensures.parted _ c.requires.asks.end (root_asks a c.requires.node) in
     record { way = p.lower; end = c.requires.asks.end; asks = same_asks c.last_mutable-last.ensures.same (lower_asks a p) }
 
-pub returns-in_err-copied-clause-spends : goal.returns-in_err-copied-clause-spends
-returns-in_err-copied-clause-spends g c spare way end a =
+pub returns-in_err-copied-clause-consumes : goal.returns-in_err-copied-clause-consumes
+returns-in_err-copied-clause-consumes g c spare way end a =
     let p = c.last_mutable-last.ensures.parted way end (root_asks a c.requires.node) in
-    let s = c.copy_way.ensures.spends p.lower end (same_asks c.last_mutable-last.ensures.same (lower_asks a p)) in
+    let s = c.copy_way.ensures.consumes p.lower end (same_asks c.last_mutable-last.ensures.same (lower_asks a p)) in
     let e = p.copied 1 in omega arith
 
 pub returns-in_err-copied-clause-asked : goal.returns-in_err-copied-clause-asked
@@ -28,19 +28,19 @@ returns-in_err-copied-clause-asked g c = err_on _ c.from_residual.result c.from_
 pub put-requires : goal.put-requires
 put-requires g c =
     let w = writable_later c.last_mutable-last.ensures.writable c.in_ok-copied.ensures.frame.grows c.in_ok-copied.ensures.frame.given_stays in
-    record { given = w.in_given; unkept = seat_open w c.in_ok-copied.ensures.ready }
+    record { given = w.in_given; unkept = slot_open w c.in_ok-copied.ensures.ready }
 
-pub returns-clause-seat : goal.returns-clause-seat
-returns-clause-seat g c spare way end a =
+pub returns-clause-slot : goal.returns-clause-slot
+returns-clause-slot g c spare way end a =
     let p = c.last_mutable-last.ensures.parted way end (root_asks a c.requires.node) in
     let f = frame_same c.last_mutable-last.ensures.same c.in_ok-copied.ensures.frame in
     opened_below a p (c.in_ok-copied.ensures.copied p.lower end (same_asks c.last_mutable-last.ensures.same (lower_asks a p))) f.stays f.grows.stays c.put.ensures.given
     (writable_later c.last_mutable-last.ensures.writable c.in_ok-copied.ensures.frame.grows c.in_ok-copied.ensures.frame.given_stays) c.put.ensures.written c.put.ensures.others
 
-pub returns-clause-spends : goal.returns-clause-spends
-returns-clause-spends g c spare way end a =
+pub returns-clause-consumes : goal.returns-clause-consumes
+returns-clause-consumes g c spare way end a =
     let p = c.last_mutable-last.ensures.parted way end (root_asks a c.requires.node) in
-    let s = c.copy_way.ensures.spends p.lower end (same_asks c.last_mutable-last.ensures.same (lower_asks a p)) in
+    let s = c.copy_way.ensures.consumes p.lower end (same_asks c.last_mutable-last.ensures.same (lower_asks a p)) in
     let e = p.copied 1 in omega arith
 
 pub returns-clause-frame : goal.returns-clause-frame

@@ -21,8 +21,8 @@ returns-then-old_twigs-eq2-clause-without g c lower e first x =
     let n = c.twig_count.ensures in let gone = c.leaf_gone.ensures in
     same_without (c.cell-other.ensures.same ∙ c.item_below-old_item.ensures.same) (collapsed x (sym n ∙ c.if-old_twigs-eq2.true) (λ d h. gone.cell ∙ c.cell-other.ensures.value d (subst (λ s. g.C.CellRead.has s (c.args.descent.branch.twigs + (1 - c.args.descent.index)) d) (sym c.item_below-old_item.ensures.same) h)) gone.new_twigs gone.new_item (gone.old_twigs ∙ ap (the_span c.args.descent.branch.twigs) n) (gone_item x c.item_below-old_item.ensures.len c.item_below-old_item.ensures.there gone.old_item))
 
-pub returns-then-old_twigs-eq2-clause-spends : goal.returns-then-old_twigs-eq2-clause-spends
-returns-then-old_twigs-eq2-clause-spends g c = let n = c.twig_count.ensures in let e = c.if-old_twigs-eq2.true in omega arith
+pub returns-then-old_twigs-eq2-clause-consumes : goal.returns-then-old_twigs-eq2-clause-consumes
+returns-then-old_twigs-eq2-clause-consumes g c = let n = c.twig_count.ensures in let e = c.if-old_twigs-eq2.true in omega arith
 
 pub copy_apart-requires-clause-index : goal.copy_apart-requires-clause-index
 copy_apart-requires-clause-index g c = let x = c.requires.last.last in let i = x.descent.index_is in let m = last_n x in let n = c.twig_count.ensures in omega arith
@@ -44,8 +44,8 @@ copy_apart-requires-clause-there g c i l =
 pub copy_apart-requires-clause-in_use : goal.copy_apart-requires-clause-in_use
 copy_apart-requires-clause-in_use g c i l = let x = c.requires.last.last in cell_used x.asks x.descent.through i (let n = c.twig_count.ensures in omega arith)
 
-pub returns-in_err-to-clause-spends : goal.returns-in_err-to-clause-spends
-returns-in_err-to-clause-spends g c = let x = c.requires.last.last in let m = last_n x in let n = c.twig_count.ensures in let k = (last_known x).two in let s = c.copy_apart.ensures.spends in omega arith
+pub returns-in_err-to-clause-consumes : goal.returns-in_err-to-clause-consumes
+returns-in_err-to-clause-consumes g c = let x = c.requires.last.last in let m = last_n x in let n = c.twig_count.ensures in let k = (last_known x).two in let s = c.copy_apart.ensures.consumes in omega arith
 
 pub without-requires-clause-position : goal.without-requires-clause-position
 without-requires-clause-position g c = let x = c.requires.last.last in let p = key_position x in let i = (last_known x).inside in let e = c.at.ensures in omega arith
@@ -76,5 +76,5 @@ returns-clause-taken g c = taken_twigs c.in_ok-to.to (c.twig_count.result - 1) (
 pub returns-then-old_twigs-eq2-clause-taken : goal.returns-then-old_twigs-eq2-clause-taken
 returns-then-old_twigs-eq2-clause-taken g c = none_taken c.leaf_gone.ensures.new_twigs c.leaf_gone.ensures.new_item
 
-pub returns-clause-spends : goal.returns-clause-spends
-returns-clause-spends g c = let x = c.requires.last.last in let m = last_n x in let n = c.twig_count.ensures in let k = (last_known x).two in let s = c.copy_apart.ensures.spends in omega arith
+pub returns-clause-consumes : goal.returns-clause-consumes
+returns-clause-consumes g c = let x = c.requires.last.last in let m = last_n x in let n = c.twig_count.ensures in let k = (last_known x).two in let s = c.copy_apart.ensures.consumes in omega arith

@@ -30,14 +30,14 @@ returns-in_ok-replace_item-in-Some-clause-outside g c q x b h =
     let o = beyond_key c.in-Some.ensures.same c.in-Some.ensures.root q b c.in-Some.ensures.there in
     c.replace_item.ensures.outside o.0 o.1 o.2 q x b.0 o.3 (subst (λ s. g.C.CellRead.has s q x) (sym c.in-Some.ensures.same) h)
 
-pub returns-in_ok-replace_item-in-Some-clause-spends : goal.returns-in_ok-replace_item-in-Some-clause-spends
-returns-in_ok-replace_item-in-Some-clause-spends g c n on =
+pub returns-in_ok-replace_item-in-Some-clause-consumes : goal.returns-in_ok-replace_item-in-Some-clause-consumes
+returns-in_ok-replace_item-in-Some-clause-consumes g c n on =
     let o = on_path c.in-Some.ensures.same c.in-Some.ensures.root n on c.in-Some.ensures.there in
     let m = c.replace_item.ensures.copies o.0 o.1 o.2 in let e = o.3 in
     let f = to_copy_few (g.U.Space.account c.args.usage.now).mutable c.args.key.now c.in-Some.at o.0 in omega arith
 
-pub returns-in_err-replace_item-in-Some-clause-spends : goal.returns-in_err-replace_item-in-Some-clause-spends
-returns-in_err-replace_item-in-Some-clause-spends g c n on =
+pub returns-in_err-replace_item-in-Some-clause-consumes : goal.returns-in_err-replace_item-in-Some-clause-consumes
+returns-in_err-replace_item-in-Some-clause-consumes g c n on =
     let o = on_path c.in-Some.ensures.same c.in-Some.ensures.root n on c.in-Some.ensures.there in
     let m = c.replace_item.ensures.copies o.0 o.1 o.2 in let e = o.3 in
     let f = to_copy_few (g.U.Space.account c.args.usage.now).mutable c.args.key.now c.in-Some.at o.0 in omega arith

@@ -19,7 +19,7 @@ put_change-requires-clause-asks g c =
     record { way = h.way; end = leaf h.entry h.first; u = _; asks = put_asks h.stands h.way (leaf h.entry h.first) h.is h.is_way c.in_ok-change.ensures.frame c.in_ok-change.ensures.taken (c.in_ok-change.ensures.makes _ _ h) }
 
 pub returns-in_err-change-clause-copies : goal.returns-in_err-change-clause-copies
-returns-in_err-change-clause-copies g c t version h = let s = c.other_leaf.ensures.spends in omega arith
+returns-in_err-change-clause-copies g c t version h = let s = c.other_leaf.ensures.consumes in omega arith
 
 pub returns-in_err-change-clause-asked : goal.returns-in_err-change-clause-asked
 returns-in_err-change-clause-asked g c = err_on _ c.from_residual.result c.from_residual.ensures.1 (λ t version h. Contains-append_left (extent_sizes (length c.args.item.now)) (1 ∷ branches_on_path c.args.key.now t) _ c.in_err-change.ensures.asked)
@@ -31,8 +31,8 @@ returns g c = record {
   outside = λ t version h. outside_put c.args.root h.way (leaf h.entry h.first) c.in_ok-change.ensures.frame
       (c.put_change.ensures.outside h.way _ _ (put_asks h.stands h.way (leaf h.entry h.first) h.is h.is_way c.in_ok-change.ensures.frame c.in_ok-change.ensures.taken (c.in_ok-change.ensures.makes t version h))) h.is;
   copies = λ t version h.
-      let s = c.other_leaf.ensures.spends in
-      let p = c.put_change.ensures.spends h.way _ _ (put_asks h.stands h.way (leaf h.entry h.first) h.is h.is_way c.in_ok-change.ensures.frame c.in_ok-change.ensures.taken (c.in_ok-change.ensures.makes t version h)) in
+      let s = c.other_leaf.ensures.consumes in
+      let p = c.put_change.ensures.consumes h.way _ _ (put_asks h.stands h.way (leaf h.entry h.first) h.is h.is_way c.in_ok-change.ensures.frame c.in_ok-change.ensures.taken (c.in_ok-change.ensures.makes t version h)) in
       let w = copied_way (g.U.Space.account c.args.usage.now).mutable (g.U.Space.account c.other_leaf.new.usage).mutable 65535 c.args.key.now c.args.root t h.way (leaf h.entry h.first) h.stands.trie.shape h.is h.is_way.along c.in_ok-change.ensures.frame.grows.fresher in omega arith;
   refused = err_map c.put_change.result (λ full b. refused_back c.in_ok-change.ensures.frame c.in_ok-change.ensures.taken b) c.put_change.ensures.refused;
   asked = err_map c.put_change.result (λ full n t version h.

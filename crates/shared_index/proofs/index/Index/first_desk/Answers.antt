@@ -52,5 +52,5 @@ invariant_of-result g c =
         bump = ap (λ (l : Ledger). l.bump) c.freeze.ensures.after ∙ sym (ap (λ (l : Ledger). l.fender) c.freeze.ensures.after);
       };
       root_is = sym (ap current_root kept_now);
-      rests = first_rests u new es w.seen c.known.ensures no_rows c.freeze.ensures.after fill.spends (ap (λ (x : Known). first_version x.seen) opened.4 ∙ is_first);
+      rests = first_rests u new es w.seen c.known.ensures no_rows c.freeze.ensures.after fill.consumes (ap (λ (x : Known). first_version x.seen) opened.4 ∙ is_first);
     }

@@ -13,8 +13,8 @@ returns-clause-grows c = (hands c).grows
 pub returns-clause-handed : goal.returns-clause-handed
 returns-clause-handed c = (hands c).handed
 
-pub returns-clause-spends : goal.returns-clause-spends
-returns-clause-spends c = (hands c).spends
+pub returns-clause-consumes : goal.returns-clause-consumes
+returns-clause-consumes c = (hands c).consumes
 
 pub returns-clause-needed : goal.returns-clause-needed
 returns-clause-needed c = wanted c.args.self.now c.args.n c.alloc.result c.alloc.ensures.grant

@@ -12,7 +12,7 @@ use Rattle.shared_cells.specs.Steps.{IsDue, IsNamed, Rounded}
 use Rattle.shared_index.specs.Passes.{Known}
 use Rattle.shared_index.specs.Turns.{Agrees, cells_with}
 use Rattle.shared_index.proofs.RoundLaws.{words_same, goes_on, root_same, newest_left, numbers_now, agrees_rounded, images_left, ends_left}
-use Rattle.shared_index.proofs.rounds.make_round.Goals as goal
+use Rattle.shared_index.proofs.keeping.make_round.Goals as goal
 
 pub keep_only-requires : goal.keep_only-requires
 keep_only-requires g c =

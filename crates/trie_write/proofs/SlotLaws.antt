@@ -11,7 +11,7 @@ use Rattle.trie_model.proofs.MoveLaws.{beneath_kept, tree_weaker}
 use Rattle.chunk_cells.specs.Chunks.{IsGiven}
 use Rattle.chunk_usage.specs.Rooms.{Account, Handed}
 use Rattle.trie_space.specs.Rooted.{Rooted}
-use Rattle.trie_write.specs.Mutable.{WayAsks, IsCopied, IsParted, SeatAsks, IsSeat}
+use Rattle.trie_write.specs.Mutable.{WayAsks, IsCopied, IsParted, SlotAsks, IsSlot}
 use Rattle.trie_space.specs.Spaces.{Frame, MayWrite, IsWritable}
 use Rattle.trie_space.specs.Ways.{Fork, plug, twig_at, end_at, Along, twigs_of, twigs_along, copied_along}
 use Rattle.trie_space.specs.Weights.{at_place}
@@ -72,7 +72,7 @@ parted_on {mutable} {at} {rest = rest} f e m p = record {
 
 -- ---- the way is opened
 
-module _ {S A : Type 0} {has : S → ℕ → Cell → Type 0} {account : A → Account} {s : S} {a : A} {place r : ℕ} {key : List ℕ} {spare : (ℕ → ℕ) → ℕ} {way : List Fork} {end : Tree} (asks : SeatAsks has account s a place key spare r way end) where
+module _ {S A : Type 0} {has : S → ℕ → Cell → Type 0} {account : A → Account} {s : S} {a : A} {place r : ℕ} {key : List ℕ} {spare : (ℕ → ℕ) → ℕ} {way : List Fork} {end : Tree} (asks : SlotAsks has account s a place key spare r way end) where
   -- the whole way, from the root's cell
   pub root_asks : {node : Cell} → ((c : Cell) → has s r c → node ≡ c) → WayAsks has account s a place 0 key node way end
   root_asks {node} read =
@@ -110,19 +110,19 @@ module _ {S A : Type 0} {has : S → ℕ → Cell → Type 0} {account : A → A
           is_way = record { along = (along_parts place key p.upper p.lower (subst (Along place key) p.whole asks.is_way.along)).1; ends = asks.is_way.ends };
         }
 
-    pub opened_below : {given : S → List Bool} {s1 s2 : S} {a1 : A} {cell : Cell} {seat : ℕ} → (copied : IsCopied has given account a s1 a1 place 0 key last p.lower end cell seat) → ((q : ℕ) (c : Cell) → (account a).used q ≡ true → has s q c → has s1 q c) → ((q : ℕ) → (account a).used q ≡ true → (account a1).used q ≡ true) →
-        given s2 ≡ given s1 → IsWritable given account s1 a1 last → has s2 last cell → ((q : ℕ) (c : Cell) → (q ≡ last → ⊥) → has s1 q c → has s2 q c) → IsSeat has given account s a s2 a1 place key spare r way end r seat
-    opened_below {given} {s1} {s2} {a1} {cell} {seat} copied keep stays same_given writable put others = record {
+    pub opened_below : {given : S → List Bool} {s1 s2 : S} {a1 : A} {cell : Cell} {slot : ℕ} → (copied : IsCopied has given account a s1 a1 place 0 key last p.lower end cell slot) → ((q : ℕ) (c : Cell) → (account a).used q ≡ true → has s q c → has s1 q c) → ((q : ℕ) → (account a).used q ≡ true → (account a1).used q ≡ true) →
+        given s2 ≡ given s1 → IsWritable given account s1 a1 last → has s2 last cell → ((q : ℕ) (c : Cell) → (q ≡ last → ⊥) → has s1 q c → has s2 q c) → IsSlot has given account s a s2 a1 place key spare r way end r slot
+    opened_below {given} {s1} {s2} {a1} {cell} {slot} copied keep stays same_given writable put others = record {
       copy = p.upper ++ copied.copy;
       tree = subst (IsTree 0) (sym (plug-append p.upper copied.copy end)) (plug_tree 0 p.upper (plug p.lower end) (plug copied.copy end) (subst (IsTree 0) whole_is asks.tree) new_tree
           (follows_same (low_at 0 p.upper) (entries_of (plug p.lower end)) (entries_of (plug copied.copy end)) copied.entries));
       rooted = subst (Rooted has account s2 a1 spare r) (sym (plug-append p.upper copied.copy end)) placed;
       entries = ap entries_of (plug-append p.upper copied.copy end) ∙ entries_plug p.upper (plug copied.copy end) ∙ ap (λ es. before p.upper ++ (es ++ after p.upper)) copied.entries ∙ sym (ap entries_of whole_is ∙ entries_plug p.upper (plug p.lower end));
       along = along_join place key p.upper copied.copy (along_parts place key p.upper p.lower (subst (Along place key) p.whole asks.is_way.along)).0 copied.along;
-      seat_is = copied.seat_is ∙ ap (λ q. end_at q copied.copy) p.last_is ∙ sym (end_at-append r p.upper copied.copy);
-      writable = (let w = copied.writable writable in record { in_use = w.in_use; mutable = w.mutable; in_given = subst (λ (x : List Bool). IsGiven x (seat / 1024)) (sym same_given) w.in_given });
+      slot_is = copied.slot_is ∙ ap (λ q. end_at q copied.copy) p.last_is ∙ sym (end_at-append r p.upper copied.copy);
+      writable = (let w = copied.writable writable in record { in_use = w.in_use; mutable = w.mutable; in_given = subst (λ (x : List Bool). IsGiven x (slot / 1024)) (sym same_given) w.in_given });
       outside = λ q c u out h. others q c (λ e. outside_last q u out e) (keep q c u h);
-      apart = λ q u out e. outside_seat q u out e;
+      apart = λ q u out e. outside_slot q u out e;
       below = λ q c m h. others q c (λ e. end_apart q m e) (keep q c (met_used rooted_parts q (let w = weigh_plug (at_place q) r p.upper (plug p.lower end) in let v = weigh_end q in omega arith)) h);
     }
       where
@@ -152,19 +152,19 @@ module _ {S A : Type 0} {has : S → ℕ → Cell → Type 0} {account : A → A
             let w = weighs (at_place q) in
             let i : ◌≡◌ {A = ℕ} (at_place q (end_at r p.upper)) 1 = ap (at_place q) (sym (e ∙ last_at)) ∙ at_itself q in omega arith
 
-        outside_seat : (q : ℕ) → (account a).used q ≡ true → at_place q r + weigh_tree (at_place q) (plug way end) ≡ 0 → q ≡ seat → ⊥
-        outside_seat q u out e =
+        outside_slot : (q : ℕ) → (account a).used q ≡ true → at_place q r + weigh_tree (at_place q) (plug way end) ≡ 0 → q ≡ slot → ⊥
+        outside_slot q u out e =
             let w = weighs (at_place q) in
             let v = weigh_plug (at_place q) (end_at r p.upper) copied.copy end in
             let x = copied.met q in let m = marked (account a).used q u in let l = mark_le (account a1).used q in
             let y = ap (λ z. at_place q (end_at z copied.copy)) last_at in
-            let i : ◌≡◌ {A = ℕ} (at_place q (end_at last copied.copy)) 1 = ap (at_place q) (sym (e ∙ copied.seat_is)) ∙ at_itself q in omega arith
+            let i : ◌≡◌ {A = ℕ} (at_place q (end_at last copied.copy)) 1 = ap (at_place q) (sym (e ∙ copied.slot_is)) ∙ at_itself q in omega arith
 
   -- all of it is copied, to another root
-  pub opened_anew : {kept : S → List ℕ} {given : S → List Bool} {s1 s2 s3 : S} {a1 a2 a3 : A} {root seat : ℕ} {cell : Cell} → Handed (account a) (account a1) root 1 → MayWrite kept given s1 root 1 → Frame has kept given account s a s1 a1 → Frame has kept given account s1 a1 s2 a2 →
-      (copied : IsCopied has given account a1 s2 a2 place 0 key root way end cell seat) → has s3 root cell → ((q : ℕ) (c : Cell) → (q ≡ root → ⊥) → has s2 q c → has s3 q c) → given s3 ≡ given s2 →
-      ((k : ℕ) → (account a3).live k + row (in_chunk k) r 1 ≡ (account a2).live k) → account a3 ≡ record (account a2) { live = (account a3).live } → IsSeat has given account s a s3 a3 place key spare r way end root seat
-  opened_anew {given = given} {s1} {s2} {s3} {a1} {a2} {a3} {root} {seat} {cell} handed blank f g copied put others same_given released rest = record {
+  pub opened_anew : {kept : S → List ℕ} {given : S → List Bool} {s1 s2 s3 : S} {a1 a2 a3 : A} {root slot : ℕ} {cell : Cell} → Handed (account a) (account a1) root 1 → MayWrite kept given s1 root 1 → Frame has kept given account s a s1 a1 → Frame has kept given account s1 a1 s2 a2 →
+      (copied : IsCopied has given account a1 s2 a2 place 0 key root way end cell slot) → has s3 root cell → ((q : ℕ) (c : Cell) → (q ≡ root → ⊥) → has s2 q c → has s3 q c) → given s3 ≡ given s2 →
+      ((k : ℕ) → (account a3).live k + row (in_chunk k) r 1 ≡ (account a2).live k) → account a3 ≡ record (account a2) { live = (account a3).live } → IsSlot has given account s a s3 a3 place key spare r way end root slot
+  opened_anew {given = given} {s1} {s2} {s3} {a1} {a2} {a3} {root} {slot} {cell} handed blank f g copied put others same_given released rest = record {
     copy = copied.copy;
     tree = copied.shape;
     rooted = record {
@@ -176,13 +176,13 @@ module _ {S A : Type 0} {has : S → ℕ → Cell → Type 0} {account : A → A
     };
     entries = copied.entries;
     along = copied.along;
-    seat_is = copied.seat_is;
+    slot_is = copied.slot_is;
     writable = (
         let w = copied.writable (record { in_use = g.grows.stays root root_used; mutable = g.grows.fresher root root_mutable; in_given = g.given_stays (root / 1024) root_given }) in
-        record { in_use = ap (λ (v : Account). v.used seat) rest ∙ w.in_use; mutable = ap (λ (v : Account). v.mutable seat) rest ∙ w.mutable; in_given = subst (λ (x : List Bool). IsGiven x (seat / 1024)) (sym same_given) w.in_given }
+        record { in_use = ap (λ (v : Account). v.used slot) rest ∙ w.in_use; mutable = ap (λ (v : Account). v.mutable slot) rest ∙ w.mutable; in_given = subst (λ (x : List Bool). IsGiven x (slot / 1024)) (sym same_given) w.in_given }
         );
     outside = λ q c u out h. others q c (λ e. apart_root q u e) (g.stays q c (f.grows.stays q u) (f.stays q c u h));
-    apart = outside_seat;
+    apart = outside_slot;
     below = λ q c m h. let u = met_used asks.rooted q (let w = end_less (at_place q) way end in omega arith) in others q c (λ e. apart_root q u e) (g.stays q c (f.grows.stays q u) (f.stays q c u h));
   }
     where
@@ -207,17 +207,17 @@ module _ {S A : Type 0} {has : S → ℕ → Cell → Type 0} {account : A → A
           let x = asks.rooted.once q in let y = unmarked (account a).used q unused in let z = copied.met q in
           let w = marked (account a1).used q (ap (account a1).used e ∙ root_used) in let l = mark_le (account a2).used q in omega arith
 
-      outside_seat : (q : ℕ) → (account a).used q ≡ true → at_place q r + weigh_tree (at_place q) (plug way end) ≡ 0 → q ≡ seat → ⊥
-      outside_seat q u out e =
+      outside_slot : (q : ℕ) → (account a).used q ≡ true → at_place q r + weigh_tree (at_place q) (plug way end) ≡ 0 → q ≡ slot → ⊥
+      outside_slot q u out e =
           let v = weigh_plug (at_place q) root copied.copy end in
           let n = at_another q root (λ x. apart_root q u (sym x)) in
           let z = copied.met q in let w = marked (account a1).used q (f.grows.stays q u) in let l = mark_le (account a2).used q in
-          let i : ◌≡◌ {A = ℕ} (at_place q (end_at root copied.copy)) 1 = ap (at_place q) (sym (e ∙ copied.seat_is)) ∙ at_itself q in omega arith
+          let i : ◌≡◌ {A = ℕ} (at_place q (end_at root copied.copy)) 1 = ap (at_place q) (sym (e ∙ copied.slot_is)) ∙ at_itself q in omega arith
 
 -- where nothing has changed
 module _ {S A : Type 0} {has : S → ℕ → Cell → Type 0} {account : A → Account} {s s1 : S} {a : A} {place r : ℕ} {key : List ℕ} {spare : (ℕ → ℕ) → ℕ} {way : List Fork} {end : Tree} (same : s1 ≡ s) where
-  pub same_seat_asks : SeatAsks has account s a place key spare r way end → SeatAsks has account s1 a place key spare r way end
-  same_seat_asks = subst (λ s. SeatAsks has account s a place key spare r way end) (sym same)
+  pub same_slot_asks : SlotAsks has account s a place key spare r way end → SlotAsks has account s1 a place key spare r way end
+  same_slot_asks = subst (λ s. SlotAsks has account s a place key spare r way end) (sym same)
 
-  pub same_seat : {given : S → List Bool} {s2 : S} {a2 : A} {root seat : ℕ} → IsSeat has given account s1 a s2 a2 place key spare r way end root seat → IsSeat has given account s a s2 a2 place key spare r way end root seat
-  same_seat {given} {s2} {a2} {root} {seat} = subst (λ s. IsSeat has given account s a s2 a2 place key spare r way end root seat) same
+  pub same_slot : {given : S → List Bool} {s2 : S} {a2 : A} {root slot : ℕ} → IsSlot has given account s1 a s2 a2 place key spare r way end root slot → IsSlot has given account s a s2 a2 place key spare r way end root slot
+  same_slot {given} {s2} {a2} {root} {slot} = subst (λ s. IsSlot has given account s a s2 a2 place key spare r way end root slot) same

@@ -10,7 +10,7 @@ use Rattle.shared_index.proofs.AttemptLaws.{rooted_there}
 use Rattle.shared_index.proofs.FreedLaws.{rooted_freed}
 use Rattle.shared_index.proofs.KeepLaws.{kept_in_rows, agrees_freed}
 use Rattle.shared_index.proofs.WordsLaws.{words_kept, same_words, same_chunks, same_passes, freed_chunks, given_after, lent_begins}
-use Rattle.shared_index.proofs.recycling.free_unreached.Goals as goal
+use Rattle.shared_index.proofs.freeing.free_unreached.Goals as goal
 
 pub free_unreached-count-requires-clause-in_rows : goal.free_unreached-count-requires-clause-in_rows
 free_unreached-count-requires-clause-in_rows g c =
