@@ -1,1 +1,2 @@
 pub mod OneCell
+pub mod Prelude

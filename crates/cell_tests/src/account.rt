@@ -1,7 +1,6 @@
 //! An account that two passes pay into: version n is the sum after the first n payments.
 ghost use Rattle.std.specs.Prelude.{◌≡◌, ◌+◌, ◌<◌, [], ◌∷◌, ◌++◌, None};
-ghost use Rattle.shared_cells.specs.History.{IsPartOf, entry_of};
-ghost use Rattle.shared_cells.specs.Steps.{CanPublish, Published};
+ghost use Rattle.cell_tests.specs.Prelude.{IsPartOf, entry_of, CanPublish, Published};
 
 use shared_cells::{
     JoinedSeat, Law, NewPassSeat, NewTurnSeat, Opening, PassSeat, Payload, SeatNote, Shared,

@@ -1,12 +1,8 @@
 //! One writer and two readers, each in a thread of its own, on an index of six chunks. Version n is the number n, in one cell of
 //! the chunk n modulo 6, so each chunk is freed, given again and written over and over.
 ghost use Rattle.std.specs.Prelude.{◌≡◌, ◌+◌, ◌*◌, ◌%◌, ◌^◌, ◌<◌, ◌≤◌, ◌==◌, not, true, false, length, replicate, Some, [], ◌∷◌};
-ghost use Rattle.std.specs.List.{list_any};
-ghost use Rattle.std.specs.Bool.{OnTrue};
-ghost use Rattle.shared_cells.specs.Views.{words_of, unopened_view, pinned_image, pinned_root};
-ghost use Rattle.shared_cells.specs.Cells.{cells_of, given_chunks, kept_references, with_words, HasCell};
-ghost use Rattle.shared_cells.specs.Steps.{CanPublish, Published};
-ghost use Rattle.cell_tests.specs.OneCell.{place_of, cell_of, IsVersion, AreOf, IsTold};
+ghost use Rattle.cell_tests.specs.Prelude.{list_any, OnTrue, words_of, unopened_view, pinned_image, pinned_root, cells_of, given_chunks};
+ghost use Rattle.cell_tests.specs.Prelude.{kept_references, with_words, HasCell, CanPublish, Published, place_of, cell_of, IsVersion, AreOf, IsTold};
 
 use chunk_cells::{CellRead, CellWrite};
 use packed_node::Cell;

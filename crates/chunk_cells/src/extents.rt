@@ -1,9 +1,7 @@
 //! How an item lies in cells: up to 4,096 octets side by side in one extent, more of them in several that are linked.
 
 ghost use Rattle.std.specs.Prelude.{◌≡◌, ◌+◌, ◌<◌, ◌≤◌, ◌^◌, ℕ, List, length};
-ghost use Rattle.packed_node.specs.declared.Cell.{Cell};
-ghost use Rattle.trie_model.specs.Extents.{HasItem, LiesAt, content_cells, links, first_of, link_cell, linked_cells};
-ghost use Rattle.chunk_cells.specs.Laying.{extents_at, extents_in};
+ghost use Rattle.chunk_cells.specs.Prelude.{Cell, HasItem, LiesAt, content_cells, links, first_of, link_cell, linked_cells, extents_at, extents_in};
 
 use super::CellRead;
 use packed_node::{Cell, Leaf, Ref};

@@ -1,9 +1,7 @@
 //! The front of an item, compared where it lies.
 
 ghost use Rattle.std.specs.Prelude.{◌≡◌, ◌+◌, ◌/◌, ◌<◌, ◌≤◌, ◌↔◌, ◌++◌, ℕ, List, IsTrue, length, drop, slice_index};
-ghost use Rattle.std.specs.Int.{w64, from_le_bytes};
-ghost use Rattle.trie_model.specs.Extents.{HasItem};
-ghost use Rattle.trie_model.specs.Keys.{AreOctets};
+ghost use Rattle.chunk_cells.specs.Prelude.{w64, from_le_bytes, HasItem, AreOctets};
 
 use super::CellRead;
 use super::extents::content_cells_for;

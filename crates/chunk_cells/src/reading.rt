@@ -1,10 +1,7 @@
 //! Items read.
 
 ghost use Rattle.std.specs.Prelude.{◌≡◌, ◌+◌, ◌*◌, ◌^◌, ◌<◌, ◌≤◌, ℕ, List, length, min, take, drop, slice_index};
-ghost use Rattle.std.specs.Int.{w64, from_le_bytes, to_le_bytes};
-ghost use Rattle.packed_node.specs.declared.Cell.{Cell};
-ghost use Rattle.trie_model.specs.Extents.{HasItem, content_cells, item_cell};
-ghost use Rattle.trie_model.specs.Keys.{AreOctets, IsItem};
+ghost use Rattle.chunk_cells.specs.Prelude.{w64, from_le_bytes, to_le_bytes, Cell, HasItem, content_cells, item_cell, AreOctets, IsItem};
 
 use super::CellRead;
 use super::extents::{LAST_OCTETS, LINK_PLACE, LINKED_OCTETS, content_cells_for, next_extent};

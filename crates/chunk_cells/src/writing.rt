@@ -1,11 +1,8 @@
 //! Items written: 16 octets a cell, the last one filled up with zeros.
 
 ghost use Rattle.std.specs.Prelude.{◌≡◌, ◌≢◌, ◌+◌, ◌*◌, ◌/◌, ◌^◌, ◌<◌, ◌≤◌, ℕ, Contains, length, drop, slice_index};
-ghost use Rattle.std.specs.Int.{w64, from_le_bytes};
-ghost use Rattle.packed_node.specs.declared.Cell.{Cell};
-ghost use Rattle.trie_model.specs.Extents.{IsBeside, ItemLies, item_cell, links};
-ghost use Rattle.chunk_cells.specs.Chunks.{IsGiven};
-ghost use Rattle.chunk_cells.specs.Laying.{AreBlank, extents_at, extents_in};
+ghost use Rattle.chunk_cells.specs.Prelude.{w64, from_le_bytes, Cell, IsBeside, ItemLies, item_cell};
+ghost use Rattle.chunk_cells.specs.Prelude.{links, IsGiven, AreBlank, extents_at, extents_in};
 
 use super::CellWrite;
 use super::extents::{Extents, LAST_OCTETS, LINK_PLACE, LINKED_OCTETS, content_cells_for, link_to};

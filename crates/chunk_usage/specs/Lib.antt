@@ -5,3 +5,4 @@ pub mod Counting
 pub mod Counts
 pub mod Handing
 pub mod Keeping
+pub mod Prelude

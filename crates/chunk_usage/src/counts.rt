@@ -1,9 +1,7 @@
 //! Of each chunk, how many of its cells count: now, and at the last freeze.
 
 ghost use Rattle.std.specs.Prelude.{◌≡◌, ◌≤◌, ◌<◌, ◌+◌, IfOk, false, true, count_by, if◌then◌else◌, length, nat_lt, replicate, slice_index, slice_set};
-ghost use Rattle.chunk_usage.specs.Ledger.{row_of};
-ghost use Rattle.chunk_sets.specs.ChunkSets.{has};
-ghost use Rattle.chunk_usage.specs.Counting.{is_low, is_thin, thin_row};
+ghost use Rattle.chunk_usage.specs.Prelude.{row_of, has, is_low, is_thin, thin_row};
 
 use chunk_sets::ChunkSet;
 use std::alloc::{AllocError, Global};

@@ -1,8 +1,7 @@
 //! What is known of the chunks.
 
 ghost use Rattle.std.specs.Prelude.{◌≡◌, ◌≤◌, ◌<◌, ◌↔◌, ◌/◌, false, IfOk, IsTrue, All, length, replicate, slice_index};
-ghost use Rattle.chunk_cells.specs.Chunks.{IsFree};
-ghost use Rattle.chunk_usage.specs.Ledger.{IsLedger, Row, unused, free_count, reserve_of};
+ghost use Rattle.chunk_usage.specs.Prelude.{IsFree, IsLedger, Row, unused, free_count, reserve_of};
 
 mod as_space;
 mod cells;

@@ -4,3 +4,4 @@ pub mod Invocations
 pub mod Parsed
 pub mod Words
 pub mod Views
+pub mod Prelude

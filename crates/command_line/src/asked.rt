@@ -1,13 +1,8 @@
 //! What a command with its options asks for.
 ghost use Rattle.std.specs.Prelude.{◌≡◌, ◌∷◌, [], ℕ, List, map, codes, Some, None, Option};
-ghost use Rattle.std.specs.Option.{option_map};
-ghost use Rattle.std.specs.String.{string_bytes};
-ghost use Rattle.job_model.specs.Loads.{made_origin};
-ghost use Rattle.job_make.specs.Views.{load_view};
-ghost use Rattle.command_line.specs.Invocations.{asked_of, dumping_of, feeding_of, makes_nothing, making_of};
-ghost use Rattle.command_line.specs.Invocations.{plain_of, reading_of, sizing_of, under_origin, zones_of};
-ghost use Rattle.command_line.specs.Options.{chunks_given, load_of};
-ghost use Rattle.command_line.specs.Views.{invocation_view, options_view, verb_view};
+ghost use Rattle.command_line.specs.Prelude.{option_map, string_bytes, made_origin, load_view, asked_of, dumping_of};
+ghost use Rattle.command_line.specs.Prelude.{feeding_of, makes_nothing, making_of, plain_of, reading_of, sizing_of, under_origin};
+ghost use Rattle.command_line.specs.Prelude.{zones_of, chunks_given, load_of, invocation_view, options_view, verb_view};
 
 use crate::given::Options;
 use crate::invocation::{Crew, Invocation, Verb};

@@ -1,7 +1,6 @@
 //! Numbers of the command line: decimal digits within limits.
 ghost use Rattle.std.specs.Prelude.{◌≡◌, ◌≤◌, ◌-◌, ◌^◌, ℕ, List, Some, None, Option, IfSome};
-ghost use Rattle.zone_model.specs.Texts.{number, digits_from};
-ghost use Rattle.command_line.specs.Numbers.{chunks_of, seed_of, within};
+ghost use Rattle.command_line.specs.Prelude.{number, digits_from, chunks_of, seed_of, within};
 
 use zone_text::number;
 

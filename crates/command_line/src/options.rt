@@ -1,10 +1,7 @@
 //! Options, each with its value.
 ghost use Rattle.std.specs.Prelude.{◌≡◌, ◌<◌, ◌≤◌, ◌+◌, ℕ, List, length, map, Some, None, Option, IfSome};
-ghost use Rattle.std.specs.Option.{option_map};
-ghost use Rattle.std.specs.String.{string_bytes};
-ghost use Rattle.command_line.specs.Numbers.{chunks_of, names_of, seed_of, turns_of, workers_of};
-ghost use Rattle.command_line.specs.Options.{first, no_options, options_from, origin_of, style_of, with_option};
-ghost use Rattle.command_line.specs.Views.{options_view};
+ghost use Rattle.command_line.specs.Prelude.{option_map, string_bytes, chunks_of, names_of, seed_of, turns_of, workers_of};
+ghost use Rattle.command_line.specs.Prelude.{first, no_options, options_from, origin_of, style_of, with_option, options_view};
 
 use crate::given::Options;
 use crate::numbers::{MOST_NAMES, MOST_TURNS, MOST_WORKERS, chunks_of, seed_of, within};

@@ -1,15 +1,10 @@
 //! Words that aren't plain, as clap reads them.
 ghost use Rattle.std.specs.Prelude.{◌≡◌, ◌≤◌, ℕ, List, map, codes, Some, None, Option, IfOk, IfSome, option_and_then};
-ghost use Rattle.std.specs.Option.{option_map};
-ghost use Rattle.std.specs.String.{string_bytes};
-ghost use Rattle.clap.specs.Matches.{found_of};
-ghost use Rattle.clap.specs.Simple.{subcommand_rows_of};
-ghost use Rattle.clap.specs.Walk.{first_of, rows_of};
-ghost use Rattle.job_make.specs.Views.{load_view};
+ghost use Rattle.command_line.specs.Prelude.{option_map, string_bytes, found_of, subcommand_rows_of};
+ghost use Rattle.command_line.specs.Prelude.{first_of, rows_of, load_view, invocation_view, verb_view};
 ghost use Rattle.command_line.specs.Invocations as lines;
 ghost use Rattle.command_line.specs.Parsed as parsed;
 ghost use Rattle.command_line.specs.Numbers as numbers;
-ghost use Rattle.command_line.specs.Views.{invocation_view, verb_view};
 
 use crate::asked::made_origin;
 use crate::invocation::{Crew, Invocation, Verb};

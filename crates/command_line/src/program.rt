@@ -1,9 +1,6 @@
 //! The command line that clap is given.
 ghost use Rattle.std.specs.Prelude.{◌≡◌, [], IfOk, map, codes, false, true};
-ghost use Rattle.clap.specs.Simple.{app_of, new_app, new_shape};
-ghost use Rattle.clap.specs.Walk.{rule_of};
-ghost use Rattle.clap.specs.declared.builder.command.Command.TheViews.{out-Command as fields_of};
-ghost use Rattle.command_line.specs.Parsed.{option_rule, program_app, with_commands, with_options};
+ghost use Rattle.command_line.specs.Prelude.{app_of, new_app, new_shape, rule_of, fields_of, option_rule, program_app, with_commands, with_options};
 
 use clap::{Arg, ArgAction, Command};
 use std::alloc::{AllocError, Global};

@@ -1,9 +1,6 @@
 //! The words of the command line.
 ghost use Rattle.std.specs.Prelude.{◌≡◌, ℕ, List, map, Option, IfOk};
-ghost use Rattle.std.specs.Option.{option_map};
-ghost use Rattle.std.specs.String.{string_bytes};
-ghost use Rattle.command_line.specs.Views.{invocation_view};
-ghost use Rattle.command_line.specs.Words.{invocation_of};
+ghost use Rattle.command_line.specs.Prelude.{option_map, string_bytes, invocation_view, invocation_of};
 
 use crate::asked::plain_of;
 use crate::invocation::Invocation;

@@ -1,9 +1,6 @@
 //! Laws of names, each as the contract of a function that does nothing: what it reads is for the proof.
 ghost use Rattle.std.specs.Prelude.{◌≡◌, ℕ, List, Ok};
-ghost use Rattle.std.specs.Cmp.{IsTotalOrder};
-ghost use Rattle.std.specs.declared.cmp.Ordering.{Ordering};
-ghost use Rattle.zone_model.specs.Names.{Name as Labels, IsName, name_cmp, BeginsWith};
-ghost use Rattle.zone_model.specs.NameText.{name_of, text_of, relative_text};
+ghost use Rattle.dns_name.specs.Prelude.{IsTotalOrder, Ordering, Labels, IsName, name_cmp, BeginsWith, name_of, text_of, relative_text};
 
 use crate::Name;
 

@@ -3,9 +3,7 @@
 #![tactic(auto)]
 
 ghost use Rattle.std.specs.Prelude.{◌≡◌, ◌≤◌, ◌<◌, length, [], ◌∷◌, List, ℕ, MatchOption, IfSome, IsNone};
-ghost use Rattle.zone_model.specs.Names.{Name as Labels, IsName, wire, is_under, ancestor, star_under, BeginsWith};
-ghost use Rattle.dns_name.specs.Blank.{no_octets};
-ghost use Rattle.dns_name.specs.Spelling.{IsNameSpelled};
+ghost use Rattle.dns_name.specs.Prelude.{Labels, IsName, wire, is_under, ancestor, star_under, BeginsWith, no_octets, IsNameSpelled};
 
 mod buffer;
 pub mod laws;

@@ -1,11 +1,8 @@
 //! Names in their canonical order (RFC 4034, section 6.1).
 
-ghost use Rattle.std.specs.Cmp.{partial_order_from_own_ties, partial_equiv_from_equiv};
-ghost use Rattle.std.specs.Ordering.{as_partial_cmp};
-ghost use Rattle.zone_model.specs.Names.{name_cmp, same_name};
-ghost use Rattle.zone_model.specs.NameOrder.{name_cmp_total, same_name_equiv};
+ghost use Rattle.dns_name.specs.Prelude.{partial_order_from_own_ties, partial_equiv_from_equiv, as_partial_cmp};
+ghost use Rattle.dns_name.specs.Prelude.{name_cmp, same_name, name_cmp_total, same_name_equiv, comparing};
 ghost use Rattle.std.proofs.Common.{rules, refl};
-ghost use Rattle.std.specs.Cmp.Rules.{comparing};
 
 use crate::Name;
 use crate::wire::compare;

@@ -1,7 +1,6 @@
 //! A text as the dots and octets that it stands for.
 ghost use Rattle.std.specs.Prelude.{◌≡◌, ◌<◌, ◌≤◌, length, MatchOption, None, Some, ⊤};
-ghost use Rattle.zone_model.specs.Escapes.{escaped_octet, escape_len};
-ghost use Rattle.dns_name.specs.Pieces.{IsPieceAt};
+ghost use Rattle.dns_name.specs.Prelude.{escaped_octet, escape_len, IsPieceAt};
 
 // What stands at a place of a text.
 pub enum Piece {

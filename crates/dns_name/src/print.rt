@@ -1,12 +1,7 @@
 //! Names as they are printed.
 ghost use Rattle.std.specs.Prelude.{◌≡◌, ◌<◌, ◌≤◌, ◌+◌, ◌++◌, ◌∷◌, [], ℕ, List, length, OnOk, OnErr};
-ghost use Rattle.std.specs.Io.{StartsWith};
-ghost use Rattle.zone_model.specs.Names.{Name as Labels};
-ghost use Rattle.std.specs.Option.{option_copied};
-ghost use Rattle.zone_model.specs.NameText.{octet_text, label_text, text_of, front_text, name_text};
-ghost use Rattle.dns_name.specs.Spelling.{Spells, IsSpelled, SpellsInFront, HasFront};
-ghost use Rattle.dns_name.specs.Plain.{is_plain};
-ghost use Rattle.std.specs.List.{flat_map, list_all};
+ghost use Rattle.dns_name.specs.Prelude.{StartsWith, Labels, option_copied, octet_text, label_text, text_of, front_text};
+ghost use Rattle.dns_name.specs.Prelude.{name_text, Spells, IsSpelled, SpellsInFront, HasFront, is_plain, flat_map, list_all};
 
 use crate::Name;
 use crate::wire::first;

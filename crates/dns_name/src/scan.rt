@@ -1,8 +1,7 @@
 //! Wire forms among bytes of any kind.
 ghost use Rattle.std.specs.Prelude.{◌≡◌, ◌<◌, ◌≤◌, ◌↔◌, length, List, ℕ, IsTrue, IfSome, IsNone, take};
-ghost use Rattle.std.specs.List.{AllByRecursion};
-ghost use Rattle.zone_model.specs.Names.{Name as Labels, wire, IsName, IsLabel, IsFolded, BeginsWith};
-ghost use Rattle.dns_name.specs.Spelling.{IsNameSpelled, BeginsWithLabel, HasLabelOf};
+ghost use Rattle.dns_name.specs.Prelude.{AllByRecursion, Labels, wire, IsName, IsLabel, IsFolded};
+ghost use Rattle.dns_name.specs.Prelude.{BeginsWith, IsNameSpelled, BeginsWithLabel, HasLabelOf};
 
 // All letters are in lower case.
 fn is_folded(label: &[u8]) -> bool

@@ -2,9 +2,7 @@
 #![tactic(auto)]
 
 ghost use Rattle.std.specs.Prelude.{◌≡◌, ◌<◌, ◌≤◌, ◌+◌, ◌++◌, ◌∷◌, [], ◌^◌, ℕ, List, length, OnOk, IfOk, MatchOption, slice_index, drop, false};
-ghost use Rattle.zone_model.specs.Names.{Name as Labels, is_under};
-ghost use Rattle.dns_name.specs.Spelling.{Spells, IsSpelled};
-ghost use Rattle.dns_name.specs.SortKeys.{escaped, label_key, weight, PushesBelow, KeyBelow};
+ghost use Rattle.dns_name.specs.Prelude.{Labels, is_under, Spells, IsSpelled, escaped, label_key, weight, PushesBelow, KeyBelow};
 
 use crate::Name;
 use crate::wire::first;

@@ -1,9 +1,6 @@
 //! Names as text.
 ghost use Rattle.std.specs.Prelude.{◌≡◌, ◌<◌, ◌≤◌, ◌+◌, ◌^◌, [], length, slice_set, Result, Ok, IfOk, if◌then◌else◌};
-ghost use Rattle.zone_model.specs.Names.{wire, IsName};
-ghost use Rattle.zone_model.specs.NameText.{labels_of, name_of, completed};
-ghost use Rattle.dns_name.specs.Blank.{no_octets};
-ghost use Rattle.dns_name.specs.Reading.{Measures, IsLaid};
+ghost use Rattle.dns_name.specs.Prelude.{wire, IsName, labels_of, name_of, completed, no_octets, Measures, IsLaid};
 
 use crate::pieces::{Piece, piece_at};
 use crate::{MOST_LABEL_OCTETS, MOST_OCTETS, Name, blank};

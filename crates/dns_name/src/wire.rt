@@ -1,8 +1,6 @@
 //! Walks over wire forms.
 ghost use Rattle.std.specs.Prelude.{◌≡◌, ◌≤◌, ◌<◌, length, drop, [], List, ℕ};
-ghost use Rattle.std.specs.Ordering.{ordering_then};
-ghost use Rattle.zone_model.specs.Names.{Name as Labels, wire, name_cmp, is_under};
-ghost use Rattle.dns_name.specs.Spelling.{Spells, IsSpelled, HasLabels, IsFirst};
+ghost use Rattle.dns_name.specs.Prelude.{ordering_then, Labels, wire, name_cmp, is_under, Spells, IsSpelled, HasLabels, IsFirst};
 
 use std::cmp::Ordering;
 

@@ -5,3 +5,4 @@ pub mod Places
 pub mod Rearranging
 pub mod Sparse
 pub mod Trails
+pub mod Prelude

@@ -1,20 +1,8 @@
 //! The way down along a path that doesn't fork, on which twigs are made mutable, or what lies in sparse chunks is moved.
 
 ghost use Rattle.std.specs.Prelude.{◌≡◌, ◌⊎◌, ◌+◌, ◌/◌, ◌<◌, ◌≤◌, ◌^◌, ℕ, List, Bool, true, false, IfOk, IfErr, IfSome, count_ones};
-ghost use Rattle.packed_node.specs.declared.Branch.{Branch};
-ghost use Rattle.packed_node.specs.declared.Node.TheVariants.{Branch as branch_node};
-ghost use Rattle.trie_model.specs.Keys.{Entry};
-ghost use Rattle.trie_model.specs.Memory.{node_of};
-ghost use Rattle.trie_model.specs.Trees.{Tree};
-ghost use Rattle.chunk_usage.specs.Counting.{is_sparse};
-ghost use Rattle.chunk_usage.specs.Ledger.{is_mutable};
-ghost use Rattle.chunk_usage.specs.Rooms.{reserve_account_of};
-ghost use Rattle.trie_space.specs.Spaces.{Ready, Fenced, IsWritable};
-ghost use Rattle.trie_space.specs.Ways.{Fork};
-ghost use Rattle.evacuate.specs.Fillings.{Fills, Moves, IsFull};
-ghost use Rattle.evacuate.specs.Places.{Stood, Hung, Hangs, IsStood, IsHung};
-ghost use Rattle.evacuate.specs.Rearranging.{Rearranged};
-ghost use Rattle.evacuate.specs.Trails.{TwigsAt};
+ghost use Rattle.evacuate.specs.Prelude.{Branch, branch_node, Entry, node_of, Tree, is_sparse, is_mutable, reserve_account_of, Ready, Fenced};
+ghost use Rattle.evacuate.specs.Prelude.{IsWritable, Fork, Fills, Moves, IsFull, Stood, Hung, Hangs, IsStood, IsHung, Rearranged, TwigsAt};
 
 use super::foothold::Foothold;
 use super::items::move_item;

@@ -1,14 +1,8 @@
 //! How an evacuation begins: where what it moves is put, and the root's cell.
 
 ghost use Rattle.std.specs.Prelude.{◌≡◌, ◌/◌, false, true, List, Option, IfOk, IfErr, IfSome};
-ghost use Rattle.trie_model.specs.Keys.{Entry};
-ghost use Rattle.trie_model.specs.Trees.{Tree};
-ghost use Rattle.chunk_usage.specs.Counting.{is_unmixed};
-ghost use Rattle.chunk_usage.specs.Ledger.{is_used, is_mutable};
-ghost use Rattle.chunk_usage.specs.Rooms.{Grows, reserve_account_of};
-ghost use Rattle.trie_space.specs.Spaces.{Ready, Fenced, IsWritable};
-ghost use Rattle.evacuate.specs.Fillings.{Fills, Moves, IsFull, begun, filled_on, is_filled_on, is_old, old_chunks};
-ghost use Rattle.evacuate.specs.Places.{Stood, IsStood};
+ghost use Rattle.evacuate.specs.Prelude.{Entry, Tree, is_unmixed, is_used, is_mutable, Grows, reserve_account_of, Ready, Fenced, IsWritable};
+ghost use Rattle.evacuate.specs.Prelude.{Fills, Moves, IsFull, begun, filled_on, is_filled_on, is_old, old_chunks, Stood, IsStood};
 
 use super::moves::move_root;
 use chunk_cells::CellWrite;

@@ -2,18 +2,9 @@
 //! was moved can say where it is.
 
 ghost use Rattle.std.specs.Prelude.{◌≡◌, ◌+◌, ◌^◌, ◌<◌, ◌≤◌, ◌/◌, ℕ, List, Bool, true, false, IfOk, IfErr, IfSome, None, [], count_ones, slice_index};
-ghost use Rattle.packed_node.specs.declared.Cell.{Cell};
-ghost use Rattle.packed_node.specs.declared.Node.TheVariants.{Branch as branch_node};
-ghost use Rattle.trie_model.specs.Keys.{Entry};
-ghost use Rattle.trie_model.specs.Memory.{node_of};
-ghost use Rattle.trie_model.specs.Trees.{Tree};
-ghost use Rattle.chunk_usage.specs.Rooms.{reserve_account_of};
-ghost use Rattle.trie_space.specs.Spaces.{Ready, Fenced, IsWritable};
-ghost use Rattle.trie_space.specs.Ways.{NotBefore, Fork};
-ghost use Rattle.evacuate.specs.Evacuations.{HasSparse};
-ghost use Rattle.evacuate.specs.Fillings.{Fills, Moves, Fewer, IsFull, is_old, old_live};
-ghost use Rattle.evacuate.specs.Places.{moved, Stood, Hung, IsHung};
-ghost use Rattle.evacuate.specs.Trails.{Found, HasFound, IsDue, Reached, TwigsAt};
+ghost use Rattle.evacuate.specs.Prelude.{Cell, branch_node, Entry, node_of, Tree, reserve_account_of, Ready, Fenced};
+ghost use Rattle.evacuate.specs.Prelude.{IsWritable, NotBefore, Fork, HasSparse, Fills, Moves, Fewer, IsFull, is_old};
+ghost use Rattle.evacuate.specs.Prelude.{old_live, moved, Stood, Hung, IsHung, Found, HasFound, IsDue, Reached, TwigsAt};
 
 use super::items::move_item;
 use super::moves::move_node;

@@ -1,19 +1,9 @@
 //! Evacuation: sparse chunks are emptied.
 
 ghost use Rattle.std.specs.Prelude.{◌≡◌, ◌+◌, ◌*◌, ◌-◌, ◌/◌, ◌<◌, ◌≤◌, ℕ, List, Bool, true, false, Some, length, slice_index};
-ghost use Rattle.trie_model.specs.Capacity.{filled_cells};
-ghost use Rattle.trie_model.specs.Keys.{Entry};
-ghost use Rattle.trie_model.specs.Shape.{cells as cells_of};
-ghost use Rattle.trie_model.specs.Trees.{Tree};
-ghost use Rattle.chunk_usage.specs.Ledger.{free_count};
-ghost use Rattle.chunk_usage.specs.Handing.{consumed};
-ghost use Rattle.chunk_usage.specs.Rooms.{account_of, reserve_account_of};
-ghost use Rattle.trie_space.specs.Spaces.{Ready, Fenced, IsWritable};
-ghost use Rattle.trie_space.specs.Standing.{HasTrie};
-ghost use Rattle.evacuate.specs.Evacuations.{FillsNew, IsDense, IsCleared, HasSparse, refused};
-ghost use Rattle.evacuate.specs.Fillings.{Fills, IsFull, old_live};
-ghost use Rattle.evacuate.specs.Places.{Stood, IsStood};
-ghost use Rattle.evacuate.specs.Rearranging.{Rearranged};
+ghost use Rattle.evacuate.specs.Prelude.{filled_cells, Entry, cells_of, Tree, free_count, consumed, account_of};
+ghost use Rattle.evacuate.specs.Prelude.{reserve_account_of, Ready, Fenced, IsWritable, HasTrie, FillsNew, IsDense, IsCleared};
+ghost use Rattle.evacuate.specs.Prelude.{HasSparse, refused, Fills, IsFull, old_live, Stood, IsStood, Rearranged};
 
 use super::beginning::{begin, open_root};
 use super::descent::move_found;

@@ -1,12 +1,7 @@
 //! How far a path can be gone down before anything has to be moved.
 
 ghost use Rattle.std.specs.Prelude.{◌≡◌, ◌+◌, ◌^◌, ◌<◌, ◌≤◌, true, IfSome, count_ones};
-ghost use Rattle.packed_node.specs.declared.Branch.{Branch};
-ghost use Rattle.packed_node.specs.declared.Node.TheVariants.{Branch as branch_node};
-ghost use Rattle.chunk_usage.specs.Ledger.{is_mutable};
-ghost use Rattle.chunk_usage.specs.Rooms.{reserve_account_of};
-ghost use Rattle.trie_space.specs.Spaces.{Ready, IsWritable};
-ghost use Rattle.evacuate.specs.Places.{Hangs, IsStood};
+ghost use Rattle.evacuate.specs.Prelude.{Branch, branch_node, is_mutable, reserve_account_of, Ready, IsWritable, Hangs, IsStood};
 
 use super::path_walk::{Descent, descent_on};
 use chunk_cells::CellWrite;

@@ -1,14 +1,7 @@
 //! What lies in sparse chunks along a path that forks: at a branch of which it says no twig it goes on to all.
 
 ghost use Rattle.std.specs.Prelude.{◌≡◌, ◌<◌, ◌≤◌, ℕ, true, IfErr, count_ones, slice_index};
-ghost use Rattle.trie_model.specs.Trees.{Tree};
-ghost use Rattle.chunk_usage.specs.Rooms.{reserve_account_of};
-ghost use Rattle.trie_read.specs.Reads.{IsTop};
-ghost use Rattle.trie_space.specs.Spaces.{Ready, IsWritable};
-ghost use Rattle.evacuate.specs.Fillings.{IsFull};
-ghost use Rattle.evacuate.specs.Places.{IsStood};
-ghost use Rattle.evacuate.specs.Rearranging.{Rearranged};
-ghost use Rattle.evacuate.specs.Trails.{Found};
+ghost use Rattle.evacuate.specs.Prelude.{Tree, reserve_account_of, IsTop, Ready, IsWritable, IsFull, IsStood, Rearranged, Found};
 
 use super::descent::{move_found, reach};
 use super::path_walk::{descent_on, position_from};

@@ -2,21 +2,9 @@
 //! too, unless that cell may be written.
 
 ghost use Rattle.std.specs.Prelude.{◌≡◌, ◌⊎◌, ◌+◌, ◌-◌, ◌/◌, ◌^◌, ◌<◌, ◌≤◌, ℕ, List, Bool, true, false, IfOk, IfErr};
-ghost use Rattle.packed_node.specs.declared.Node.TheVariants.{Leaf as leaf_node};
-ghost use Rattle.trie_model.specs.Extents.{Extents, first_of as first_of_extents};
-ghost use Rattle.trie_model.specs.Keys.{Entry};
-ghost use Rattle.trie_model.specs.Memory.{node_of};
-ghost use Rattle.trie_model.specs.Trees.{Tree};
-ghost use Rattle.chunk_usage.specs.Counting.{is_sparse};
-ghost use Rattle.chunk_usage.specs.Ledger.{is_mutable};
-ghost use Rattle.chunk_usage.specs.Rooms.{reserve_account_of};
-ghost use Rattle.trie_space.specs.Spaces.{Ready, Fenced, IsWritable};
-ghost use Rattle.trie_space.specs.Ways.{Fork};
-ghost use Rattle.evacuate.specs.Chains.{Goes, GoesOn, GoesSparse};
-ghost use Rattle.evacuate.specs.Evacuations.{HasSparse};
-ghost use Rattle.evacuate.specs.Fillings.{Fills, Moves, Fewer, Opened, IsFull};
-ghost use Rattle.evacuate.specs.Places.{moved, put_first, Stood, Hung, IsHung};
-ghost use Rattle.evacuate.specs.Trails.{IsDue};
+ghost use Rattle.evacuate.specs.Prelude.{leaf_node, Extents, first_of_extents, Entry, node_of, Tree, is_sparse, is_mutable};
+ghost use Rattle.evacuate.specs.Prelude.{reserve_account_of, Ready, Fenced, IsWritable, Fork, Goes, GoesOn, GoesSparse, HasSparse};
+ghost use Rattle.evacuate.specs.Prelude.{Fills, Moves, Fewer, Opened, IsFull, moved, put_first, Stood, Hung, IsHung, IsDue};
 
 use super::moves::{move_linked, move_node};
 use super::sparse::is_item_sparse;

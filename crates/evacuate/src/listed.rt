@@ -1,11 +1,7 @@
 //! What lies in sparse chunks, found along the paths that these were written on, and moved.
 
 ghost use Rattle.std.specs.Prelude.{◌≡◌, IfErr};
-ghost use Rattle.chunk_usage.specs.Rooms.{reserve_account_of};
-ghost use Rattle.trie_space.specs.Spaces.{Ready, IsWritable};
-ghost use Rattle.evacuate.specs.Fillings.{IsFull};
-ghost use Rattle.evacuate.specs.Places.{IsStood};
-ghost use Rattle.evacuate.specs.Rearranging.{Rearranged};
+ghost use Rattle.evacuate.specs.Prelude.{reserve_account_of, Ready, IsWritable, IsFull, IsStood, Rearranged};
 
 use super::along::{empty_along, open_on};
 use super::foothold::descend;

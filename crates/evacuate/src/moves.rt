@@ -1,17 +1,9 @@
 //! Moving what hangs on a node, and the root's cell.
 
 ghost use Rattle.std.specs.Prelude.{◌≡◌, ◌≢◌, ◌+◌, ◌-◌, ◌*◌, ◌^◌, ◌/◌, ◌<◌, ◌≤◌, ℕ, List, Bool, true, false, IfOk, IfErr, [], slice_index};
-ghost use Rattle.packed_node.specs.declared.Cell.{Cell};
-ghost use Rattle.trie_model.specs.Extents.{Extents, IsRow, first_of as first_of_extents};
-ghost use Rattle.trie_model.specs.Keys.{Entry};
-ghost use Rattle.trie_model.specs.Memory.{node_of};
-ghost use Rattle.trie_model.specs.Trees.{Tree};
-ghost use Rattle.chunk_usage.specs.Rooms.{Handed, reserve_account_of};
-ghost use Rattle.trie_space.specs.Spaces.{Ready, Frame, Fenced, MayWrite, IsWritable};
-ghost use Rattle.trie_space.specs.Ways.{Fork};
-ghost use Rattle.evacuate.specs.Chains.{Goes, GoesOn};
-ghost use Rattle.evacuate.specs.Fillings.{Fills, Moves, Paid, IsFull, is_old};
-ghost use Rattle.evacuate.specs.Places.{first_of, first_width, width_of, put_first, moved, Stood, Hung, IsStood, IsHung};
+ghost use Rattle.evacuate.specs.Prelude.{Cell, Extents, IsRow, first_of_extents, Entry, node_of, Tree, Handed, reserve_account_of};
+ghost use Rattle.evacuate.specs.Prelude.{Ready, Frame, Fenced, MayWrite, IsWritable, Fork, Goes, GoesOn, Fills, Moves, Paid, IsFull};
+ghost use Rattle.evacuate.specs.Prelude.{is_old, first_of, first_width, width_of, put_first, moved, Stood, Hung, IsStood, IsHung};
 
 use super::node_cells::{cell_count, first_cell, first_extent_for, with_cells_at};
 use super::room::room_for;

@@ -1,11 +1,7 @@
 //! The way along a path as far as it doesn't fork, and how far down something on it lies in a chunk.
 
 ghost use Rattle.std.specs.Prelude.{◌≡◌, ◌<◌, ℕ, List, IfSome, count_ones};
-ghost use Rattle.packed_node.specs.declared.Node.TheVariants.{Branch as branch_node};
-ghost use Rattle.trie_model.specs.Extents.{HasItem};
-ghost use Rattle.trie_model.specs.Memory.{node_of, top_cell};
-ghost use Rattle.trie_model.specs.Trees.{Tree};
-ghost use Rattle.trie_read.specs.Reads.{IsTop};
+ghost use Rattle.evacuate.specs.Prelude.{branch_node, HasItem, node_of, top_cell, Tree, IsTop};
 
 use chunk_cells::CellRead;
 use chunk_cells::extents::{LAST_OCTETS, LINKED_OCTETS, next_extent};

@@ -1,11 +1,7 @@
 //! Cells for what is moved. The reserve is handed out too.
 
 ghost use Rattle.std.specs.Prelude.{◌≡◌, ◌≢◌, ◌+◌, ◌^◌, ◌/◌, ◌<◌, ◌≤◌, ℕ, List, Bool, false, IfOk, IfErr, slice_index_or};
-ghost use Rattle.packed_node.specs.declared.Cell.{Cell};
-ghost use Rattle.chunk_usage.specs.Handing.{reserve_allocated};
-ghost use Rattle.chunk_usage.specs.Rooms.{Handed, reserve_account_of};
-ghost use Rattle.trie_space.specs.Spaces.{Ready, Frame, MayWrite};
-ghost use Rattle.evacuate.specs.Fillings.{Fills, Moves, IsFull, is_old};
+ghost use Rattle.evacuate.specs.Prelude.{Cell, reserve_allocated, Handed, reserve_account_of, Ready, Frame, MayWrite, Fills, Moves, IsFull, is_old};
 
 use chunk_cells::CellWrite;
 use chunk_usage::{Full, Usage};

@@ -1,10 +1,7 @@
 //! Whether there is anything to be moved.
 
 ghost use Rattle.std.specs.Prelude.{◌≡◌, true, false, ℕ, List};
-ghost use Rattle.trie_model.specs.Extents.{Extents, HasItem, LiesAt};
-ghost use Rattle.chunk_usage.specs.Counting.{is_sparse};
-ghost use Rattle.evacuate.specs.Evacuations.{IsCleared, HasSparse};
-ghost use Rattle.evacuate.specs.Sparse.{SparseExtents};
+ghost use Rattle.evacuate.specs.Prelude.{Extents, HasItem, LiesAt, is_sparse, IsCleared, HasSparse, SparseExtents};
 
 use chunk_cells::CellRead;
 use chunk_cells::extents::{LAST_OCTETS, LINKED_OCTETS, next_extent};

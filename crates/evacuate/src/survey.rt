@@ -1,10 +1,7 @@
 //! A walk through a trie that lists for chunks on which paths the trie has cells in them.
 
 ghost use Rattle.std.specs.Prelude.{◌≡◌, ◌≤◌, ℕ, List};
-ghost use Rattle.trie_model.specs.Extents.{HasItem};
-ghost use Rattle.trie_model.specs.Trees.{Tree};
-ghost use Rattle.trie_read.specs.Reads.{IsTop};
-ghost use Rattle.evacuate.specs.Places.{IsStood};
+ghost use Rattle.evacuate.specs.Prelude.{HasItem, Tree, IsTop, IsStood};
 
 use super::path_walk::position_from;
 use chunk_cells::CellRead;

@@ -1,13 +1,7 @@
 //! The walk through a trie to what lies in sparse chunks.
 
 ghost use Rattle.std.specs.Prelude.{◌≡◌, ◌≢◌, ◌+◌, ◌<◌, ◌≤◌, ℕ, List, true, false, slice_index};
-ghost use Rattle.trie_model.specs.Extents.{Extents, HasItem, LiesAt};
-ghost use Rattle.trie_model.specs.Reach.{in_chunk, weigh_tree};
-ghost use Rattle.trie_model.specs.Trees.{Tree};
-ghost use Rattle.trie_read.specs.Reads.{IsTop};
-ghost use Rattle.chunk_usage.specs.Counting.{is_sparse};
-ghost use Rattle.evacuate.specs.Sparse.{SparseExtents};
-ghost use Rattle.evacuate.specs.Trails.{Found};
+ghost use Rattle.evacuate.specs.Prelude.{Extents, HasItem, LiesAt, in_chunk, weigh_tree, Tree, IsTop, is_sparse, SparseExtents, Found};
 
 use super::path_walk::NO_OFFSET;
 use super::sparse::is_item_sparse;

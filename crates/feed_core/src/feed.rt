@@ -1,9 +1,7 @@
 //! A feed: how it is made, and how it is closed.
 ghost use Rattle.std.specs.Prelude.{◌≡◌, ℕ, ◌+◌, ◌<◌, ◌≤◌, IfOk, All, Any, replicate, true, vec_len};
-ghost use Rattle.std.specs.List.Sorted.{IsStrictlyIncreasing};
-ghost use Rattle.crossbeam_queue.specs.Passes.{view, IsPassOf, IsSamePass, ruled_capacity};
-ghost use Rattle.feed_core.specs.Knowledge.{alone};
-ghost use Rattle.feed_core.specs.Feeds.{feed_of, new_seat, lists_of, StandsOnce, IsGathered};
+ghost use Rattle.feed_core.specs.Prelude.{IsStrictlyIncreasing, view, IsPassOf, IsSamePass, ruled_capacity};
+ghost use Rattle.feed_core.specs.Prelude.{alone, feed_of, new_seat, lists_of, StandsOnce, IsGathered};
 
 use crate::knowledge::{Gather, Grow, NumberPass, NumberQueue, PutNumber};
 use crate::seat::{FeedSeat, next_number};

@@ -1,9 +1,8 @@
 //! What a seat knows, the rule of the queue, and what each step on it tells.
 //!
 //! No value of a seat's knowledge is made: it stands in contracts and proofs alone.
-ghost use Rattle.feed_core.specs.Knowledge.{alone, grown, nobody, giver_of, taker_of, joined};
-ghost use Rattle.feed_core.specs.Rule.{IsHandedOut};
-ghost use Rattle.feed_core.specs.Steps.{takes, puts_number, holds_all, puts_mark, learns_nothing};
+ghost use Rattle.feed_core.specs.Prelude.{alone, grown, nobody, giver_of, taker_of, joined, IsHandedOut};
+ghost use Rattle.feed_core.specs.Prelude.{takes, puts_number, holds_all, puts_mark, learns_nothing};
 
 use crossbeam_queue::protocol::{Join, Lesson, Outcome, Protocol, Split};
 use crossbeam_queue::{Pass, RuledArrayQueue};

@@ -1,9 +1,7 @@
 //! A seat of a feed: how it takes numbers.
 ghost use Rattle.std.specs.Prelude.{◌≡◌, ◌<◌, [], ◌∷◌, IfSome, IfNone, MatchOption, true, false};
-ghost use Rattle.crossbeam_queue.specs.Passes.{view, IsPassOf, IsSamePass};
-ghost use Rattle.feed_core.specs.Knowledge.{giver_of};
-ghost use Rattle.feed_core.specs.Steps.{TakesNumber, TakesMark};
-ghost use Rattle.feed_core.specs.Feeds.{feed_of, new_seat, TakesNext, remaining, IsGathered};
+ghost use Rattle.feed_core.specs.Prelude.{view, IsPassOf, IsSamePass, giver_of, TakesNumber, TakesMark};
+ghost use Rattle.feed_core.specs.Prelude.{feed_of, new_seat, TakesNext, remaining, IsGathered};
 
 use crate::feed::Feed;
 use crate::knowledge::{Deal, END, NumberPass, NumberQueue, PutMark, Take};

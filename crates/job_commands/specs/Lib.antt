@@ -6,3 +6,4 @@ pub mod Steps
 pub mod Works
 pub mod Closings
 pub mod Runs
+pub mod Prelude

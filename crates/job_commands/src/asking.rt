@@ -1,7 +1,6 @@
 //! Questions to the current version.
 ghost use Rattle.std.specs.Prelude.{◌≡◌, IsSome, IfOk};
-ghost use Rattle.shared_index.specs.Passes.{known_at};
-ghost use Rattle.job_commands.specs.Commands.{Asked};
+ghost use Rattle.job_commands.specs.Prelude.{known_at, Asked};
 
 use crate::law::ZoneLaw;
 use crate::replying::reply_text;

@@ -1,13 +1,7 @@
 //! Compactions.
 ghost use Rattle.std.specs.Prelude.{◌≡◌, IsOk, IsSome, IfOk, IfErr};
-ghost use Rattle.zone_model.specs.Transactions.{no_changes};
-ghost use Rattle.job_model.specs.declared.Ending.TheVariants.{Commit};
-ghost use Rattle.job_model.specs.Outcomes.{Committed, Refused, Spent as NoNumber};
-ghost use Rattle.job_script.specs.Outcomes.{ended_view, EndsCompaction};
-ghost use Rattle.shared_index.specs.Passes.{first_version, known_at};
-ghost use Rattle.shared_index.specs.Compactions.{Compacts};
-ghost use Rattle.job_commands.specs.Histories.{IsLawful, Setup};
-ghost use Rattle.job_commands.specs.Commands.{BlockRan};
+ghost use Rattle.job_commands.specs.Prelude.{no_changes, Commit, Committed, Refused, NoNumber, ended_view, EndsCompaction};
+ghost use Rattle.job_commands.specs.Prelude.{first_version, known_at, Compacts, IsLawful, Setup, BlockRan};
 
 use crate::law::ZoneLaw;
 use job_script::{Cause, Outcome, Told};

@@ -1,12 +1,7 @@
 //! Questions to one version.
 ghost use Rattle.std.specs.Prelude.{◌≡◌, ◌≤◌, ◌++◌, length, IfOk, OnOk, codes};
-ghost use Rattle.zone_model.specs.Dumps.{all_rows};
-ghost use Rattle.zone_model.specs.Keys.{most_item_octets};
-ghost use Rattle.zone_model.specs.Versions.{Version};
-ghost use Rattle.zone_query.specs.Around.{find};
-ghost use Rattle.zone_query.specs.Standing.{Shows, ShowsSome};
-ghost use Rattle.job_model.specs.Replies.{found_text, reply_of, reply_text, rows_text, size_text};
-ghost use Rattle.job_model.specs.Sizes.{node_count};
+ghost use Rattle.job_commands.specs.Prelude.{all_rows, most_item_octets, Version, find, Shows, ShowsSome};
+ghost use Rattle.job_commands.specs.Prelude.{found_text, reply_of, reply_text, rows_text, size_text, node_count};
 
 use crate::room::Room;
 use dns_name::Name;

@@ -1,16 +1,7 @@
 //! Transactions.
 ghost use Rattle.std.specs.Prelude.{◌≡◌, IsSome, IsSomeAnd, IfOk, IfErr, OnErr};
-ghost use Rattle.job_model.specs.Outcomes.{Committed, Refused, Spent as NoNumber};
-ghost use Rattle.job_script.specs.Outcomes.{ended_view, EndsBlock};
-ghost use Rattle.job_script.specs.Views.{asked_view};
-ghost use Rattle.report_laws.specs.Changes.{AllSaid};
-ghost use Rattle.shared_index.specs.Passes.{known_at};
-ghost use Rattle.shared_index.specs.Keepings.{versions_in};
-ghost use Rattle.zone_edit.specs.Stores.{WorksOnSome};
-ghost use Rattle.zone_edit.specs.Blocks.{Edited};
-ghost use Rattle.job_commands.specs.Histories.{Setup};
-ghost use Rattle.job_commands.specs.Commands.{IsSetup, BlockRan, BlockWants, OpensAt, StoppedBy};
-ghost use Rattle.job_commands.specs.Weights.{IsOfWeight};
+ghost use Rattle.job_commands.specs.Prelude.{Committed, Refused, NoNumber, ended_view, EndsBlock, asked_view, AllSaid, known_at, versions_in};
+ghost use Rattle.job_commands.specs.Prelude.{WorksOnSome, Edited, Setup, IsSetup, BlockRan, BlockWants, OpensAt, StoppedBy, IsOfWeight};
 
 use crate::law::ZoneLaw;
 use dns_name::Name;

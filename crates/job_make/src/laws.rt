@@ -1,11 +1,6 @@
 //! A law of loads, as the contract of a function that does nothing.
 ghost use Rattle.std.specs.Prelude.{◌≡◌, ◌<◌, ◌≤◌, ℕ, List, Ok};
-ghost use Rattle.job_model.specs.Commands.{Job};
-ghost use Rattle.job_model.specs.Jobs.{job_of};
-ghost use Rattle.job_model.specs.Loads.{Load, made_origin, made_text};
-ghost use Rattle.job_model.specs.Outcomes.{Pair};
-ghost use Rattle.job_model.specs.Summaries.{summary};
-ghost use Rattle.report_laws.specs.Apart.{AreDone};
+ghost use Rattle.job_make.specs.Prelude.{Job, job_of, Load, made_origin, made_text, Pair, summary, AreDone};
 
 /// The summary of a load is one, whichever order its workers' steps come in, where no block is refused: so it is a function of the
 /// load's numbers.

@@ -1,10 +1,7 @@
 //! The text of a load.
 ghost use Rattle.std.specs.Prelude.{◌≡◌, ◌<◌, ◌≤◌, ◌+◌, ◌-◌, ◌^◌, ◌++◌, IfOk, OnOk, Ok, codes, length, if◌then◌else◌};
-ghost use Rattle.std.specs.List.{flat_map};
-ghost use Rattle.job_model.specs.Commands.{Job};
-ghost use Rattle.job_model.specs.Jobs.{job_of};
-ghost use Rattle.job_model.specs.Loads.{first_lines, line_text, made_origin, made_text, names_lines, share, worker_lines, worker_state, workers_from};
-ghost use Rattle.job_make.specs.Views.{load_view};
+ghost use Rattle.job_make.specs.Prelude.{flat_map, Job, job_of, first_lines, line_text, made_origin, made_text};
+ghost use Rattle.job_make.specs.Prelude.{names_lines, share, worker_lines, worker_state, workers_from, load_view};
 
 use crate::draws::Draws;
 use crate::load::Load;

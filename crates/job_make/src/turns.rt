@@ -1,9 +1,7 @@
 //! The lines of a worker's turns.
 ghost use Rattle.std.specs.Prelude.{◌≡◌, ◌<◌, ◌≤◌, ◌+◌, ◌*◌, ◌%◌, ◌++◌, OnOk, codes, decimal};
-ghost use Rattle.std.specs.List.{flat_map};
-ghost use Rattle.job_model.specs.Loads.{address_text, line_text, name_text, state_after, turn_lines, turn_of, turns_from};
+ghost use Rattle.job_make.specs.Prelude.{flat_map, address_text, line_text, name_text, state_after, turn_lines, turn_of, turns_from, part_view};
 ghost use Rattle.job_model.specs.Loads as loads;
-ghost use Rattle.job_make.specs.Views.{part_view};
 
 use crate::draws::Draws;
 use crate::part::Part;

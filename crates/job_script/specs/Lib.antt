@@ -8,3 +8,4 @@ pub mod Feeds
 pub mod Spelled
 pub mod Summaries
 pub mod Printed
+pub mod Prelude

@@ -1,12 +1,7 @@
 //! What the words of a prerequisite and of an operation say.
 ghost use Rattle.std.specs.Prelude.{◌≡◌, ◌∷◌, List, map, IfSome, None, Some};
-ghost use Rattle.std.specs.Option.{option_map};
-ghost use Rattle.std.specs.List.{All};
+ghost use Rattle.job_script.specs.Prelude.{option_map, All, data_of, IsPlaced, token_view, Says, operation_view, prerequisite_view};
 ghost use Rattle.job_model.specs.Arguments as jobs;
-ghost use Rattle.zone_model.specs.Data.{data_of};
-ghost use Rattle.zone_text.specs.Tokens.{IsPlaced, token_view};
-ghost use Rattle.job_script.specs.Scripts.{Says};
-ghost use Rattle.zone_change.specs.Views.{operation_view, prerequisite_view};
 
 use crate::refusal::{JobRefusal, refused};
 use dns_name::Name;

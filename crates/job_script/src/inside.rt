@@ -1,14 +1,9 @@
 //! Lines inside a block.
 ghost use Rattle.std.specs.Prelude.{◌≡◌, ◌<◌, ◌≤◌, ◌+◌, ◌∷◌, ◌++◌, [], ℕ, List, length, map, Some, None, Option, Ok, Err, Result, IfSome};
-ghost use Rattle.std.specs.Option.{option_map};
-ghost use Rattle.std.specs.List.{All};
-ghost use Rattle.job_model.specs.Arguments.{addition_of, deletion_of};
+ghost use Rattle.job_script.specs.Prelude.{option_map, All, addition_of, deletion_of, IsPlaced, token_view, phrase_view, PhrasePlaced};
+ghost use Rattle.job_script.specs.Prelude.{unfinished_view, script_view, ScriptReads, operation_view, prerequisite_view};
 ghost use Rattle.job_model.specs.Jobs as jobs;
 ghost use Rattle.job_model.specs.Phrases as phrases;
-ghost use Rattle.zone_text.specs.Tokens.{IsPlaced, token_view};
-ghost use Rattle.job_script.specs.Phrases.{phrase_view, PhrasePlaced};
-ghost use Rattle.job_script.specs.Scripts.{unfinished_view, script_view, ScriptReads};
-ghost use Rattle.zone_change.specs.Views.{operation_view, prerequisite_view};
 
 use crate::changes::{addition_of, deletion_of, prerequisite_of};
 use crate::commands::{Block, Command};

@@ -1,9 +1,6 @@
 //! Laws of jobs, each as the contract of a function that does nothing.
 ghost use Rattle.std.specs.Prelude.{◌≡◌, ℕ, List, Result};
-ghost use Rattle.zone_model.specs.Names.{Name};
-ghost use Rattle.job_model.specs.Commands.{Job};
-ghost use Rattle.job_model.specs.Jobs.{JobRefusal, job_of};
-ghost use Rattle.job_script.specs.Spelled.{SaysJob};
+ghost use Rattle.job_script.specs.Prelude.{Name, Job, JobRefusal, job_of, SaysJob};
 
 /// Bytes say the job, or are refused for what, the grammar of lines spells: entry by entry of the zone, and line by line of
 /// the script. The grammar spells one for all bytes, and no two.

@@ -1,9 +1,7 @@
 //! What a job needs of its index.
 ghost use Rattle.std.specs.Prelude.{◌≡◌, ◌≤◌, ◌+◌, max, map, IfOk};
-ghost use Rattle.zone_change.specs.Views.{operation_view};
-ghost use Rattle.job_model.specs.Needs.{cells_added, cells_of_operations, cells_of_commands, cells_of_workers, longest, longest_of_workers};
-ghost use Rattle.job_model.specs.Outcomes.{asked_by};
-ghost use Rattle.job_script.specs.Views.{command_view, worker_view, workers_view, job_view};
+ghost use Rattle.job_script.specs.Prelude.{operation_view, cells_added, cells_of_operations, cells_of_commands, cells_of_workers};
+ghost use Rattle.job_script.specs.Prelude.{longest, longest_of_workers, asked_by, command_view, worker_view, workers_view, job_view};
 
 use crate::commands::{Command, Job, Worker};
 use std::alloc::AllocError;

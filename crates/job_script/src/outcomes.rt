@@ -1,8 +1,6 @@
 //! How commands ended.
 ghost use Rattle.std.specs.Prelude.{◌≡◌};
-ghost use Rattle.std.specs.List.{list_any};
-ghost use Rattle.job_model.specs.Outcomes.{is_committed, is_refused};
-ghost use Rattle.job_script.specs.Outcomes.{ended_view};
+ghost use Rattle.job_script.specs.Prelude.{list_any, is_committed, is_refused, ended_view};
 
 use zone_model::Refusal;
 

@@ -1,11 +1,8 @@
 //! Lines outside a block.
 ghost use Rattle.std.specs.Prelude.{◌≡◌, ◌<◌, ◌≤◌, ◌+◌, ◌∷◌, ◌++◌, [], ℕ, List, length, map, Some, None, Option, Ok, Err, Result};
-ghost use Rattle.zone_model.specs.Names.{Name as Labels};
+ghost use Rattle.job_script.specs.Prelude.{Labels, asked_view, AskedPlaced, phrase_view, PhrasePlaced, script_view, ScriptReads};
 ghost use Rattle.job_model.specs.Jobs as jobs;
 ghost use Rattle.job_model.specs.Phrases as phrases;
-ghost use Rattle.job_script.specs.Asked.{asked_view, AskedPlaced};
-ghost use Rattle.job_script.specs.Phrases.{phrase_view, PhrasePlaced};
-ghost use Rattle.job_script.specs.Scripts.{script_view, ScriptReads};
 
 use crate::commands::{Command, Worker};
 use crate::phrases::Phrase;

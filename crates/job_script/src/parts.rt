@@ -1,8 +1,6 @@
 //! The two parts of a job's input.
 ghost use Rattle.std.specs.Prelude.{◌≡◌, ◌<◌, ◌≤◌, ◌+◌, ◌^◌, ℕ, List, length, take, drop};
-ghost use Rattle.job_model.specs.Jobs.{zone_lines, script_lines, script_start};
-ghost use Rattle.zone_model.specs.Lines.{lines_of};
-ghost use Rattle.job_script.specs.Parts.{IsCutAt};
+ghost use Rattle.job_script.specs.Prelude.{zone_lines, script_lines, script_start, lines_of, IsCutAt};
 
 use zone_text::line_at;
 

@@ -1,11 +1,7 @@
 //! What the tokens of a script's line are, by the command word and the number of tokens.
 ghost use Rattle.std.specs.Prelude.{◌≡◌, ◌<◌, ◌≤◌, ◌∷◌, [], ℕ, List, length, map, Some, None, Option, IfSome};
-ghost use Rattle.std.specs.Option.{option_map};
-ghost use Rattle.std.specs.List.{All};
-ghost use Rattle.zone_model.specs.Names.{Name as Labels};
+ghost use Rattle.job_script.specs.Prelude.{option_map, All, Labels, IsPlaced, token_view, phrase_view, PhrasePlaced};
 ghost use Rattle.job_model.specs.Phrases as phrases;
-ghost use Rattle.zone_text.specs.Tokens.{IsPlaced, token_view};
-ghost use Rattle.job_script.specs.Phrases.{phrase_view, PhrasePlaced};
 
 use crate::questions::{Asked, asked_of};
 use crate::words::says;

@@ -1,9 +1,6 @@
 //! How answers are printed: their records as they are found.
 ghost use Rattle.std.specs.Prelude.{◌≡◌, ◌++◌, [], List, length, OnOk};
-ghost use Rattle.std.specs.List.{flat_map};
-ghost use Rattle.zone_model.specs.Rows.{Row, row_text, rows_of};
-ghost use Rattle.job_model.specs.Replies.{answer_text, kind_text, rows_text};
-ghost use Rattle.job_script.specs.Printed.{HasPrinted};
+ghost use Rattle.job_script.specs.Prelude.{flat_map, Row, row_text, rows_of, answer_text, kind_text, rows_text, HasPrinted};
 
 use crate::replies::push_kind;
 use dns_name::Name;

@@ -1,12 +1,8 @@
 //! The questions of scripts: the word of each, and what its operands say.
 ghost use Rattle.std.specs.Prelude.{◌≡◌, map, Option, IfSome};
-ghost use Rattle.std.specs.Option.{option_map};
-ghost use Rattle.std.specs.List.{All};
-ghost use Rattle.zone_model.specs.Names.{Name as Labels};
+ghost use Rattle.job_script.specs.Prelude.{option_map, All, Labels, IsPlaced, token_view, asked_view, AskedPlaced};
 ghost use Rattle.job_model.specs.Questions as questions;
 ghost use Rattle.job_script.specs.declared.questions.Asked.TheVariants as asked;
-ghost use Rattle.zone_text.specs.Tokens.{IsPlaced, token_view};
-ghost use Rattle.job_script.specs.Asked.{asked_view, AskedPlaced};
 
 use crate::words::{lone, names_word, pair, says};
 use dns_name::Name;

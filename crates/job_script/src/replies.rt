@@ -1,8 +1,7 @@
 //! How replies to questions are printed.
 ghost use Rattle.std.specs.Prelude.{◌≡◌, ◌++◌, OnOk, codes, decimal};
-ghost use Rattle.std.specs.List.{flat_map};
+ghost use Rattle.job_script.specs.Prelude.{flat_map, count_text};
 ghost use Rattle.job_model.specs.Replies as replies;
-ghost use Rattle.job_model.specs.Replies.{count_text};
 
 use crate::marks::push_marked;
 use dns_name::Name;

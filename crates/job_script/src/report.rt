@@ -1,9 +1,7 @@
 //! What is printed of a job's outcomes, one by one.
 ghost use Rattle.std.specs.Prelude.{◌≡◌, ◌++◌, OnOk, codes, decimal};
-ghost use Rattle.std.specs.List.{flat_map};
+ghost use Rattle.job_script.specs.Prelude.{flat_map, head_text, ended_text, cause_text, end_text, rule_text, cause_view, told_text, outcome_text};
 ghost use Rattle.job_model.specs.Outcomes as outcomes;
-ghost use Rattle.job_model.specs.Reports.{head_text, ended_text, cause_text, end_text, rule_text};
-ghost use Rattle.job_script.specs.Outcomes.{cause_view, told_text, outcome_text};
 
 use crate::marks::push_marked;
 use crate::outcomes::{Cause, Outcome, Told};

@@ -1,15 +1,9 @@
 //! The lines of a script.
 ghost use Rattle.std.specs.Prelude.{◌≡◌, ◌<◌, ◌≤◌, ◌+◌, ◌^◌, ◌∷◌, ◌++◌, [], ℕ, List, length, IfOk, OnOk, map, vec_len, Some, None, Option, drop, Ok, Err, Result, false};
-ghost use Rattle.std.specs.Option.{option_map};
-ghost use Rattle.std.specs.List.{All, AllByRecursion};
-ghost use Rattle.zone_model.specs.Names.{Name as Labels};
-ghost use Rattle.job_model.specs.Commands.{InTurn, NeedsNoSnapshot};
+ghost use Rattle.job_script.specs.Prelude.{option_map, All, AllByRecursion, Labels, InTurn, NeedsNoSnapshot, lines_of};
+ghost use Rattle.job_script.specs.Prelude.{IsPlaced, token_view, phrase_view, PhrasePlaced, first_script, unfinished_view};
+ghost use Rattle.job_script.specs.Prelude.{script_view, ScriptReads, ScriptSteps, Says, job_view, list_view};
 ghost use Rattle.job_model.specs.Jobs as jobs;
-ghost use Rattle.zone_model.specs.Lines.{lines_of};
-ghost use Rattle.zone_text.specs.Tokens.{IsPlaced, token_view};
-ghost use Rattle.job_script.specs.Phrases.{phrase_view, PhrasePlaced};
-ghost use Rattle.job_script.specs.Scripts.{first_script, unfinished_view, script_view, ScriptReads, ScriptSteps, Says};
-ghost use Rattle.job_script.specs.Views.{job_view, list_view};
 
 use crate::commands::{Command, Job, Worker};
 use crate::inside::inside;

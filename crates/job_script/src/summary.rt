@@ -1,7 +1,6 @@
 //! The summary of a job.
 ghost use Rattle.std.specs.Prelude.{◌≡◌, ◌+◌, ◌++◌, OnOk, IfOk, if◌then◌else◌};
-ghost use Rattle.job_model.specs.Summaries.{counts_text, sized_end_text};
-ghost use Rattle.job_script.specs.Summaries.{Tallied, AllTallied, refused_lines, all_refused_lines, summary_text};
+ghost use Rattle.job_script.specs.Prelude.{counts_text, sized_end_text, Tallied, AllTallied, refused_lines, all_refused_lines, summary_text};
 
 use crate::outcomes::{Outcome, Outcomes, is_committed, is_refused};
 use crate::replies::push_size;

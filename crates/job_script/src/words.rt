@@ -1,9 +1,7 @@
 //! The words of a script's line.
 ghost use Rattle.std.specs.Prelude.{◌≡◌, ◌≤◌, ℕ, List, map, Option, IfSome};
-ghost use Rattle.std.specs.Option.{option_map};
-ghost use Rattle.std.specs.List.{All};
+ghost use Rattle.job_script.specs.Prelude.{option_map, All, IsPlaced, token_view};
 ghost use Rattle.job_model.specs.Words as words;
-ghost use Rattle.zone_text.specs.Tokens.{IsPlaced, token_view};
 
 use zone_text::{Token, number};
 

@@ -4,3 +4,4 @@ pub mod Endings
 pub mod Feeds
 pub mod Zones
 pub mod Dumps
+pub mod Prelude

@@ -1,13 +1,7 @@
 //! Commands that need no snapshot. One pass of the index is enough for them.
 ghost use Rattle.std.specs.Prelude.{◌≡◌, IsSome, IfOk, Option};
-ghost use Rattle.job_model.specs.Commands.{NeedsNoSnapshot};
-ghost use Rattle.job_script.specs.Views.{command_view};
-ghost use Rattle.report_laws.specs.Changes.{AllAsked};
-ghost use Rattle.shared_index.specs.Passes.{known_at};
-ghost use Rattle.job_commands.specs.Histories.{Setup};
-ghost use Rattle.job_commands.specs.Commands.{IsSetup, OpensAt, Seat};
-ghost use Rattle.job_commands.specs.Steps.{IsUnder, Step};
-ghost use Rattle.job_threads.specs.Stations.{Pinned, IsPlaced, holder_view, station};
+ghost use Rattle.job_threads.specs.Prelude.{NeedsNoSnapshot, command_view, AllAsked, known_at, Setup, IsSetup};
+ghost use Rattle.job_threads.specs.Prelude.{OpensAt, Seat, IsUnder, Step, Pinned, IsPlaced, holder_view, station};
 
 use dns_name::Name;
 use job_commands::{Room, ZoneLaw, run_block, run_compaction, run_question};

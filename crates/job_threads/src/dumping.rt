@@ -1,15 +1,7 @@
 //! A zone that is written as a master file.
 ghost use Rattle.std.specs.Prelude.{◌≡◌, ◌≤◌, ℕ, All, IsSome, IsErrOf, List, IfOk, OnOk, OnErr, length, map, Some, slice_get};
-ghost use Rattle.outer_io.specs.Bytes.{Grows, GrowsByFront};
-ghost use Rattle.outer_io.specs.Faults.{Rose};
-ghost use Rattle.zone_model.specs.Versions.{Version};
-ghost use Rattle.zone_model.specs.Dumps.{dump};
-ghost use Rattle.trie_write.specs.Entries.{entries_of_items};
-ghost use Rattle.shared_index.specs.Passes.{known_at};
-ghost use Rattle.shared_index.specs.Closings.{AreAll};
-ghost use Rattle.job_commands.specs.Histories.{Entries, IsZone, StandsAs};
-ghost use Rattle.job_commands.specs.Works.{AreNew};
-ghost use Rattle.job_threads.specs.Dumps.{DumpedOn, StopsOn, Visited, Writes};
+ghost use Rattle.job_threads.specs.Prelude.{Grows, GrowsByFront, Rose, Version, dump, entries_of_items, known_at, AreAll};
+ghost use Rattle.job_threads.specs.Prelude.{Entries, IsZone, StandsAs, AreNew, DumpedOn, StopsOn, Visited, Writes};
 
 use dns_name::Name;
 use job_commands::ZoneLaw;

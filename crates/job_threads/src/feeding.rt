@@ -1,21 +1,9 @@
 //! One list of commands, of which each worker takes the next one when it comes free.
 ghost use Rattle.std.specs.Prelude.{◌≡◌, ◌+◌, ◌<◌, ◌≤◌, ◌∷◌, ℕ, List, All, IsSome, IfOk, length, map, Some, None};
-ghost use Rattle.std.specs.List.{AllByRecursion};
-ghost use Rattle.std.specs.Thread.{IsSync};
-ghost use Rattle.zone_model.specs.Versions.{Version};
-ghost use Rattle.job_model.specs.Commands.{NeedsNoSnapshot};
-ghost use Rattle.job_model.specs.Feeds.{passes_fed};
-ghost use Rattle.job_script.specs.Views.{command_view};
-ghost use Rattle.feed_core.specs.Feeds.{new_seat};
-ghost use Rattle.report_laws.specs.Changes.{AllAsked};
-ghost use Rattle.shared_index.specs.Passes.{known_at, Learnt};
-ghost use Rattle.shared_index.specs.Closings.{AreAll};
-ghost use Rattle.job_commands.specs.Histories.{Setup, StandsAs};
-ghost use Rattle.job_commands.specs.Works.{AreNew, IsNew, WorkerRan, ended, only};
-ghost use Rattle.job_commands.specs.Calls.{IsHeard};
-ghost use Rattle.job_commands.specs.Commands.{IsIndex, IsSetup, OpensAt};
-ghost use Rattle.job_commands.specs.Closings.{Gathers};
-ghost use Rattle.job_threads.specs.Feeds.{FedHeard, IsFedRun, IsServed, commands_at, commands_served, done_seat, outcomes_served, seats_served};
+ghost use Rattle.job_threads.specs.Prelude.{AllByRecursion, IsSync, Version, NeedsNoSnapshot, passes_fed, command_view, new_seat};
+ghost use Rattle.job_threads.specs.Prelude.{AllAsked, known_at, Learnt, AreAll, Setup, StandsAs, AreNew, IsNew, WorkerRan};
+ghost use Rattle.job_threads.specs.Prelude.{ended, only, IsHeard, IsIndex, IsSetup, OpensAt, Gathers, FedHeard, IsFedRun};
+ghost use Rattle.job_threads.specs.Prelude.{IsServed, commands_at, commands_served, done_seat, outcomes_served, seats_served};
 
 use crate::alone::run_alone;
 use crate::job::close_index;

@@ -1,7 +1,6 @@
 //! Snapshots of a worker. While it holds one its second pass is away.
 ghost use Rattle.std.specs.Prelude.{◌≡◌, IsSome, IfOk};
-ghost use Rattle.shared_index.specs.Passes.{known_at};
-ghost use Rattle.job_threads.specs.Snapshots.{IsHeld, Held, AskedHeld, Released};
+ghost use Rattle.job_threads.specs.Prelude.{known_at, IsHeld, Held, AskedHeld, Released};
 
 use dns_name::Name;
 use job_commands::{Room, ZoneLaw, reply_text};

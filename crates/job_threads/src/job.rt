@@ -1,21 +1,8 @@
 //! All workers of a job, each in a thread of its own where one can be started.
 ghost use Rattle.std.specs.Prelude.{◌≡◌, ◌+◌, ◌*◌, ◌∷◌, List, All, IsSome, IfOk, length, map, false};
-ghost use Rattle.std.specs.List.{AllByRecursion};
-ghost use Rattle.std.specs.Thread.{IsSync};
-ghost use Rattle.zone_model.specs.Versions.{Version};
-ghost use Rattle.job_model.specs.Commands.{InTurn};
-ghost use Rattle.job_model.specs.Outcomes.{passes_for};
-ghost use Rattle.job_script.specs.Views.{command_view, job_view, worker_view, workers_view};
-ghost use Rattle.report_laws.specs.Changes.{AllAsked};
-ghost use Rattle.shared_index.specs.Passes.{known_at, Learnt};
-ghost use Rattle.shared_index.specs.Closings.{AreAll};
-ghost use Rattle.job_commands.specs.Histories.{Setup, StandsAs};
-ghost use Rattle.job_commands.specs.Works.{AreNew, Begins, Numbers, WorkerRan, ended};
-ghost use Rattle.job_commands.specs.Calls.{AllHeard, AreHeard};
-ghost use Rattle.job_commands.specs.Commands.{IsIndex, IsSetup, OpensAt};
-ghost use Rattle.job_commands.specs.Closings.{Gathers};
-ghost use Rattle.job_commands.specs.Runs.{IsRun};
-ghost use Rattle.job_threads.specs.Endings.{EndsRun};
+ghost use Rattle.job_threads.specs.Prelude.{AllByRecursion, IsSync, Version, InTurn, passes_for, command_view, job_view, worker_view};
+ghost use Rattle.job_threads.specs.Prelude.{workers_view, AllAsked, known_at, Learnt, AreAll, Setup, StandsAs, AreNew, Begins, Numbers};
+ghost use Rattle.job_threads.specs.Prelude.{WorkerRan, ended, AllHeard, AreHeard, IsIndex, IsSetup, OpensAt, Gathers, IsRun, EndsRun};
 
 use crate::worker::{Done, Task, run_worker};
 use dns_name::Name;

@@ -1,8 +1,7 @@
 //! The outcomes of one list's commands, in the order of these.
 ghost use Rattle.std.specs.Prelude.{◌≡◌, ◌≢◌, ◌<◌, ◌≤◌, ◌-◌, [], ℕ, All, IfOk, IsSome, Some, length, map, replicate, slice_set};
-ghost use Rattle.std.specs.List.{AllByRecursion};
-ghost use Rattle.std.specs.List.Sorted.{IsStrictlyIncreasing};
-ghost use Rattle.job_threads.specs.Feeds.{AreInOrder, AreTaken, IsBy, IsFree, IsServed, numbered, numbers_served, served_by};
+ghost use Rattle.job_threads.specs.Prelude.{AllByRecursion, IsStrictlyIncreasing, AreInOrder, AreTaken};
+ghost use Rattle.job_threads.specs.Prelude.{IsBy, IsFree, IsServed, numbered, numbers_served, served_by};
 
 use job_script::{FedOutcome, Outcomes};
 use std::alloc::{AllocError, Global};

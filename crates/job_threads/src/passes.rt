@@ -1,12 +1,7 @@
 //! A worker's two passes: one asks and writes, and the other is with the snapshot while one is held.
 ghost use Rattle.std.specs.Prelude.{◌≡◌, IsSome, IfSome, IfOk, None, true, false};
-ghost use Rattle.std.specs.Option.{option_map, is_some};
-ghost use Rattle.job_model.specs.Commands.{Hold, AskHeld, Release};
-ghost use Rattle.shared_cells.specs.History.{IsPartOf};
-ghost use Rattle.shared_index.specs.Passes.{known_at, first_version};
-ghost use Rattle.job_commands.specs.Histories.{Setup};
-ghost use Rattle.job_commands.specs.Steps.{IsUnder, Step};
-ghost use Rattle.job_threads.specs.Stations.{IsPlaced, holder_view, station};
+ghost use Rattle.job_threads.specs.Prelude.{option_map, is_some, Hold, AskHeld, Release, IsPartOf, known_at};
+ghost use Rattle.job_threads.specs.Prelude.{first_version, Setup, IsUnder, Step, IsPlaced, holder_view, station};
 
 use crate::holding::{ask_held, hold, release};
 use dns_name::Name;

@@ -1,17 +1,8 @@
 //! A worker that runs its commands.
 ghost use Rattle.std.specs.Prelude.{◌≡◌, IsSome, IfSome, IfOk, length, map, false};
-ghost use Rattle.std.specs.Option.{option_map, is_some};
-ghost use Rattle.std.specs.List.{AllByRecursion};
-ghost use Rattle.job_model.specs.Commands.{InTurn, MayCome, held_after};
-ghost use Rattle.job_script.specs.Views.{command_view};
-ghost use Rattle.report_laws.specs.Changes.{AllAsked};
-ghost use Rattle.shared_index.specs.Passes.{known_at};
-ghost use Rattle.job_commands.specs.Histories.{Setup};
-ghost use Rattle.job_commands.specs.Calls.{AreHeard};
-ghost use Rattle.job_commands.specs.Commands.{IsSetup, OpensAt};
-ghost use Rattle.job_commands.specs.Steps.{IsUnder, Step};
-ghost use Rattle.job_threads.specs.Stations.{IsPlaced, holder_view, station};
-ghost use Rattle.job_commands.specs.Works.{Begins, Numbers, WorkerRan, ended};
+ghost use Rattle.job_threads.specs.Prelude.{option_map, is_some, AllByRecursion, InTurn, MayCome, held_after};
+ghost use Rattle.job_threads.specs.Prelude.{command_view, AllAsked, known_at, Setup, AreHeard, IsSetup, OpensAt, IsUnder};
+ghost use Rattle.job_threads.specs.Prelude.{Step, IsPlaced, holder_view, station, Begins, Numbers, WorkerRan, ended};
 
 use crate::alone::run_alone;
 use crate::passes::{Passes, ask_snapshot, give_back, second_pass, take_snapshot};

@@ -1,15 +1,7 @@
 //! A job on the index of its zone.
 ghost use Rattle.std.specs.Prelude.{◌≡◌, ◌≤◌, IfOk, List, length, map, Some, slice_get, false};
-ghost use Rattle.std.specs.List.{AllByRecursion};
-ghost use Rattle.zone_model.specs.Versions.{Version};
-ghost use Rattle.trie_write.specs.Entries.{entries_of_items};
-ghost use Rattle.job_model.specs.Commands.{InTurn, NeedsNoSnapshot};
-ghost use Rattle.job_model.specs.Feeds.{passes_fed};
-ghost use Rattle.job_model.specs.Outcomes.{passes_for};
-ghost use Rattle.job_script.specs.Views.{command_view, job_view};
-ghost use Rattle.report_laws.specs.Changes.{AllAsked};
-ghost use Rattle.job_commands.specs.Histories.{IsZone, StandsAs};
-ghost use Rattle.job_threads.specs.Zones.{FedRanOn, RanOn};
+ghost use Rattle.job_threads.specs.Prelude.{AllByRecursion, Version, entries_of_items, InTurn, NeedsNoSnapshot, passes_fed};
+ghost use Rattle.job_threads.specs.Prelude.{passes_for, command_view, job_view, AllAsked, IsZone, StandsAs, FedRanOn, RanOn};
 
 use crate::feeding::{FedFinished, run_feed};
 use crate::job::{Finished, run_job};

@@ -3,3 +3,4 @@ pub mod Zones
 pub mod Owners
 pub mod Items
 pub mod Owned
+pub mod Prelude

@@ -1,12 +1,7 @@
 //! What entries say.
 ghost use Rattle.std.specs.Prelude.{◌≡◌, ◌≤◌, ◌-◌, ℕ, List, length, map, Some, Ok, Err, Result, IfOk, OnOk};
-ghost use Rattle.std.specs.List.{All};
-ghost use Rattle.zone_model.specs.MasterFile.{directive, record_says, entry_says, last_line, set_time_word, set_origin_word, one_argument, placed};
-ghost use Rattle.zone_model.specs.Data.{data_of};
-ghost use Rattle.zone_text.specs.Views.{Gives, Reads};
-ghost use Rattle.zone_text.specs.Tokens.{IsPlaced, token_view};
-ghost use Rattle.master_file.specs.Zones.{reader_view, front_view};
-ghost use Rattle.master_file.specs.Owners.{AllHeld};
+ghost use Rattle.master_file.specs.Prelude.{All, directive, record_says, entry_says, last_line, set_time_word, set_origin_word, one_argument};
+ghost use Rattle.master_file.specs.Prelude.{placed, data_of, Gives, Reads, IsPlaced, token_view, reader_view, front_view, AllHeld};
 
 use crate::front::{Front, front_of, is_directive, name_word, time_word};
 use crate::records::{Reader, line_of, minimum_behind, time_for};

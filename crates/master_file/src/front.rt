@@ -1,10 +1,7 @@
 //! What stands before a record's data.
 ghost use Rattle.std.specs.Prelude.{◌≡◌, ◌≤◌, ◌+◌, length, map, Some, None, Option, Ok, Err, Result, IfOk, false};
-ghost use Rattle.std.specs.List.{All};
-ghost use Rattle.zone_model.specs.MasterFile.{front_of, time_word, type_word, class_word, is_time, name_word, is_directive};
-ghost use Rattle.zone_text.specs.Tokens.{IsPlaced, token_view};
-ghost use Rattle.zone_text.specs.Views.{Reads};
-ghost use Rattle.master_file.specs.Zones.{front_view};
+ghost use Rattle.master_file.specs.Prelude.{All, front_of, time_word, type_word, class_word, is_time};
+ghost use Rattle.master_file.specs.Prelude.{name_word, is_directive, IsPlaced, token_view, Reads, front_view};
 
 use crate::classes::class_named;
 use dns_name::Name;

@@ -1,9 +1,6 @@
 //! The items of a zone.
 ghost use Rattle.std.specs.Prelude.{◌≡◌, ◌≤◌, [], length, IsTrue, ◌↔◌, Some, Option};
-ghost use Rattle.std.specs.List.{AllByRecursion};
-ghost use Rattle.zone_model.specs.Records.{item_limit};
-ghost use Rattle.master_file.specs.Owners.{CanBeItem, version_of};
-ghost use Rattle.master_file.specs.Items.{GivesItem};
+ghost use Rattle.master_file.specs.Prelude.{AllByRecursion, item_limit, CanBeItem, version_of, GivesItem};
 
 use crate::owned::Owned;
 use dns_name::SortKey;

@@ -1,14 +1,8 @@
 //! Laws of master files, each as the contract of a function that does nothing.
 ghost use Rattle.std.specs.Prelude.{◌≡◌, ℕ, ◌+◌, ◌++◌, Bool, List, Option, None, Ok};
-ghost use Rattle.std.specs.List.{AllByRecursion, flat_map};
-ghost use Rattle.zone_model.specs.Names.{Name};
-ghost use Rattle.zone_model.specs.Lines.{lines_of};
-ghost use Rattle.zone_model.specs.Versions.{Version};
-ghost use Rattle.zone_model.specs.Rows.{Row, Directives, line_text, row_text};
-ghost use Rattle.zone_model.specs.declared.Style.{Style};
-ghost use Rattle.zone_model.specs.Dumps.{dump};
-ghost use Rattle.zone_model.specs.MasterFile.{Reader, zone_from, zone_of};
-ghost use Rattle.master_file.specs.Rows.{IsRecord, StandsUnder, KnowsOwner, CanBeDumped, written, row_added, read_on, zone_of_rows};
+ghost use Rattle.master_file.specs.Prelude.{AllByRecursion, flat_map, Name, lines_of, Version, Row, Directives, line_text};
+ghost use Rattle.master_file.specs.Prelude.{row_text, Style, dump, Reader, zone_from, zone_of, IsRecord, StandsUnder};
+ghost use Rattle.master_file.specs.Prelude.{KnowsOwner, CanBeDumped, written, row_added, read_on, zone_of_rows};
 
 /// A printed record is read as that record, whatever was read before and whatever the origin, unless its line leaves
 /// something out: then by a reader that has learnt that. Reading goes on at the line behind it.

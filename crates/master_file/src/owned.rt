@@ -1,12 +1,6 @@
 //! What one name owns, as it is read.
 ghost use Rattle.std.specs.Prelude.{◌≡◌, ◌≤◌, [], Some, None, Ok, Err, Result, IfOk, OnOk, is_some, length, take};
-ghost use Rattle.zone_model.specs.Names.{Name as Labels};
-ghost use Rattle.zone_model.specs.Records.{Entry as Records, with_rr, rrset_of, item_limit, IsItem};
-ghost use Rattle.zone_model.specs.Versions.{is_lone};
-ghost use Rattle.zone_model.specs.MasterFile.{soa_count};
-ghost use Rattle.master_file.specs.Zones.{Checks};
-ghost use Rattle.master_file.specs.Owned.{IsCounted};
-ghost use Rattle.master_file.specs.Owners.{CanBeItem};
+ghost use Rattle.master_file.specs.Prelude.{Labels, Records, with_rr, rrset_of, item_limit, IsItem, is_lone, soa_count, Checks, IsCounted, CanBeItem};
 
 use dns_name::{Name, OwnedName};
 use rr_data::{CNAME, DecodeRefusal, Entry, ITEM_LIMIT, Rdata, SOA, single_item};

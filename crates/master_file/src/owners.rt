@@ -1,10 +1,6 @@
 //! The records of a zone by owner, as they are read.
 ghost use Rattle.std.specs.Prelude.{◌≡◌, ◌-◌, [], Some, None, Ok, Err, Result, IfOk, OnOk, ◌==◌, ◌&&◌, not};
-ghost use Rattle.zone_model.specs.Names.{same_name};
-ghost use Rattle.zone_model.specs.Versions.{has_soa, soa_type};
-ghost use Rattle.zone_model.specs.MasterFile.{added};
-ghost use Rattle.zone_text.specs.Views.{Gives};
-ghost use Rattle.master_file.specs.Owners.{placed_at, version_of, AllHeld};
+ghost use Rattle.master_file.specs.Prelude.{same_name, has_soa, soa_type, added, Gives, placed_at, version_of, AllHeld};
 
 use crate::owned::Owned;
 use dns_name::{Name, SortKey};

@@ -1,9 +1,6 @@
 //! What the records of a file take from those before them.
 ghost use Rattle.std.specs.Prelude.{◌≡◌, ◌<◌, ◌+◌, ◌-◌, ◌==◌, if◌then◌else◌, ℕ, List, map, Some, Option, slice_index};
-ghost use Rattle.zone_model.specs.MasterFile.{minimum_of, time_for, line_of};
-ghost use Rattle.zone_model.specs.Versions.{soa_type};
-ghost use Rattle.zone_text.specs.Tokens.{token_view};
-ghost use Rattle.master_file.specs.Zones.{reader_view};
+ghost use Rattle.master_file.specs.Prelude.{minimum_of, time_for, line_of, soa_type, token_view, reader_view};
 
 use crate::owners::Owners;
 use dns_name::Name;

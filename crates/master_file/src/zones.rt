@@ -1,13 +1,7 @@
 //! The zone that bytes say.
 ghost use Rattle.std.specs.Prelude.{◌≡◌, ◌<◌, ◌≤◌, ◌+◌, ◌-◌, [], ◌^◌, length, drop, None, Ok, Err, Result, IfOk, IsTrue, ◌↔◌};
-ghost use Rattle.std.specs.List.Sorted.{IsStrictlySortedBy};
-ghost use Rattle.std.specs.Map.{keys_of};
-ghost use Rattle.zone_model.specs.Names.{name_cmp};
-ghost use Rattle.zone_model.specs.Lines.{lines_of};
-ghost use Rattle.zone_model.specs.MasterFile.{zone_of, zone_from, at_first};
-ghost use Rattle.zone_text.specs.Views.{Reads};
-ghost use Rattle.master_file.specs.Zones.{reader_view, ReadsAll, ReadsNext};
-ghost use Rattle.master_file.specs.Owners.{AllHeld};
+ghost use Rattle.master_file.specs.Prelude.{IsStrictlySortedBy, keys_of, name_cmp, lines_of, zone_of, zone_from};
+ghost use Rattle.master_file.specs.Prelude.{at_first, Reads, reader_view, ReadsAll, ReadsNext, AllHeld};
 
 use crate::entries::read_entry;
 use crate::items::ZoneItems;

@@ -3,22 +3,10 @@
 #![tactic(auto)]
 
 ghost use Rattle.std.specs.Prelude.{◌≡◌, ◌+◌, ◌≤◌, ℕ, List, length, map, Some, Ok};
-ghost use Rattle.std.specs.List.{AllByRecursion};
-ghost use Rattle.zone_model.specs.Names.{Name, IsName};
-ghost use Rattle.zone_model.specs.Versions.{Version};
-ghost use Rattle.master_file.specs.Rows.{CanBeDumped};
-ghost use Rattle.job_model.specs.Commands.{FedJob, Job};
-ghost use Rattle.job_model.specs.Jobs.{fed_job_of, job_of};
-ghost use Rattle.job_model.specs.Sizes.{cell_count};
-ghost use Rattle.job_model.specs.Needs.{cells_of_commands, most_cells, most_operations};
-ghost use Rattle.job_model.specs.Outcomes.{Lawful, Pair, all_pairs, passes_for};
-ghost use Rattle.job_model.specs.Feeds.{Fed, FedPair, all_numbers, by_worker, passes_fed};
-ghost use Rattle.trie_model.specs.Capacity.{is_roomy, IsLeast};
-ghost use Rattle.shared_index.specs.Openings.{room_in};
-ghost use Rattle.report_laws.specs.Octets.{AllOctets};
-ghost use Rattle.report_laws.specs.Changes.{AllAsked};
-ghost use Rattle.report_laws.specs.Versions.{AreFedOutcomesOf, AreOutcomesOf};
-ghost use Rattle.need_laws.specs.Bounds.{AllFedFindRoom, AllFindRoom, IsSaidJob, IsSaidList, IsSized, IsSizedList, HaveFewCells, HaveFewOperations};
+ghost use Rattle.need_laws.specs.Prelude.{AllByRecursion, Name, IsName, Version, CanBeDumped, FedJob, Job, fed_job_of, job_of, cell_count};
+ghost use Rattle.need_laws.specs.Prelude.{cells_of_commands, most_cells, most_operations, Lawful, Pair, all_pairs, passes_for, Fed, FedPair, all_numbers};
+ghost use Rattle.need_laws.specs.Prelude.{by_worker, passes_fed, is_roomy, IsLeast, room_in, AllOctets, AllAsked, AreFedOutcomesOf, AreOutcomesOf};
+ghost use Rattle.need_laws.specs.Prelude.{AllFedFindRoom, AllFindRoom, IsSaidJob, IsSaidList, IsSized, IsSizedList, HaveFewCells, HaveFewOperations};
 
 /// No version of a job has more cells than the job is reckoned at, and no transaction of it works on more, however it ends. The
 /// commands may have any outcomes: those that are lawful are some of them.

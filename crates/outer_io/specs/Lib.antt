@@ -3,3 +3,4 @@ pub mod Calls
 pub mod Bytes
 pub mod Memory
 pub mod Streams
+pub mod Prelude

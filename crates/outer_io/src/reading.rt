@@ -1,7 +1,5 @@
 ghost use Rattle.std.specs.Prelude.{◌≡◌, ◌+◌, ◌≤◌, ◌^◌, ◌<◌, ℕ, List, length, vec_len, OnOk, IfOk, IsErrOf};
-ghost use Rattle.std.specs.Io.KnownBytes.{Consumes, IsAtEnd};
-ghost use Rattle.outer_io.specs.Faults.{Rose};
-ghost use Rattle.outer_io.specs.declared.reading.ReadRefusal.TheVariants.{Memory, Fault};
+ghost use Rattle.outer_io.specs.Prelude.{Consumes, IsAtEnd, Rose, Memory, Fault};
 
 use crate::schedule::Failed;
 use crate::sources::Source;

@@ -1,9 +1,6 @@
 ghost use Rattle.std.specs.Prelude.{◌≡◌, ◌<◌, ◌≤◌, ◌↔◌, []};
 ghost use Rattle.std.specs.Prelude.{ℕ, List, Option, None, Some, MatchOption, take, length, min, IsErr, IfOk, OnOk, OnErr, IsOkAnd, Contains};
-ghost use Rattle.outer_io.specs.Faults.{Rose};
-ghost use Rattle.outer_io.specs.Bytes.{Held, held_in, Grows, GrowsByFront};
-ghost use Rattle.outer_io.specs.Calls.{next_count};
-ghost use Rattle.outer_io.specs.Memory.{told};
+ghost use Rattle.outer_io.specs.Prelude.{Rose, Held, held_in, Grows, GrowsByFront, next_count, told};
 
 use crate::room::Room;
 use crate::schedule::{Failed, Schedule};

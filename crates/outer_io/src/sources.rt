@@ -1,7 +1,5 @@
 ghost use Rattle.std.specs.Prelude.{◌≡◌, ◌<◌, ◌≤◌, ◌↔◌, ℕ, List, [], ◌++◌, Option, Some, take, length, min, IsErr, IfOk, OnOk, IsOkAnd, OnErr, Contains};
-ghost use Rattle.std.specs.Io.KnownBytes.{Consumes, IsAtEnd, Keeps};
-ghost use Rattle.outer_io.specs.Faults.{Rose};
-ghost use Rattle.outer_io.specs.Calls.{next_count};
+ghost use Rattle.outer_io.specs.Prelude.{Consumes, IsAtEnd, Keeps, Rose, next_count};
 
 use crate::feed::Feed;
 use crate::schedule::{Failed, Schedule};

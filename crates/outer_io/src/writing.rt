@@ -1,6 +1,5 @@
 ghost use Rattle.std.specs.Prelude.{◌≡◌, ◌≤◌, OnOk, OnErr};
-ghost use Rattle.outer_io.specs.Faults.{Rose};
-ghost use Rattle.outer_io.specs.Bytes.{Grows, GrowsByFront};
+ghost use Rattle.outer_io.specs.Prelude.{Rose, Grows, GrowsByFront};
 
 use crate::schedule::Failed;
 use crate::sinks::Sink;

@@ -3,3 +3,4 @@ pub mod Sound
 pub mod Machine
 pub mod Runs
 pub mod Inside
+pub mod Prelude

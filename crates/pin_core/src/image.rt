@@ -1,7 +1,6 @@
 //! Questions about images: which cells they have, and which chunks they meet.
 ghost use Rattle.std.specs.Prelude.{◌≡◌, ◌==◌, ◌&&◌, map};
-ghost use Rattle.std.specs.List.{list_any};
-ghost use Rattle.pin_core.specs.Machine.{has_cell, meets, is_kept_cell, is_kept_chunk, is_in_version, is_distinct, is_rooted};
+ghost use Rattle.pin_core.specs.Prelude.{list_any, has_cell, meets, is_kept_cell, is_kept_chunk, is_in_version, is_distinct, is_rooted};
 
 use crate::kept::{CellAt, Kept};
 use crate::words::CHUNK_CELLS;

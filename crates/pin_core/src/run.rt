@@ -1,8 +1,7 @@
 //! Whole runs of the machine.
 ghost use Rattle.std.specs.Prelude.{◌≡◌, IfOk};
-ghost use Rattle.pin_core.specs.Words.{size_of};
-ghost use Rattle.pin_core.specs.Machine.{started};
-ghost use Rattle.pin_core.specs.Runs.{IsWithinLimits, answers, IsAlwaysSound, EachReadsItsVersion, RoundsKeepFew, NoPassGoesBack};
+ghost use Rattle.pin_core.specs.Prelude.{size_of, started, IsWithinLimits, answers, IsAlwaysSound};
+ghost use Rattle.pin_core.specs.Prelude.{EachReadsItsVersion, RoundsKeepFew, NoPassGoesBack};
 
 use crate::event::{Event, Step};
 use crate::state::State;

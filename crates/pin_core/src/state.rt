@@ -1,7 +1,6 @@
 //! The machine.
 ghost use Rattle.std.specs.Prelude.{◌≡◌, IfOk, OnOk, OnErr, IsOk};
-ghost use Rattle.pin_core.specs.Machine.{IsSound, IsInPlace, next};
-ghost use Rattle.pin_core.specs.Runs.{after, answers, StoppedWithin};
+ghost use Rattle.pin_core.specs.Prelude.{IsSound, IsInPlace, next, after, answers, StoppedWithin};
 
 mod cells;
 mod opening;

@@ -1,7 +1,6 @@
 //! The shared words of an index: where each stands, and what it says.
 ghost use Rattle.std.specs.Prelude.{◌≡◌, ◌+◌, ◌*◌, ◌^◌, ◌<◌, ◌≤◌};
-ghost use Rattle.pin_core.specs.Words.{root_number, current_word, half_at, version_of};
-ghost use Rattle.pin_core.specs.Machine.{exchanged};
+ghost use Rattle.pin_core.specs.Prelude.{root_number, current_word, half_at, version_of, exchanged};
 
 use crate::event::Half;
 

@@ -6,3 +6,4 @@ pub mod Tellings
 pub mod Stops
 pub mod Saids
 pub mod Opens
+pub mod Prelude

@@ -1,12 +1,7 @@
 //! A zone that is written as a master file.
 ghost use Rattle.std.specs.Prelude.{◌≡◌, Ok, true};
-ghost use Rattle.outer_io.specs.Faults.{Rose};
-ghost use Rattle.zone_model.specs.Versions.{Version};
-ghost use Rattle.zone_model.specs.MasterFile.{zone_of};
-ghost use Rattle.trie_write.specs.Entries.{entries_of_items};
-ghost use Rattle.job_model.specs.Jobs.{zone_lines};
-ghost use Rattle.job_commands.specs.Histories.{IsZone, StandsAs};
-ghost use Rattle.qp_main.specs.Due.{CutShort, Dumps, IsWritten, MayBeShort, Written};
+ghost use Rattle.qp_main.specs.Prelude.{Rose, Version, zone_of, entries_of_items, zone_lines, IsZone};
+ghost use Rattle.qp_main.specs.Prelude.{StandsAs, CutShort, Dumps, IsWritten, MayBeShort, Written};
 
 use crate::input::Input;
 use crate::items::zone_items;

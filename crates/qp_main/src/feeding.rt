@@ -1,9 +1,6 @@
 //! One list of commands that is handed out to workers.
 ghost use Rattle.std.specs.Prelude.{◌≤◌, IfOk, IfErr};
-ghost use Rattle.job_model.specs.Jobs.{fed_job_of};
-ghost use Rattle.job_report.specs.Pieces.{pieces_text};
-ghost use Rattle.qp_main.specs.Due.{FedAnswers};
-ghost use Rattle.qp_main.specs.Stops.{IsStop};
+ghost use Rattle.qp_main.specs.Prelude.{fed_job_of, pieces_text, FedAnswers, IsStop};
 
 use crate::input::Input;
 use crate::items::zone_items;

@@ -1,22 +1,9 @@
 //! An input: the bytes of a zone or of several zones, and those of a script behind them.
 ghost use Rattle.std.specs.Prelude.{◌≡◌, ◌<◌, ◌≤◌, ◌+◌, ◌^◌, List, length, IfOk, IfErr, Ok, vec_len, false};
-ghost use Rattle.std.specs.List.{AllByRecursion};
-ghost use Rattle.zone_model.specs.Lines.{lines_of};
-ghost use Rattle.zone_model.specs.MasterFile.{zone_of};
-ghost use Rattle.zone_model.specs.Names.{IsName};
-ghost use Rattle.master_file.specs.Rows.{CanBeDumped};
-ghost use Rattle.job_model.specs.Commands.{InTurn, NeedsNoSnapshot};
-ghost use Rattle.job_model.specs.Jobs.{fed_job_of, job_of, list_of, script_lines, script_of, script_start, zone_lines};
-ghost use Rattle.job_script.specs.Views.{job_view, list_view};
-ghost use Rattle.report_laws.specs.Changes.{AllAsked};
-ghost use Rattle.zone_list.specs.Lists.{zones_of};
-ghost use Rattle.zone_list.specs.Parts.{AreListed};
+ghost use Rattle.qp_main.specs.Prelude.{AllByRecursion, lines_of, zone_of, IsName, CanBeDumped, InTurn, NeedsNoSnapshot, fed_job_of, job_of};
+ghost use Rattle.qp_main.specs.Prelude.{list_of, script_lines, script_of, script_start, zone_lines, job_view, list_view, AllAsked, zones_of};
+ghost use Rattle.qp_main.specs.Prelude.{AreListed, workers_view, IsSaid, RefusesScript, IsRead, IsStop, JobStops, ListStops, ScriptStops, ZoneStops};
 ghost use Rattle.zones_script.specs.Scripts as over_zones;
-ghost use Rattle.zones_script.specs.Views.{workers_view};
-ghost use Rattle.zones_threads.specs.Sites.{IsSaid};
-ghost use Rattle.qp_main.specs.Due.{RefusesScript};
-ghost use Rattle.qp_main.specs.Saids.{IsRead};
-ghost use Rattle.qp_main.specs.Stops.{IsStop, JobStops, ListStops, ScriptStops, ZoneStops};
 
 use crate::reading::{job_in, list_in, zone_in, zones_in, zones_script_in};
 use crate::refusing::{Stop, list_stop, script_stop, zone_stop};

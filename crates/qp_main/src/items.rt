@@ -1,7 +1,6 @@
 //! The items that version 0 of a zone is opened with.
 ghost use Rattle.std.specs.Prelude.{IfOk};
-ghost use Rattle.job_commands.specs.Histories.{StandsAs};
-ghost use Rattle.trie_write.specs.Entries.{entries_of_items};
+ghost use Rattle.qp_main.specs.Prelude.{StandsAs, entries_of_items};
 
 use index_items::zone_items as items_of;
 use master_file::Zone;

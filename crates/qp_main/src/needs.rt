@@ -1,13 +1,7 @@
 //! How many chunks a job needs.
 ghost use Rattle.std.specs.Prelude.{◌≡◌, ◌<◌, ◌≤◌, ◌+◌, ◌^◌, length, IfOk, IfErr};
-ghost use Rattle.trie_size.specs.Sizes.{IsSizeOf};
-ghost use Rattle.job_model.specs.Commands.{Job as WholeJob};
-ghost use Rattle.job_model.specs.Jobs.{job_of};
-ghost use Rattle.job_model.specs.Needs.{cells_of_workers, longest_of_workers};
-ghost use Rattle.job_model.specs.Sizes.{trie_entries};
-ghost use Rattle.job_report.specs.Pieces.{pieces_text};
-ghost use Rattle.qp_main.specs.Due.{Sized, Sizes};
-ghost use Rattle.qp_main.specs.Stops.{IsStop};
+ghost use Rattle.qp_main.specs.Prelude.{IsSizeOf, WholeJob, job_of, cells_of_workers, longest_of_workers};
+ghost use Rattle.qp_main.specs.Prelude.{trie_entries, pieces_text, Sized, Sizes, IsStop};
 
 use crate::input::Input;
 use crate::refusing::Stop;

@@ -1,19 +1,8 @@
 //! The program over any source and sink.
 ghost use Rattle.std.specs.Prelude.{◌≡◌, ◌<◌, ◌≤◌, ◌+◌, ◌^◌, ◌++◌, ◌∷◌, [], ℕ, List, length, IfOk, IfErr, OnOk, map, codes, Ok, Err, false, Option, Result, IfSome, MatchOption, IsSome, Some, None};
-ghost use Rattle.std.specs.String.{string_bytes};
-ghost use Rattle.std.specs.Io.KnownBytes.{Consumes};
-ghost use Rattle.zone_model.specs.MasterFile.{zone_of};
-ghost use Rattle.job_model.specs.Jobs.{job_of, zone_lines};
-ghost use Rattle.job_model.specs.Loads.{made_origin};
-ghost use Rattle.outer_io.specs.Faults.{Rose};
-ghost use Rattle.outer_io.specs.Bytes.{Grows, GrowsByFront};
-ghost use Rattle.job_report.specs.Pieces.{pieces_text};
-ghost use Rattle.job_make.specs.Views.{load_view};
-ghost use Rattle.command_line.specs.Invocations.{IsUnder, Make};
-ghost use Rattle.command_line.specs.Views.{invocation_view, verb_view};
-ghost use Rattle.command_line.specs.Words.{invocation_of};
-ghost use Rattle.qp_main.specs.Stops.{IsStop};
-ghost use Rattle.qp_main.specs.Due.{Answers, Checks, CutShort, Due, DueInput, EndsLoad, IsMade, IsUnwritten, IsWritten, MayBeShort, Written, input_of, is_streamed, streams};
+ghost use Rattle.qp_main.specs.Prelude.{string_bytes, Consumes, zone_of, job_of, zone_lines, made_origin, Rose, Grows, GrowsByFront, pieces_text};
+ghost use Rattle.qp_main.specs.Prelude.{load_view, IsUnder, Make, invocation_view, verb_view, invocation_of, IsStop, Answers, Checks, CutShort, Due};
+ghost use Rattle.qp_main.specs.Prelude.{DueInput, EndsLoad, IsMade, IsUnwritten, IsWritten, MayBeShort, Written, input_of, is_streamed, streams};
 
 use crate::dumping::dump_input;
 use crate::feeding::answer_list;

@@ -1,23 +1,9 @@
 //! What octets say, read with what is so of all that they may say.
 ghost use Rattle.std.specs.Prelude.{◌≡◌, ◌<◌, ◌≤◌, ◌+◌, ◌^◌, List, length, IfOk, vec_len, false};
-ghost use Rattle.std.specs.List.{AllByRecursion};
-ghost use Rattle.zone_model.specs.Lines.{lines_of};
-ghost use Rattle.zone_model.specs.MasterFile.{zone_of};
-ghost use Rattle.zone_text.specs.Views.{Reads};
-ghost use Rattle.master_file.specs.Rows.{CanBeDumped};
-ghost use Rattle.job_model.specs.Commands.{InTurn, NeedsNoSnapshot};
-ghost use Rattle.job_model.specs.Jobs.{list_of, script_of};
-ghost use Rattle.job_script.specs.Scripts.{Says};
-ghost use Rattle.job_script.specs.Views.{job_view, list_view};
-ghost use Rattle.report_laws.specs.Changes.{AllAsked};
-ghost use Rattle.zone_model.specs.Names.{IsName};
+ghost use Rattle.qp_main.specs.Prelude.{AllByRecursion, lines_of, zone_of, Reads, CanBeDumped, InTurn, NeedsNoSnapshot, list_of, script_of};
+ghost use Rattle.qp_main.specs.Prelude.{Says, job_view, list_view, AllAsked, IsName, workers_view, zones_of, AreListed, IsRead, IsSaid};
 ghost use Rattle.zones_script.specs.Scripts as over_zones;
-ghost use Rattle.zones_script.specs.Views.{workers_view};
-ghost use Rattle.zone_list.specs.Lists.{zones_of};
-ghost use Rattle.zone_list.specs.Parts.{AreListed};
 ghost use Rattle.zone_list.specs.Views as lists;
-ghost use Rattle.qp_main.specs.Saids.{IsRead};
-ghost use Rattle.zones_threads.specs.Sites.{IsSaid};
 
 use dns_name::Name;
 use job_script::{Command, Job, JobRefusal, read_job, read_list};

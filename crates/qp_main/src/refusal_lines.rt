@@ -1,7 +1,6 @@
 //! The line of a refusal.
 ghost use Rattle.std.specs.Prelude.{◌≡◌, ◌≤◌, ◌++◌, ℕ, List, IfOk, length, codes, decimal};
-ghost use Rattle.job_report.specs.Pieces.{pieces_text};
-ghost use Rattle.qp_main.specs.Due.{list_kind_text, zone_kind_text, script_kind_text, refusal_text};
+ghost use Rattle.qp_main.specs.Prelude.{pieces_text, list_kind_text, zone_kind_text, script_kind_text, refusal_text};
 
 use crate::line::{Line, refusal_line};
 use job_model::ScriptKind;

@@ -1,18 +1,7 @@
 //! What is told of a job that is run.
 ghost use Rattle.std.specs.Prelude.{◌≡◌, ◌<◌, ◌≤◌, [], ℕ, IfOk, Ok, false, length, vec_len, if◌then◌else◌};
-ghost use Rattle.std.specs.List.{AllByRecursion};
-ghost use Rattle.zone_model.specs.Versions.{Version};
-ghost use Rattle.master_file.specs.Rows.{CanBeDumped};
-ghost use Rattle.job_model.specs.Commands.{InTurn, NeedsNoSnapshot};
-ghost use Rattle.job_model.specs.Feeds.{passes_fed};
-ghost use Rattle.job_model.specs.Outcomes.{passes_for};
-ghost use Rattle.job_report.specs.Pieces.{pieces_text};
-ghost use Rattle.job_script.specs.Views.{job_view, list_view};
-ghost use Rattle.report_laws.specs.Changes.{AllAsked};
-ghost use Rattle.job_commands.specs.Histories.{IsZone, StandsAs};
-ghost use Rattle.trie_write.specs.Entries.{entries_of_items};
-ghost use Rattle.qp_main.specs.Tellings.{finished_text};
-ghost use Rattle.qp_main.specs.Due.{Answers, FedAnswers};
+ghost use Rattle.qp_main.specs.Prelude.{AllByRecursion, Version, CanBeDumped, InTurn, NeedsNoSnapshot, passes_fed, passes_for, pieces_text};
+ghost use Rattle.qp_main.specs.Prelude.{job_view, list_view, AllAsked, IsZone, StandsAs, entries_of_items, finished_text, Answers, FedAnswers};
 
 use crate::refusal_lines::no_room;
 use crate::status::Status;

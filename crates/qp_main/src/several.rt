@@ -1,16 +1,7 @@
 //! Several zones and a script over them.
 ghost use Rattle.std.specs.Prelude.{◌≡◌, ◌≤◌, All, Ok, IfOk, IfErr, length, map};
-ghost use Rattle.zone_list.specs.Parts.{AreListed};
-ghost use Rattle.zones_model.specs.Commands.{origins_of};
-ghost use Rattle.zones_script.specs.Jobs.{zones_job_of};
-ghost use Rattle.zones_script.specs.Views.{workers_view};
-ghost use Rattle.job_report.specs.Pieces.{pieces_text};
-ghost use Rattle.qp_main.specs.Due.{ZonesAnswers};
-ghost use Rattle.qp_main.specs.Opens.{AreAllItems};
-ghost use Rattle.qp_main.specs.Saids.{IsRead};
-ghost use Rattle.zones_threads.specs.Sites.{IsSaid};
-ghost use Rattle.qp_main.specs.Stops.{IsStop};
-ghost use Rattle.std.specs.List.{AllByRecursion};
+ghost use Rattle.qp_main.specs.Prelude.{AreListed, origins_of, zones_job_of, workers_view, pieces_text};
+ghost use Rattle.qp_main.specs.Prelude.{ZonesAnswers, AreAllItems, IsRead, IsSaid, IsStop, AllByRecursion};
 
 use crate::input::Input;
 use crate::items::zone_items;

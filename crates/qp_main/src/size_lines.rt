@@ -1,8 +1,6 @@
 //! The line of how large a zone is, or of what a job needs.
 ghost use Rattle.std.specs.Prelude.{◌≡◌, ◌++◌, OnOk, IfOk, codes};
-ghost use Rattle.job_model.specs.Replies.{size_text};
-ghost use Rattle.job_report.specs.Pieces.{pieces_text};
-ghost use Rattle.qp_main.specs.Needs.{chunks_text, needs_text};
+ghost use Rattle.qp_main.specs.Prelude.{size_text, pieces_text, chunks_text, needs_text};
 
 use job_report::Pieces;
 use job_script::push_size;

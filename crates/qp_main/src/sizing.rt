@@ -1,12 +1,6 @@
 //! How large the trie of a zone is. It is counted, and not made.
 ghost use Rattle.std.specs.Prelude.{◌≡◌, ◌<◌, ◌≤◌, ◌^◌, IfOk, Ok, length};
-ghost use Rattle.zone_model.specs.Records.{item_limit};
-ghost use Rattle.zone_model.specs.Versions.{Version};
-ghost use Rattle.trie_model.specs.Keys.{Rises};
-ghost use Rattle.trie_size.specs.Sizes.{IsSizeOf};
-ghost use Rattle.job_model.specs.Sizes.{trie_entries};
-ghost use Rattle.job_report.specs.Pieces.{pieces_text};
-ghost use Rattle.qp_main.specs.Due.{Checks};
+ghost use Rattle.qp_main.specs.Prelude.{item_limit, Version, Rises, IsSizeOf, trie_entries, pieces_text, Checks};
 
 use crate::refusal_lines::no_room;
 use crate::size_lines::size_line;

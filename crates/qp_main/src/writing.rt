@@ -1,10 +1,6 @@
 //! What is due is written.
 ghost use Rattle.std.specs.Prelude.{◌≡◌, OnErr, OnOk};
-ghost use Rattle.std.specs.List.{flat_map};
-ghost use Rattle.outer_io.specs.Faults.{Rose};
-ghost use Rattle.outer_io.specs.Bytes.{Grows, GrowsByFront};
-ghost use Rattle.job_report.specs.Pieces.{pieces_text};
-ghost use Rattle.qp_main.specs.Due.{IsWritten};
+ghost use Rattle.qp_main.specs.Prelude.{flat_map, Rose, Grows, GrowsByFront, pieces_text, IsWritten};
 
 use crate::status::Status;
 use job_report::Pieces;

@@ -3,3 +3,4 @@ pub mod Octets
 pub mod Versions
 pub mod Reports
 pub mod Apart
+pub mod Prelude

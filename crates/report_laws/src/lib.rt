@@ -2,22 +2,9 @@
 #![tactic(auto)]
 
 ghost use Rattle.std.specs.Prelude.{◌≡◌, ◌<◌, ◌^◌, ℕ, List, length, Ok};
-ghost use Rattle.std.specs.List.{AllByRecursion};
-ghost use Rattle.zone_model.specs.Names.{Name, IsName};
-ghost use Rattle.zone_model.specs.Versions.{Version};
-ghost use Rattle.zone_model.specs.Transactions.{Transaction, whole};
-ghost use Rattle.zone_model.specs.MasterFile.{zone_of};
-ghost use Rattle.master_file.specs.Rows.{CanBeDumped};
-ghost use Rattle.job_model.specs.Commands.{Command, Job, FedJob};
-ghost use Rattle.job_model.specs.Jobs.{script_of, list_of, job_of, fed_job_of};
-ghost use Rattle.job_model.specs.Outcomes.{Pair};
-ghost use Rattle.job_model.specs.Feeds.{FedPair};
-ghost use Rattle.job_model.specs.Summaries.{summary};
-ghost use Rattle.report_laws.specs.Reports.{IsReportOf};
-ghost use Rattle.report_laws.specs.Apart.{AreApart, AreDone};
-ghost use Rattle.report_laws.specs.Octets.{AllOctets};
-ghost use Rattle.report_laws.specs.Changes.{AllSaid, AllAsked};
-ghost use Rattle.report_laws.specs.Versions.{ReadsBack, AreOutcomesOf, version_of, AreFedOutcomesOf, fed_version_of};
+ghost use Rattle.report_laws.specs.Prelude.{AllByRecursion, Name, IsName, Version, Transaction, whole, zone_of, CanBeDumped, Command, Job, FedJob};
+ghost use Rattle.report_laws.specs.Prelude.{script_of, list_of, job_of, fed_job_of, Pair, FedPair, summary, IsReportOf, AreApart, AreDone};
+ghost use Rattle.report_laws.specs.Prelude.{AllOctets, AllSaid, AllAsked, ReadsBack, AreOutcomesOf, version_of, AreFedOutcomesOf, fed_version_of};
 
 /// A text is the report of a job's commands with one list of lawful outcomes at most, and of one last version: how each
 /// command ended, its version, and for want of room the operation and the versions that were kept. So what `run` writes

@@ -5,3 +5,4 @@ pub mod ItemViews
 pub mod Places
 pub mod Printing
 pub mod Pushing
+pub mod Prelude

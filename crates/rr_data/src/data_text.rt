@@ -1,14 +1,9 @@
 //! Types and data as they are printed.
 ghost use Rattle.std.specs.Prelude.{◌≡◌, ◌<◌, ◌+◌, ◌++◌, ◌∷◌, [], length, map, Some, None, Option, OnOk, OnErr, IfOk, IfSome, decimal, ◌==◌};
-ghost use Rattle.std.specs.Io.{StartsWith};
-ghost use Rattle.std.specs.Option.{option_map, option_copied};
-ghost use Rattle.std.specs.List.{flat_map};
-ghost use Rattle.std.specs.Int.{w32, from_be_bytes};
-ghost use Rattle.zone_model.specs.DataText.{type_text, data_text, data_text_in, typed_text, fields_text, strings_text, field_text, address_text};
-ghost use Rattle.zone_model.specs.DataText.{groups_text, group_text, digit_at, generic_text, hex_digit, hex_text, string_octet, string_text, quoted_text};
-ghost use Rattle.zone_model.specs.Types.{NameField, ShortField};
-ghost use Rattle.rr_data.specs.Printing.{PrintsField, PrintsFields};
-ghost use Rattle.rr_data.specs.Fields.{field_view};
+ghost use Rattle.rr_data.specs.Prelude.{StartsWith, option_map, option_copied, flat_map, w32, from_be_bytes, type_text, data_text};
+ghost use Rattle.rr_data.specs.Prelude.{data_text_in, typed_text, fields_text, strings_text, field_text, address_text};
+ghost use Rattle.rr_data.specs.Prelude.{groups_text, group_text, digit_at, generic_text, hex_digit, hex_text, string_octet};
+ghost use Rattle.rr_data.specs.Prelude.{string_text, quoted_text, NameField, ShortField, PrintsField, PrintsFields, field_view};
 
 use crate::rdata::Rdata;
 use crate::splits::{number_of, short_of, split_name, split_octets, split_time};

@@ -1,9 +1,7 @@
 //! The records that the octets of an item say.
 ghost use Rattle.std.specs.Prelude.{◌≡◌, ◌≤◌, length, Some, None, Option, IfOk, IfSome};
-ghost use Rattle.std.specs.Option.{option_map};
-ghost use Rattle.zone_model.specs.Items.{split_short, split_number, split_record, is_above, split_records};
-ghost use Rattle.zone_model.specs.Items.{split_set, type_above, split_sets, entry_of, item_of};
-ghost use Rattle.rr_data.specs.Items.{part_view};
+ghost use Rattle.rr_data.specs.Prelude.{option_map, split_short, split_number, split_record, is_above, split_records};
+ghost use Rattle.rr_data.specs.Prelude.{split_set, type_above, split_sets, entry_of, item_of, part_view};
 
 use crate::entry::ITEM_LIMIT;
 use crate::rdata::Rdata;

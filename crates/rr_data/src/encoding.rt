@@ -1,7 +1,6 @@
 //! The octets of items.
 ghost use Rattle.std.specs.Prelude.{◌≡◌, ◌+◌, ◌≤◌, ◌++◌, length, take};
-ghost use Rattle.std.specs.List.{flat_map};
-ghost use Rattle.zone_model.specs.Records.{item_limit, record_bytes, rrset_bytes};
+ghost use Rattle.rr_data.specs.Prelude.{flat_map, item_limit, record_bytes, rrset_bytes};
 
 use crate::rdata::Rdata;
 use crate::rrset::RrSet;

@@ -1,9 +1,8 @@
 //! An entry.
 ghost use Rattle.std.specs.Prelude.{◌≡◌, ◌<◌, ◌≤◌, [], ◌-◌, ◌^◌, ◌↔◌};
 ghost use Rattle.std.specs.Prelude.{List, Option, length, OnOk, OnErr, MatchOption, take, Some, None, min, slice_get, IsTrue, IsNone, IsSome, IfSome, IfOk};
-ghost use Rattle.zone_model.specs.Records.{Rrset, with_rr, without_rr, without_set, rrset_of, item, item_limit, rrset_bytes, IsEntry, IsItem};
-ghost use Rattle.rr_data.specs.Changes.{TellsChange};
-ghost use Rattle.rr_data.specs.Items.{Decodes};
+ghost use Rattle.rr_data.specs.Prelude.{Rrset, with_rr, without_rr, without_set, rrset_of, item};
+ghost use Rattle.rr_data.specs.Prelude.{item_limit, rrset_bytes, IsEntry, IsItem, TellsChange, Decodes};
 
 use crate::decoding::read_item;
 use crate::encoding::{put, put_sets};

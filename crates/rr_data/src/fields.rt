@@ -1,16 +1,7 @@
 //! Data that is a row of words.
 ghost use Rattle.std.specs.Prelude.{map, Some, Ok, Err, Result, IfOk};
-ghost use Rattle.std.specs.List.{All};
-ghost use Rattle.zone_model.specs.Data.{field_octets, word_octets, read_fields};
-ghost use Rattle.std.specs.Option.{option_map};
-ghost use Rattle.std.specs.Int.{w16, w32, to_be_bytes};
-ghost use Rattle.zone_model.specs.Texts.{number};
-ghost use Rattle.zone_model.specs.Types.{NameField};
-ghost use Rattle.zone_model.specs.DataWords.{time_of};
-ghost use Rattle.zone_text.specs.Tokens.{IsPlaced, token_view};
-ghost use Rattle.zone_text.specs.Pushing.{PushesAll};
-ghost use Rattle.rr_data.specs.Pushing.{Pushes};
-ghost use Rattle.rr_data.specs.Fields.{field_view};
+ghost use Rattle.rr_data.specs.Prelude.{All, field_octets, word_octets, read_fields, option_map, w16, w32, to_be_bytes};
+ghost use Rattle.rr_data.specs.Prelude.{number, NameField, time_of, IsPlaced, token_view, PushesAll, Pushes, field_view};
 
 use crate::refusal::RdataRefusal;
 use crate::splits::MOST_SHORT;

@@ -1,10 +1,6 @@
 //! Octets that are of a type's form.
 ghost use Rattle.std.specs.Prelude.{◌≡◌, length, map, Some, None, Option, true};
-ghost use Rattle.std.specs.Option.{option_map};
-ghost use Rattle.zone_model.specs.Types.{NameField, TimeField};
-ghost use Rattle.zone_model.specs.DataForms.{field_rest, fields_fit, strings_fit, form_fits};
-ghost use Rattle.zone_model.specs.Splits.{split_octets};
-ghost use Rattle.rr_data.specs.Fields.{field_view};
+ghost use Rattle.rr_data.specs.Prelude.{option_map, NameField, TimeField, field_rest, fields_fit, strings_fit, form_fits, split_octets, field_view};
 
 use crate::splits::{split_name, split_octets, split_time};
 use crate::types::{Field, Form, form_of};

@@ -1,11 +1,7 @@
 //! Data of any type, as octets in hexadecimal digits.
 ghost use Rattle.std.specs.Prelude.{◌≡◌, ◌+◌, ◌*◌, ◌++◌, map, Some, None, Ok, Err, Result, OnOk, true};
-ghost use Rattle.std.specs.List.{All, list_all};
-ghost use Rattle.std.specs.Char.{is_ascii_hexdigit};
-ghost use Rattle.zone_model.specs.DataWords.{paired};
-ghost use Rattle.zone_model.specs.Data.{read_digits, read_generic, is_generic};
-ghost use Rattle.zone_text.specs.Tokens.{IsPlaced, token_view};
-ghost use Rattle.rr_data.specs.Pushing.{Pushes};
+ghost use Rattle.rr_data.specs.Prelude.{All, list_all, is_ascii_hexdigit, paired, read_digits};
+ghost use Rattle.rr_data.specs.Prelude.{read_generic, is_generic, IsPlaced, token_view, Pushes};
 
 use crate::refusal::RdataRefusal;
 use crate::splits::MOST_SHORT;

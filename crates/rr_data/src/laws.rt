@@ -1,17 +1,8 @@
 //! Laws of records, each as the contract of a function that does nothing.
 ghost use Rattle.std.specs.Prelude.{◌≡◌, ℕ, ◌<◌, ◌≤◌, ◌^◌, false, [], ◌∷◌, ◌++◌, List, length, Option, Some, Ok, drop, decimal, option_and_then};
-ghost use Rattle.std.specs.List.{flat_map};
-ghost use Rattle.std.specs.Option.{option_map};
-ghost use Rattle.zone_model.specs.Names.{Name};
-ghost use Rattle.zone_model.specs.Records.{Entry, IsItem};
-ghost use Rattle.zone_model.specs.Texts.{number};
-ghost use Rattle.zone_model.specs.Escapes.{escaped_octet, escape_len};
-ghost use Rattle.zone_model.specs.DataWords.{octets_from, unescaped, Slash, paired, time_of, data_type, type_named};
-ghost use Rattle.zone_model.specs.Types.{Field};
-ghost use Rattle.zone_model.specs.Data.{field_octets, of_form, data_of};
-ghost use Rattle.zone_model.specs.DataText.{field_text, string_text, hex_text, type_text, data_text_in};
-ghost use Rattle.zone_model.specs.Grammar.{Token, Spells};
-ghost use Rattle.rr_data.specs.Printing.{ReadsUnder};
+ghost use Rattle.rr_data.specs.Prelude.{flat_map, option_map, Name, Entry, IsItem, number, escaped_octet, escape_len, octets_from};
+ghost use Rattle.rr_data.specs.Prelude.{unescaped, Slash, paired, time_of, data_type, type_named, Field, field_octets, of_form};
+ghost use Rattle.rr_data.specs.Prelude.{data_of, field_text, string_text, hex_text, type_text, data_text_in, Token, Spells, ReadsUnder};
 
 /// Octets are the item of one owner and one entry at most. So an entry is what is read from the item that it makes.
 pub fn items_are_told_apart()

@@ -1,7 +1,6 @@
 //! Where the RRset of a type stands among the RRsets of an entry.
 ghost use Rattle.std.specs.Prelude.{◌<◌, ◌≤◌, length, None, MatchResult};
-ghost use Rattle.zone_model.specs.Records.{RisingSets};
-ghost use Rattle.rr_data.specs.Places.{AreLower, StandsAt, MissingAt};
+ghost use Rattle.rr_data.specs.Prelude.{RisingSets, AreLower, StandsAt, MissingAt};
 
 use crate::rrset::RrSet;
 use std::cmp::Ordering;

@@ -1,9 +1,6 @@
 //! The data of a record.
 ghost use Rattle.std.specs.Prelude.{◌≡◌, ◌≤◌, ℕ, List, length, map};
-ghost use Rattle.std.specs.List.{All};
-ghost use Rattle.zone_model.specs.Data.{data_of};
-ghost use Rattle.zone_text.specs.Tokens.{IsPlaced, token_view};
-ghost use Rattle.rr_data.specs.Pushing.{ReadsData, ReadsAgain};
+ghost use Rattle.rr_data.specs.Prelude.{All, data_of, IsPlaced, token_view, ReadsData, ReadsAgain};
 
 use crate::reading::push_data;
 use crate::refusal::RdataRefusal;

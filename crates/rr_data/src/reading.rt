@@ -1,9 +1,6 @@
 //! The data of a type.
 ghost use Rattle.std.specs.Prelude.{◌≡◌, [], map};
-ghost use Rattle.std.specs.List.{All};
-ghost use Rattle.zone_model.specs.Data.{read_typed, data_of};
-ghost use Rattle.zone_text.specs.Tokens.{IsPlaced, token_view};
-ghost use Rattle.rr_data.specs.Pushing.{Pushes};
+ghost use Rattle.rr_data.specs.Prelude.{All, read_typed, data_of, IsPlaced, token_view, Pushes};
 
 use crate::fields::push_fields;
 use crate::forms::form_fits;

@@ -1,8 +1,6 @@
 //! Records as lines of a master file (RFC 1035, section 5.1).
 ghost use Rattle.std.specs.Prelude.{◌≡◌, ◌++◌, OnOk};
-ghost use Rattle.std.specs.Io.{StartsWith};
-ghost use Rattle.std.specs.Option.{option_copied};
-ghost use Rattle.zone_model.specs.Rows.{directives_text, origin_of, owner_field, ttl_field, head_text, line_text};
+ghost use Rattle.rr_data.specs.Prelude.{StartsWith, option_copied, directives_text, origin_of, owner_field, ttl_field, head_text, line_text};
 
 use crate::data_text::{push_data_in, push_type};
 use crate::views::SetView;

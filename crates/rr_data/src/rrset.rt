@@ -1,7 +1,6 @@
 //! An RRset.
 ghost use Rattle.std.specs.Prelude.{◌≡◌, ◌<◌, ◌≤◌, ◌++◌, [], length, IfOk, OnOk, OnErr, take, drop, slice_get, Some, None, IsTrue, ◌↔◌};
-ghost use Rattle.zone_model.specs.Records.{Rrset, with_record, without_record, has_record, fresh, RisingOctets};
-ghost use Rattle.rr_data.specs.Changes.{TellsChange};
+ghost use Rattle.rr_data.specs.Prelude.{Rrset, with_record, without_record, has_record, fresh, RisingOctets, TellsChange};
 
 use crate::rdata::Rdata;
 use std::alloc::{AllocError, Global};

@@ -1,7 +1,6 @@
 //! The items of single records.
 ghost use Rattle.std.specs.Prelude.{◌<◌, ◌≤◌, ◌∷◌, [], length, IfOk, MatchOption};
-ghost use Rattle.std.specs.Int.{to_be_bytes};
-ghost use Rattle.zone_model.specs.Records.{fresh, item, item_limit, IsItem};
+ghost use Rattle.rr_data.specs.Prelude.{to_be_bytes, fresh, item, item_limit, IsItem};
 
 use crate::entry::ITEM_LIMIT;
 use dns_name::Name;

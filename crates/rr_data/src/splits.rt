@@ -1,9 +1,6 @@
 //! What octets begin with, and what is left behind it.
 ghost use Rattle.std.specs.Prelude.{◌≡◌, Option, IfSome, length};
-ghost use Rattle.std.specs.Option.{option_map};
-ghost use Rattle.std.specs.Int.{w16, w32, from_be_bytes};
-ghost use Rattle.zone_model.specs.Splits.{split_octets, split_name};
-ghost use Rattle.zone_model.specs.DataForms.{split_time};
+ghost use Rattle.rr_data.specs.Prelude.{option_map, w16, w32, from_be_bytes, split_octets, split_name, split_time};
 
 use dns_name::Name;
 use zone_text::MOST_TIME;

@@ -1,10 +1,6 @@
 //! Strings as tokens.
 ghost use Rattle.std.specs.Prelude.{map, Ok, Err, Result};
-ghost use Rattle.std.specs.List.{All};
-ghost use Rattle.zone_model.specs.DataWords.{unescaped};
-ghost use Rattle.zone_model.specs.Data.{string_octets, read_strings};
-ghost use Rattle.zone_text.specs.Tokens.{IsPlaced, token_view};
-ghost use Rattle.rr_data.specs.Pushing.{Pushes};
+ghost use Rattle.rr_data.specs.Prelude.{All, unescaped, string_octets, read_strings, IsPlaced, token_view, Pushes};
 
 use crate::refusal::RdataRefusal;
 use zone_text::{Token, push_unescaped};

@@ -1,9 +1,7 @@
 //! The types of data that have a name here, and the form of each one's data (RFC 1035, sections 3.2.2 and 3.3; RFC 3596, section 2.1;
 //! RFC 2782): one table.
 ghost use Rattle.std.specs.Prelude.{◌≡◌, Some, None, Option};
-ghost use Rattle.std.specs.Option.{option_map};
-ghost use Rattle.zone_model.specs.Types.{type_numbered, type_spelled, form_of};
-ghost use Rattle.rr_data.specs.Fields.{form_view, type_view};
+ghost use Rattle.rr_data.specs.Prelude.{option_map, type_numbered, type_spelled, form_of, form_view, type_view};
 
 use Field::{Address, Address6, Name, Number, Short, Time};
 use Form::{Fields, Strings};

@@ -1,8 +1,6 @@
 //! Entries and RRsets where they lie in an item, read without taking memory.
 ghost use Rattle.std.specs.Prelude.{◌≡◌, ◌≤◌, ◌∷◌, [], ℕ, List, length, IfSome, MatchOption, Some, None};
-ghost use Rattle.zone_model.specs.Records.{Rrset, Entry, rrset_of};
-ghost use Rattle.zone_model.specs.Transactions.{has_some};
-ghost use Rattle.rr_data.specs.ItemViews.{BeginsWithRecord, BeginsWithRecords, BeginsWithSet, SaysEntry};
+ghost use Rattle.rr_data.specs.Prelude.{Rrset, Entry, rrset_of, has_some, BeginsWithRecord, BeginsWithRecords, BeginsWithSet, SaysEntry};
 
 use crate::splits::{number_of, short_of};
 use dns_name::Name;

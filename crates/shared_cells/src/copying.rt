@@ -2,8 +2,7 @@
 //!
 //! The table stays the same for all of them, where a cell that is read or written by itself asks for it each time.
 ghost use Rattle.std.specs.Prelude.{◌≡◌, ◌+◌, ◌*◌, ◌^◌, ◌≤◌, true};
-ghost use Rattle.shared_cells.specs.Views.{has_turn, kept_in, stored_view};
-ghost use Rattle.shared_cells.specs.Cells.{IsBlankWord, MayCopy, HasCopied};
+ghost use Rattle.shared_cells.specs.Prelude.{has_turn, kept_in, stored_view, IsBlankWord, MayCopy, HasCopied};
 
 use crate::law::Law;
 use crate::plays::{Recall, Store};

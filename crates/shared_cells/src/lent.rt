@@ -3,10 +3,8 @@
 //! A crate that is generic over cells says of them what they have, which chunks are given and what is kept, and nothing of the
 //! seat behind them. So the rest of what the seat knew is in the type of the cells: `Lent` names it.
 ghost use Rattle.std.specs.Prelude.{◌≡◌, ◌+◌, ◌*◌, ◌/◌, ◌<◌, ◌≤◌, [], true, false, slice_index};
-ghost use Rattle.pin_core.specs.Words.{half_at, status_at, words_for};
-ghost use Rattle.pin_core.specs.Machine.{is_kept_cell, is_kept_chunk};
-ghost use Rattle.shared_cells.specs.Views.{has_turn, words_of, kept_in, stored_view};
-ghost use Rattle.shared_cells.specs.Cells.{cells_of, with_words, IsNewTurn, IsJoined};
+ghost use Rattle.shared_cells.specs.Prelude.{half_at, status_at, words_for, is_kept_cell, is_kept_chunk, has_turn};
+ghost use Rattle.shared_cells.specs.Prelude.{words_of, kept_in, stored_view, cells_of, with_words, IsNewTurn, IsJoined};
 
 use crate::copying::copy_words;
 use crate::law::Law;

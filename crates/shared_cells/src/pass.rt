@@ -1,8 +1,6 @@
 //! The seats of passes, and the notes by which one tells another what it has seen.
 ghost use Rattle.std.specs.Prelude.{◌≡◌, ℕ, ◌+◌, ◌*◌, ◌<◌, ◌≤◌, length, true, false, []};
-ghost use Rattle.pin_core.specs.Words.{words_for};
-ghost use Rattle.shared_cells.specs.Views.{number_of, has_turn, is_told, is_idle, chunks_of, with_note, note_of};
-ghost use Rattle.shared_cells.specs.Steps.{Learns, Accounts};
+ghost use Rattle.shared_cells.specs.Prelude.{words_for, number_of, has_turn, is_told, is_idle, chunks_of, with_note, note_of, Learns, Accounts};
 
 use crate::law::{Counted, Law};
 use crate::plays::{Account, Hear, Learn, Tell};

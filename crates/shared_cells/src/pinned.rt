@@ -1,11 +1,9 @@
 //! A pass that is pinned at a version, which it reads whatever is published and freed meanwhile.
 ghost use Rattle.std.specs.Prelude.{◌≡◌, ◌+◌, ◌-◌, ◌*◌, ◌%◌, ◌^◌, ◌<◌, ◌≤◌, All, length, true, false, []};
 ghost use Rattle.std.proofs.Props.{props};
-ghost use Rattle.pin_core.specs.Words.{words_for};
+ghost use Rattle.shared_cells.specs.Prelude.{words_for, IsPartOf, number_of, has_turn, is_told, is_idle, is_pinned, pinned_version};
+ghost use Rattle.shared_cells.specs.Prelude.{pinned_root, pinned_image, chunks_of, root_of, with_progress, note_of, IsWordOf, Pins, Settles};
 ghost use Rattle.shared_cells.specs.declared.view.Progress.TheVariants as progress;
-ghost use Rattle.shared_cells.specs.History.{IsPartOf};
-ghost use Rattle.shared_cells.specs.Views.{number_of, has_turn, is_told, is_idle, is_pinned, pinned_version, pinned_root, pinned_image, chunks_of, root_of, with_progress, note_of};
-ghost use Rattle.shared_cells.specs.Steps.{IsWordOf, Pins, Settles};
 
 use crate::law::Law;
 use crate::pass::{PassSeat, SeatNote};

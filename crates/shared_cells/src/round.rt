@@ -1,9 +1,8 @@
 //! The turn's rounds: which versions stay kept.
 ghost use Rattle.std.specs.Prelude.{◌≡◌, ◌⊎◌, ◌∷◌, ℕ, ◌+◌, ◌^◌, ◌<◌, ◌≤◌, All, AllPairs, Contains, length, map, replicate, true, []};
 ghost use Rattle.pin_core.specs.declared.kept.Mark.TheVariants as mark;
-ghost use Rattle.pin_core.specs.Machine.{mark_of, is_settled};
-ghost use Rattle.shared_cells.specs.Views.{has_turn, is_told, kept_in, marks_of};
-ghost use Rattle.shared_cells.specs.Steps.{Marks, IsCurrent, IsNamed, Rounded, Confirmed};
+ghost use Rattle.shared_cells.specs.Prelude.{mark_of, is_settled, has_turn, is_told, kept_in};
+ghost use Rattle.shared_cells.specs.Prelude.{marks_of, Marks, IsCurrent, IsNamed, Rounded, Confirmed};
 
 use crate::law::Law;
 use crate::plays::{Assign, Look, Scan};

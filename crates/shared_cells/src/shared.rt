@@ -1,9 +1,6 @@
 //! The table, and how it is made with all its seats.
 ghost use Rattle.std.specs.Prelude.{◌≡◌, ◌+◌, ◌*◌, ◌≤◌, IfOk, All, map, []};
-ghost use Rattle.std.specs.List.{range_with_len};
-ghost use Rattle.pin_core.specs.Words.{words_for};
-ghost use Rattle.pin_core.specs.Machine.{started};
-ghost use Rattle.shared_cells.specs.Views.{core_size, unopened_view, pass_view};
+ghost use Rattle.shared_cells.specs.Prelude.{range_with_len, words_for, started, core_size, unopened_view, pass_view};
 
 use crate::law::Law;
 use crate::pass::NewPassSeat;

@@ -1,9 +1,8 @@
 //! The seat that has the turn: the one by which versions are made.
 ghost use Rattle.std.specs.Prelude.{◌≡◌, ◌+◌, ◌*◌, ◌<◌, ◌≤◌, length, replicate, true, false, [], Some};
-ghost use Rattle.pin_core.specs.Words.{words_for};
+ghost use Rattle.shared_cells.specs.Prelude.{words_for, number_of, marks_of, words_of, has_turn, is_told, chunks_of, note_of};
+ghost use Rattle.shared_cells.specs.Prelude.{pass_of, without_pass, with_pass, CanOpen, Opened, CanPublish, Published, Confirmed};
 ghost use Rattle.pin_core.specs.declared.kept.Mark.TheVariants as mark;
-ghost use Rattle.shared_cells.specs.Views.{number_of, marks_of, words_of, has_turn, is_told, chunks_of, note_of, pass_of, without_pass, with_pass};
-ghost use Rattle.shared_cells.specs.Steps.{CanOpen, Opened, CanPublish, Published, Confirmed};
 
 use crate::law::{Law, Opening, Payload};
 use crate::pass::{PassSeat, SeatNote};

@@ -18,3 +18,4 @@ pub mod Receipts
 pub mod Compactions
 pub mod Capacity
 pub mod Bounds
+pub mod Prelude

@@ -1,11 +1,6 @@
 //! An operation tried once, by who has the turn.
 ghost use Rattle.std.specs.Prelude.{◌≡◌, ◌+◌, ◌*◌, List, length};
-ghost use Rattle.pin_core.specs.Words.{words_for};
-ghost use Rattle.trie_model.specs.Keys.{Entry};
-ghost use Rattle.shared_index.specs.Turns.{Agrees, cells_with};
-ghost use Rattle.shared_index.specs.Bases.{StandsFor};
-ghost use Rattle.shared_index.specs.Changes.{LeadsItem};
-ghost use Rattle.shared_index.specs.Tries.{Tried};
+ghost use Rattle.shared_index.specs.Prelude.{words_for, Entry, Agrees, cells_with, StandsFor, LeadsItem, Tried};
 
 use crate::change::{Change, change_trie};
 use crate::meaning::{Law, Meaning, Operations, Version};

@@ -2,14 +2,8 @@
 //!
 //! Nothing else in this crate names those calls.
 ghost use Rattle.std.specs.Prelude.{◌≡◌, ◌↔◌, ◌+◌, ◌≤◌, ℕ, List, Contains, IfOk, IfErr, Err};
-ghost use Rattle.trie_model.specs.Keys.{Entry};
-ghost use Rattle.chunk_usage.specs.Handing.{Lacks, consumed};
-ghost use Rattle.chunk_usage.specs.Rooms.{account_of};
-ghost use Rattle.trie_write.specs.Roots.{TwigsOnPath, BranchesOnPath};
-ghost use Rattle.trie_space.specs.Spaces.{Ready, Fenced, Unchanged as Same};
-ghost use Rattle.shared_index.specs.Operations.{operated};
-ghost use Rattle.shared_index.specs.Bases.{IsRooted};
-ghost use Rattle.shared_index.specs.Changes.{operation_of, key_of, written_by, asked_by, LeadsItem, IsRefused};
+ghost use Rattle.shared_index.specs.Prelude.{Entry, Lacks, consumed, account_of, TwigsOnPath, BranchesOnPath, Ready, Fenced, Same};
+ghost use Rattle.shared_index.specs.Prelude.{operated, IsRooted, operation_of, key_of, written_by, asked_by, LeadsItem, IsRefused};
 
 use chunk_cells::CellWrite;
 use chunk_usage::Usage;

@@ -4,9 +4,7 @@
 //! The turn isn't asked where there is a pass, since a lock's type doesn't say that the turn is there: a transaction that was
 //! forgotten has kept it.
 ghost use Rattle.std.specs.Prelude.{◌≡◌, [], IsSome, All, map};
-ghost use Rattle.shared_cells.specs.Steps.{Accounts};
-ghost use Rattle.shared_index.specs.Passes.{known_at};
-ghost use Rattle.shared_index.specs.Closings.{AllSeen, Ends, Gathers, IsOfTurn};
+ghost use Rattle.shared_index.specs.Prelude.{Accounts, known_at, AllSeen, Ends, Gathers, IsOfTurn};
 
 use crate::index::Index;
 use crate::meaning::{Law, Meaning, Named, Operations, Version};

@@ -1,11 +1,6 @@
 //! Commits: the working set becomes the next version.
 ghost use Rattle.std.specs.Prelude.{◌≡◌, ◌↔◌, ◌+◌, ◌^◌, ◌<◌, ◌≤◌, true, false, All, IfOk, IfErr, IsErr, length};
-ghost use Rattle.chunk_usage.specs.Ledger.{free_count};
-ghost use Rattle.shared_cells.specs.Views.{kept_in, pass_of};
-ghost use Rattle.shared_cells.specs.Steps.{CanPublish, Published};
-ghost use Rattle.shared_index.specs.Operations.{applied, AreWithin};
-ghost use Rattle.shared_index.specs.Meanings.{IsVersion};
-ghost use Rattle.shared_index.specs.Passes.{first_version};
+ghost use Rattle.shared_index.specs.Prelude.{free_count, kept_in, pass_of, CanPublish, Published, applied, AreWithin, IsVersion, first_version};
 
 use crate::desk::{Desk, Draft};
 use crate::freeing::free_unreached;

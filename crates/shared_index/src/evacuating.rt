@@ -1,11 +1,6 @@
 //! What lies in sparse chunks, moved by who has the turn.
 ghost use Rattle.std.specs.Prelude.{◌≡◌, ◌+◌, ◌*◌, ◌/◌, ◌≤◌, List, length};
-ghost use Rattle.pin_core.specs.Words.{words_for};
-ghost use Rattle.trie_model.specs.Keys.{Entry};
-ghost use Rattle.shared_cells.specs.Views.{kept_in};
-ghost use Rattle.shared_index.specs.Turns.{Agrees, cells_with};
-ghost use Rattle.shared_index.specs.Bases.{StandsFor};
-ghost use Rattle.shared_index.specs.Movings.{Evacuates, Moved};
+ghost use Rattle.shared_index.specs.Prelude.{words_for, Entry, kept_in, Agrees, cells_with, StandsFor, Evacuates, Moved};
 
 use crate::desk::Draft;
 use crate::meaning::{Law, Meaning, Operations, Version};

@@ -1,10 +1,6 @@
 //! The working set, read by its transaction.
 ghost use Rattle.std.specs.Prelude.{◌≡◌, ◌≤◌, ◌+◌, ◌*◌, List, length};
-ghost use Rattle.pin_core.specs.Words.{words_for};
-ghost use Rattle.zone_model.specs.Keys.{most_item_octets};
-ghost use Rattle.trie_model.specs.Keys.{Entry};
-ghost use Rattle.trie_read.specs.Readings.{Fetched};
-ghost use Rattle.shared_index.specs.Bases.{StandsFor};
+ghost use Rattle.shared_index.specs.Prelude.{words_for, most_item_octets, Entry, Fetched, StandsFor};
 
 use crate::desk::Draft;
 use crate::meaning::{Law, Meaning, Operations, Version};

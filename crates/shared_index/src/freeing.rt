@@ -1,13 +1,6 @@
 //! Chunks that nothing needs, freed by who has the turn.
 ghost use Rattle.std.specs.Prelude.{◌≡◌, ℕ, ◌+◌, ◌*◌, List, Option, length};
-ghost use Rattle.pin_core.specs.Words.{words_for};
-ghost use Rattle.trie_model.specs.Keys.{Entry};
-ghost use Rattle.chunk_usage.specs.Ledger.{free_count};
-ghost use Rattle.chunk_usage.specs.Keeping.{freed};
-ghost use Rattle.shared_cells.specs.Views.{words_of};
-ghost use Rattle.shared_cells.specs.Cells.{with_words};
-ghost use Rattle.shared_index.specs.Turns.{Agrees, cells_with};
-ghost use Rattle.shared_index.specs.Bases.{StandsFor};
+ghost use Rattle.shared_index.specs.Prelude.{words_for, Entry, free_count, freed, words_of, with_words, Agrees, cells_with, StandsFor};
 
 use crate::meaning::{Law, Meaning, Operations, Version};
 use chunk_usage::Usage;

@@ -1,12 +1,7 @@
 //! Rounds of the turn: which versions are kept, and their rows.
 ghost use Rattle.std.specs.Prelude.{◌≡◌, ◌⊎◌, ◌+◌, ℕ, All, Contains};
-ghost use Rattle.chunk_usage.specs.Keeping.{kept_versions, narrowed};
-ghost use Rattle.shared_cells.specs.Views.{kept_in, words_of};
-ghost use Rattle.shared_cells.specs.Steps.{IsNamed};
-ghost use Rattle.shared_index.specs.Meanings.{IsVersion};
-ghost use Rattle.shared_index.specs.Fulls.{version_at};
-ghost use Rattle.shared_index.specs.Turns.{Agrees, AgreesWithin, cells_with, current_root};
-ghost use Rattle.shared_index.specs.Keepings.{GoesOn, KeptBy};
+ghost use Rattle.shared_index.specs.Prelude.{kept_versions, narrowed, kept_in, words_of, IsNamed, IsVersion, version_at};
+ghost use Rattle.shared_index.specs.Prelude.{Agrees, AgreesWithin, cells_with, current_root, GoesOn, KeptBy};
 
 use crate::meaning::{Law, Meaning, Operations, Version};
 use chunk_usage::Usage;

@@ -1,10 +1,6 @@
 //! The item of a key, in the version that a seat has pinned.
 ghost use Rattle.std.specs.Prelude.{◌≡◌, ◌≤◌, List, length};
-ghost use Rattle.zone_model.specs.Keys.{most_item_octets};
-ghost use Rattle.trie_model.specs.Keys.{Entry};
-ghost use Rattle.trie_read.specs.Readings.{Fetched, IsHeld};
-ghost use Rattle.shared_cells.specs.Views.{pinned_image};
-ghost use Rattle.shared_index.specs.Meanings.{Holds};
+ghost use Rattle.shared_index.specs.Prelude.{most_item_octets, Entry, Fetched, IsHeld, pinned_image, Holds};
 
 use crate::meaning::{Law, Meaning, Operations, Version};
 use chunk_cells::read_item;

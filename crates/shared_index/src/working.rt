@@ -1,14 +1,7 @@
 //! A transaction's operations: each is tried, and once more where there is no room, after rounds and an evacuation.
 ghost use Rattle.std.specs.Prelude.{◌≡◌, ◌⊎◌, ◌∷◌, ◌++◌, [], ℕ, Err, IsOk, IfErr, All, Contains};
-ghost use Rattle.chunk_usage.specs.Handing.{Lacks};
-ghost use Rattle.chunk_usage.specs.Keeping.{kept_versions};
-ghost use Rattle.shared_cells.specs.Views.{kept_in};
-ghost use Rattle.shared_cells.specs.Steps.{IsNamed};
-ghost use Rattle.shared_index.specs.Meanings.{IsVersion};
-ghost use Rattle.shared_index.specs.Changes.{operation_of, key_of, written_by, asked_by, LeadsItem, IsRefused};
-ghost use Rattle.shared_index.specs.Keepings.{versions_in};
-ghost use Rattle.shared_index.specs.declared.kept.Versions.{Versions};
-ghost use Rattle.shared_index.specs.Tries.{Spares, Tried};
+ghost use Rattle.shared_index.specs.Prelude.{Lacks, kept_versions, kept_in, IsNamed, IsVersion, operation_of, key_of};
+ghost use Rattle.shared_index.specs.Prelude.{written_by, asked_by, LeadsItem, IsRefused, versions_in, Versions, Spares, Tried};
 
 use crate::attempt::attempt;
 use crate::change::Change;

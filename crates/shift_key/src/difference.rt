@@ -1,9 +1,7 @@
 //! Keys against names in their wire form, with nothing made.
 
 ghost use Rattle.std.specs.Prelude.{◌≡◌, ◌≤◌, ◌<◌, ◌+◌, ◌^◌, ◌++◌, ◌∷◌, [], List, ℕ, IfOk, length};
-ghost use Rattle.zone_model.specs.Names.{Name as Labels, IsName, BeginsWith};
-ghost use Rattle.zone_model.specs.Keys.{octet_positions, label_positions, key_of};
-ghost use Rattle.shift_key.specs.Differences.{Agrees, Compares};
+ghost use Rattle.shift_key.specs.Prelude.{Labels, IsName, BeginsWith, octet_positions, label_positions, key_of, Agrees, Compares};
 
 use crate::table::{first_position, positions, second_position};
 

@@ -1,10 +1,7 @@
 //! From the octets of a name to positions.
 
 ghost use Rattle.std.specs.Prelude.{◌≡◌, ◌≤◌, ◌<◌, ◌+◌, ◌++◌, length, take};
-ghost use Rattle.zone_model.specs.Names.{Name as Labels};
-ghost use Rattle.zone_model.specs.Keys.{octet_positions, label_positions, key_of};
-ghost use Rattle.dns_name.specs.Spelling.{Spells, IsSpelled};
-ghost use Rattle.shift_key.specs.Laid.{HasRoom, IsFront};
+ghost use Rattle.shift_key.specs.Prelude.{Labels, octet_positions, label_positions, key_of, Spells, IsSpelled, HasRoom, IsFront};
 
 use crate::table::positions;
 use dns_name::first_label;

@@ -1,8 +1,6 @@
 //! Laws of keys, each as the contract of a function that does nothing.
 ghost use Rattle.std.specs.Prelude.{◌≡◌, ◌≤◌, ◌↔◌, ℕ, List, length, take};
-ghost use Rattle.zone_model.specs.Names.{Name as Labels, IsName, name_cmp};
-ghost use Rattle.zone_model.specs.Keys.{key_of, key_cmp, IsKey, Leads, most_item_octets};
-ghost use Rattle.shift_key.specs.Shape.{KeyShape};
+ghost use Rattle.shift_key.specs.Prelude.{Labels, IsName, name_cmp, key_of, key_cmp, IsKey, Leads, most_item_octets, KeyShape};
 
 /// Keys compare, position by position, as their names do in canonical order.
 pub fn keys_are_in_the_order_of_names()

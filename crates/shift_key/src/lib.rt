@@ -3,9 +3,7 @@
 #![tactic(auto)]
 
 ghost use Rattle.std.specs.Prelude.{◌≡◌, ◌≤◌, ◌↔◌, length, slice_index, IsNone, IfSome, IsTrue, []};
-ghost use Rattle.zone_model.specs.Names.{Name as Labels, IsName, BeginsWith, wire};
-ghost use Rattle.zone_model.specs.Keys.{key_of, IsKey, IsFirstDifference, Leads};
-ghost use Rattle.shift_key.specs.Differences.{IsDifference};
+ghost use Rattle.shift_key.specs.Prelude.{Labels, IsName, BeginsWith, wire, key_of, IsKey, IsFirstDifference, Leads, IsDifference};
 
 mod difference;
 mod encode;

@@ -1,9 +1,8 @@
 //! Where the keys of two names in their wire form part, with no key made.
 
 ghost use Rattle.std.specs.Prelude.{◌≡◌, ◌≢◌, ◌≤◌, ◌<◌, ◌+◌, ◌^◌, ℕ, List, length, IfErr};
-ghost use Rattle.zone_model.specs.Names.{Name as Labels, IsName, IsLabel, IsFolded, BeginsWith};
-ghost use Rattle.zone_model.specs.Keys.{octet_positions, label_positions, key_of};
-ghost use Rattle.shift_key.specs.Partings.{IsParting, HasName, SplitsOff, LabelsPart, NamesPart, OctetsPart};
+ghost use Rattle.shift_key.specs.Prelude.{Labels, IsName, IsLabel, IsFolded, BeginsWith, octet_positions, label_positions};
+ghost use Rattle.shift_key.specs.Prelude.{key_of, IsParting, HasName, SplitsOff, LabelsPart, NamesPart, OctetsPart};
 
 use crate::table::{first_position, second_position, width};
 

@@ -1,7 +1,6 @@
 //! The items that version 0 of a zone is opened with.
 ghost use Rattle.std.specs.Prelude.{◌≡◌, ◌≤◌, ◌^◌, length, IfOk};
-ghost use Rattle.zone_query.specs.Standing.{ShowsSome};
-ghost use Rattle.zone_table.specs.Openings.{entries_in};
+ghost use Rattle.small_server.specs.Prelude.{ShowsSome, entries_in};
 
 use crate::failure::Failure;
 use dns_name::Name;

@@ -1,11 +1,6 @@
 //! The server from its opening to its end.
 ghost use Rattle.std.specs.Prelude.{◌≡◌, [], ◌∷◌, List, All, IfOk, Some, length, slice_get};
-ghost use Rattle.std.specs.List.{IsDistinct};
-ghost use Rattle.zone_model.specs.Names.{Name as Labels, same_name};
-ghost use Rattle.zone_query.specs.Standing.{ShowsSome};
-ghost use Rattle.zone_table.specs.Openings.{entries_in, origins_of};
-ghost use Rattle.zone_table.specs.Passes.{IsPassOf};
-ghost use Rattle.small_server.specs.Crew.{ArePassesOf};
+ghost use Rattle.small_server.specs.Prelude.{IsDistinct, Labels, same_name, ShowsSome, entries_in, origins_of, IsPassOf, ArePassesOf};
 
 use crate::asking::Reply;
 use crate::failure::Failure;

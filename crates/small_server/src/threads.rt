@@ -1,7 +1,6 @@
 //! The threads that answer, and the one that writes.
 ghost use Rattle.std.specs.Prelude.{◌≡◌, IfOk, length};
-ghost use Rattle.zone_table.specs.Passes.{IsPassOf};
-ghost use Rattle.small_server.specs.Crew.{IsChangedOf, IsTaskOf};
+ghost use Rattle.small_server.specs.Prelude.{IsPassOf, IsChangedOf, IsTaskOf};
 
 use crate::asking::{Reply, ask};
 use crate::changing::change_zone;

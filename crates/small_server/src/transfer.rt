@@ -1,8 +1,6 @@
 //! A version that is held for a transfer while its zone is changed.
 ghost use Rattle.std.specs.Prelude.{◌≡◌, IfOk, IsSome, length};
-ghost use Rattle.zone_query.specs.Standing.{ShowsSome};
-ghost use Rattle.zone_table.specs.Passes.{IsPassOf};
-ghost use Rattle.small_server.specs.Crew.{AreBesideOf, IsChangedOf, IsTaskOf};
+ghost use Rattle.small_server.specs.Prelude.{ShowsSome, IsPassOf, AreBesideOf, IsChangedOf, IsTaskOf};
 
 use crate::failure::Failure;
 use crate::law::Stored;

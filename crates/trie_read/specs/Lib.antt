@@ -3,3 +3,4 @@ pub mod Finds
 pub mod Above
 pub mod Walks
 pub mod Readings
+pub mod Prelude

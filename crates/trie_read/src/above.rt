@@ -1,12 +1,7 @@
 //! The names above a key's that a path passes.
 
 ghost use Rattle.std.specs.Prelude.{◌≡◌, [], List};
-ghost use Rattle.trie_model.specs.Keys.{Entry};
-ghost use Rattle.trie_model.specs.Order.{chain};
-ghost use Rattle.trie_model.specs.Trees.{Tree};
-ghost use Rattle.trie_read.specs.Reads.{IsNamed};
-ghost use Rattle.trie_read.specs.Above.{AreAncestors, HasEnding, Passes};
-ghost use Rattle.trie_read.specs.Walks.{AnyStep, HangsAtLevel, HasNode};
+ghost use Rattle.trie_read.specs.Prelude.{Entry, chain, Tree, IsNamed, AreAncestors, HasEnding, Passes, AnyStep, HangsAtLevel, HasNode};
 
 use super::ancestors::{Ancestor, Ancestors};
 use super::labels::{ends_at, labels_to, last_label};

@@ -1,13 +1,7 @@
 //! What there is of a name, of the names above it, and the last name that isn't after it.
 
 ghost use Rattle.std.specs.Prelude.{◌≡◌, ◌≤◌, List, Bool, is_some, map, take};
-ghost use Rattle.zone_model.specs.Keys.{Leads};
-ghost use Rattle.trie_model.specs.Keys.{Entry};
-ghost use Rattle.trie_model.specs.Memory.{Stands};
-ghost use Rattle.trie_model.specs.Order.{IsPredecessor, chain_labels};
-ghost use Rattle.trie_read.specs.Reads.{EachTells};
-ghost use Rattle.trie_read.specs.Finds.{IsKind, kind_of};
-ghost use Rattle.trie_read.specs.declared.ancestors.Ancestor.{Ancestor};
+ghost use Rattle.trie_read.specs.Prelude.{Leads, Entry, Stands, IsPredecessor, chain_labels, EachTells, IsKind, kind_of, Ancestor};
 
 use super::ancestors::Ancestors;
 use super::iter::Iter;

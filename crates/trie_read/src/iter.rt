@@ -1,16 +1,9 @@
 //! Walks through the names of a trie, in order.
 
 ghost use Rattle.std.specs.Prelude.{◌≡◌, ◌<◌, ◌++◌, ◌∷◌, [], ℕ, List, Option, Some, None, MatchOption, IsSomeAnd, length};
-ghost use Rattle.trie_model.specs.Keys.{Entry};
-ghost use Rattle.trie_model.specs.Order.{chain};
-ghost use Rattle.trie_model.specs.Trees.{Tree, entries_of};
-ghost use Rattle.trie_model.specs.Memory.{IsTrieAt};
-ghost use Rattle.trie_read.specs.Reads.{IsNamed, FindsLeaf};
-ghost use Rattle.trie_read.specs.Above.{AreAncestors, IsAtOrAbove, labels_of_met};
-ghost use Rattle.trie_read.specs.declared.ancestors.Ancestor.{Ancestor};
-ghost use Rattle.trie_read.specs.declared.iter.Place.TheVariants.{Facing, Past};
-ghost use Rattle.trie_read.specs.Readings.{AtSplit, MeetsNearest};
-ghost use Rattle.trie_read.specs.Walks.{AnyStep, LeadsTo, HasNode, Meets, IsStart, StandsBetween, StandsSomewhere, Faces, HasPassed};
+ghost use Rattle.trie_read.specs.Prelude.{Entry, chain, Tree, entries_of, IsTrieAt, IsNamed, FindsLeaf, AreAncestors};
+ghost use Rattle.trie_read.specs.Prelude.{IsAtOrAbove, labels_of_met, Ancestor, Facing, Past, AtSplit, MeetsNearest, AnyStep};
+ghost use Rattle.trie_read.specs.Prelude.{LeadsTo, HasNode, Meets, IsStart, StandsBetween, StandsSomewhere, Faces, HasPassed};
 
 use super::ancestors::{Ancestor, Ancestors};
 use super::labels::{ends_at, labels_of, labels_to};

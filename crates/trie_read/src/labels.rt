@@ -1,8 +1,7 @@
 //! The labels of a key.
 
 ghost use Rattle.std.specs.Prelude.{◌≡◌, ◌<◌, ◌↔◌, ℕ, IsTrue, length, take};
-ghost use Rattle.zone_model.specs.Keys.{IsKey};
-ghost use Rattle.trie_model.specs.Order.{EndsAt, labels_in};
+ghost use Rattle.trie_read.specs.Prelude.{IsKey, EndsAt, labels_in};
 
 use shift_key::Key;
 

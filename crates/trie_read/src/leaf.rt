@@ -1,11 +1,7 @@
 //! What a leaf's item says: its name, and how its key compares with another.
 
 ghost use Rattle.std.specs.Prelude.{◌≡◌, ◌↔◌, IsTrue};
-ghost use Rattle.zone_model.specs.Names.{IsName};
-ghost use Rattle.zone_model.specs.Keys.{key_of, IsKey, Leads};
-ghost use Rattle.trie_model.specs.Keys.{Entry};
-ghost use Rattle.shift_key.specs.Differences.{IsDifference};
-ghost use Rattle.trie_read.specs.Reads.{IsLeafOf};
+ghost use Rattle.trie_read.specs.Prelude.{IsName, key_of, IsKey, Leads, Entry, IsDifference, IsLeafOf};
 
 use chunk_cells::{CellRead, begins_with, read_front};
 use dns_name::Name;

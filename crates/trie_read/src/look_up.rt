@@ -1,11 +1,7 @@
 //! The leaf of a key, and how many cells are read for it.
 
 ghost use Rattle.std.specs.Prelude.{◌≡◌, ◌+◌, ◌<◌, ◌≤◌, ℕ, List, Some, length, IsTrue, ◌↔◌};
-ghost use Rattle.packed_node.specs.declared.Cell.{Cell};
-ghost use Rattle.zone_model.specs.Keys.{Leads};
-ghost use Rattle.trie_model.specs.Keys.{Entry};
-ghost use Rattle.trie_model.specs.Memory.{Stands};
-ghost use Rattle.trie_read.specs.Reads.{EachTells, Gives, IsLeafOf, LeadsKey};
+ghost use Rattle.trie_read.specs.Prelude.{Cell, Leads, Entry, Stands, EachTells, Gives, IsLeafOf, LeadsKey};
 
 use super::leaf::is_of;
 use super::steps::Steps;

@@ -1,14 +1,9 @@
 //! A path from the root of a trie down to a leaf, in place.
 
 ghost use Rattle.std.specs.Prelude.{◌≡◌, ◌≢◌, ◌+◌, ◌-◌, ◌%◌, ◌^◌, ◌<◌, ◌≤◌, ◌++◌, ℕ, List, Some, false, slice_get, count_ones};
-ghost use Rattle.std.specs.Int.{bit_at};
-ghost use Rattle.zone_model.specs.Keys.{IsKey};
-ghost use Rattle.trie_model.specs.Extents.{Extents};
-ghost use Rattle.trie_model.specs.Keys.{at, Entry};
-ghost use Rattle.trie_model.specs.Trees.{Tree, entries_of, IsTree};
-ghost use Rattle.trie_model.specs.Trees.Tree.{leaf as leaf_tree};
-ghost use Rattle.trie_model.specs.Memory.{top_cell};
-ghost use Rattle.trie_read.specs.Walks.{step_of, AnyStep, Guided, HangsBy, IsPath, LeadsTo, LeadsToCell, LeadsToFirst, LeadsToLast, HasNode, HangsAtLevel, TurnsNext, TurnsBack, Approached, CutAt};
+ghost use Rattle.trie_read.specs.Prelude.{bit_at, IsKey, Extents, at, Entry, Tree, entries_of, IsTree, leaf_tree, top_cell};
+ghost use Rattle.trie_read.specs.Prelude.{step_of, AnyStep, Guided, HangsBy, IsPath, LeadsTo, LeadsToCell, LeadsToFirst};
+ghost use Rattle.trie_read.specs.Prelude.{LeadsToLast, HasNode, HangsAtLevel, TurnsNext, TurnsBack, Approached, CutAt};
 
 use chunk_cells::CellRead;
 use packed_node::{Branch, Cell, Leaf, Node, Ref};

@@ -1,10 +1,7 @@
 //! One version of the trie, read by whoever holds it.
 
 ghost use Rattle.std.specs.Prelude.{◌≡◌, ℕ, List};
-ghost use Rattle.zone_model.specs.Keys.{Leads};
-ghost use Rattle.trie_model.specs.Keys.{Entry};
-ghost use Rattle.trie_model.specs.Memory.{Stands};
-ghost use Rattle.trie_read.specs.Reads.{EachTells};
+ghost use Rattle.trie_read.specs.Prelude.{Leads, Entry, Stands, EachTells};
 
 use super::ancestors::Ancestors;
 use super::found::{Found, find};

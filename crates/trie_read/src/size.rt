@@ -1,11 +1,7 @@
 //! How many names and nodes a trie has.
 
 ghost use Rattle.std.specs.Prelude.{◌≡◌, ◌≤◌, ◌^◌, ℕ, List, length};
-ghost use Rattle.trie_model.specs.Keys.{Entry};
-ghost use Rattle.trie_model.specs.Trees.{Tree, entries_of};
-ghost use Rattle.trie_model.specs.Memory.{Stands};
-ghost use Rattle.trie_model.specs.Shape.{nodes as nodes_of_keys, keys_of, nodes_of};
-ghost use Rattle.trie_read.specs.Reads.{IsTop};
+ghost use Rattle.trie_read.specs.Prelude.{Entry, Tree, entries_of, Stands, nodes_of_keys, keys_of, nodes_of, IsTop};
 
 use chunk_cells::CellRead;
 use packed_node::{Cell, Node, Ref};

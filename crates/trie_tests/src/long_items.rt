@@ -2,8 +2,7 @@
 //! and taken out.
 
 ghost use Rattle.std.specs.Prelude.{◌≡◌, ◌≤◌, None, IfSome, length};
-ghost use Rattle.zone_model.specs.Keys.{most_item_octets};
-ghost use Rattle.trie_tests.specs.Tries.{IsTrie};
+ghost use Rattle.trie_tests.specs.Prelude.{most_item_octets, IsTrie};
 
 use crate::made::buffer;
 use crate::room::unused_room;

@@ -1,9 +1,7 @@
 //! Items, made of texts while a test runs: a proof sees none of them.
 
 ghost use Rattle.std.specs.Prelude.{◌≡◌, ◌≤◌, length, IfOk};
-ghost use Rattle.zone_model.specs.Keys.{most_item_octets};
-ghost use Rattle.chunk_cells.specs.Laying.{extents_in};
-ghost use Rattle.trie_model.specs.Extents.Extents.{last};
+ghost use Rattle.trie_tests.specs.Prelude.{most_item_octets, extents_in, last};
 
 use chunk_cells::Extents;
 use dns_name::Name;

@@ -1,10 +1,7 @@
 //! A trie of the two names a. and b., written cell by cell.
 
 ghost use Rattle.std.specs.Prelude.{◌≡◌, ◌≤◌, ◌∷◌, [], length, Some, true, IfOk};
-ghost use Rattle.trie_model.specs.Memory.{Stands};
-ghost use Rattle.zone_model.specs.Keys.{Leads, most_item_octets};
-ghost use Rattle.trie_read.specs.Reads.{EachTells};
-ghost use Rattle.trie_tests.specs.Example.{two_names};
+ghost use Rattle.trie_tests.specs.Prelude.{Stands, Leads, most_item_octets, EachTells, two_names};
 
 use crate::made::{buffer, lone};
 use chunk_cells::{CellRead, CellWrite, PlainCells, write_item};

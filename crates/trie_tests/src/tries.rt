@@ -1,10 +1,7 @@
 //! Tries of items: as they are built, changed and read.
 
 ghost use Rattle.std.specs.Prelude.{◌≡◌, ◌≤◌, None, IfOk, IfSome, IsTrue, length};
-ghost use Rattle.zone_model.specs.Keys.{most_item_octets};
-ghost use Rattle.trie_model.specs.Keys.{Less, Rises};
-ghost use Rattle.trie_write.specs.Entries.{entries_of_items};
-ghost use Rattle.trie_tests.specs.Tries.{IsTrie};
+ghost use Rattle.trie_tests.specs.Prelude.{most_item_octets, Less, Rises, entries_of_items, IsTrie};
 
 use chunk_cells::{CellWrite, read_item};
 use chunk_usage::Space;

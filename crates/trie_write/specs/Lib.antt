@@ -14,3 +14,4 @@ pub mod Descents
 pub mod Mutable
 pub mod Asks
 pub mod Puts
+pub mod Prelude

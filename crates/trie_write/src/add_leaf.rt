@@ -1,16 +1,8 @@
 //! A leaf more, at a node where its key first differs from those below.
 
 ghost use Rattle.std.specs.Prelude.{◌≡◌, ◌+◌, ◌/◌, ◌<◌, ◌≤◌, ℕ, suc, List, ◌∷◌, map, Contains, IfOk, IfErr, count_ones};
-ghost use Rattle.packed_node.specs.declared.Cell.{Cell};
-ghost use Rattle.packed_node.specs.Nodes.{IsBranch, branch_cell};
-ghost use Rattle.trie_model.specs.Changes.{Deep};
-ghost use Rattle.trie_model.specs.Trees.{Tree};
-ghost use Rattle.chunk_usage.specs.Rooms.{Handed};
-ghost use Rattle.trie_write.specs.Inserts.{WithAsks, WithAsked, PairAsked, JoinAsked, IsWith};
-ghost use Rattle.trie_write.specs.Laid.{IsNoItem};
-ghost use Rattle.trie_write.specs.Paths.{twigs_on_path, branches_on_path};
-ghost use Rattle.trie_space.specs.Spaces.{Ready, Frame, Refused};
-ghost use Rattle.trie_write.specs.Tops.{IsBranchTop};
+ghost use Rattle.trie_write.specs.Prelude.{Cell, IsBranch, branch_cell, Deep, Tree, Handed, WithAsks, WithAsked, PairAsked, JoinAsked};
+ghost use Rattle.trie_write.specs.Prelude.{IsWith, IsNoItem, twigs_on_path, branches_on_path, Ready, Frame, Refused, IsBranchTop};
 
 use super::alloc::{copy_apart, room_for};
 use super::change::{Change, NO_CELLS, NO_ITEM, Span};

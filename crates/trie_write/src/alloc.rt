@@ -1,11 +1,7 @@
 //! Cells for what is written.
 
 ghost use Rattle.std.specs.Prelude.{◌≡◌, ◌≢◌, ◌+◌, ◌-◌, ◌^◌, ◌<◌, ◌≤◌, ℕ, true, IfOk, IfErr, Some, length, slice_get};
-ghost use Rattle.packed_node.specs.declared.Cell.{Cell};
-ghost use Rattle.trie_model.specs.Extents.{IsRow, row as row_of};
-ghost use Rattle.trie_model.specs.Reach.{in_chunk};
-ghost use Rattle.chunk_usage.specs.Rooms.{Handed};
-ghost use Rattle.trie_space.specs.Spaces.{Ready, Frame, Refused, MayWrite, Wrote};
+ghost use Rattle.trie_write.specs.Prelude.{Cell, IsRow, row_of, in_chunk, Handed, Ready, Frame, Refused, MayWrite, Wrote};
 
 use super::change::Span;
 use chunk_cells::CellWrite;

@@ -1,9 +1,7 @@
 //! Where the keys of neighbouring items part.
 
 ghost use Rattle.std.specs.Prelude.{◌≡◌, ◌<◌, ◌≤◌, ◌∷◌, IfSome, Some, None};
-ghost use Rattle.trie_model.specs.Keys.{Rises};
-ghost use Rattle.trie_write.specs.Entries.{entry_of, entries_of_items};
-ghost use Rattle.trie_write.specs.Points.{Ahead, Before};
+ghost use Rattle.trie_write.specs.Prelude.{Rises, entry_of, entries_of_items, Ahead, Before};
 
 use super::Item;
 use shift_key::parting_of;

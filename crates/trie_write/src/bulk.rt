@@ -4,17 +4,8 @@
 //! So one pass is enough, which makes each leaf, and above it all branches that end with it.
 
 ghost use Rattle.std.specs.Prelude.{◌≡◌, ◌+◌, ◌<◌, ◌≤◌, ℕ, suc, List, [], ◌∷◌, IfOk, IfErr, Some, length};
-ghost use Rattle.packed_node.specs.declared.Cell.{Cell};
-ghost use Rattle.trie_model.specs.Extents.{Extents};
-ghost use Rattle.trie_model.specs.Keys.{Entry, Rises};
-ghost use Rattle.trie_model.specs.Shape.{cells as cells_of};
-ghost use Rattle.trie_model.specs.Trees.{IsTree};
-ghost use Rattle.trie_model.specs.Trees.Tree.{leaf};
-ghost use Rattle.chunk_usage.specs.Rooms.{Account};
-ghost use Rattle.trie_write.specs.Entries.{entry_of, entries_of_items};
-ghost use Rattle.trie_write.specs.Builds.{Built, BuiltFront, Stopped};
-ghost use Rattle.trie_space.specs.Spaces.{Ready, Frame};
-ghost use Rattle.trie_space.specs.Standing.{HasTrie};
+ghost use Rattle.trie_write.specs.Prelude.{Cell, Extents, Entry, Rises, cells_of, IsTree, leaf, Account, entry_of};
+ghost use Rattle.trie_write.specs.Prelude.{entries_of_items, Built, BuiltFront, Stopped, Ready, Frame, HasTrie};
 
 use super::Item;
 use super::alloc::lay_row;

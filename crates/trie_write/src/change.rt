@@ -1,19 +1,8 @@
 //! A change at a place of the trie: the way there is made mutable, and one cell is put.
 
 ghost use Rattle.std.specs.Prelude.{◌≡◌, ◌+◌, ◌/◌, ◌%◌, ◌≤◌, ℕ, true, List, ◌∷◌, map, Contains, IfOk, IfErr, length};
-ghost use Rattle.packed_node.specs.declared.Cell.{Cell};
-ghost use Rattle.trie_model.specs.Extents.{AreExtents};
-ghost use Rattle.trie_model.specs.Reach.{in_chunk};
-ghost use Rattle.trie_model.specs.Keys.{Entry};
-ghost use Rattle.trie_model.specs.Memory.{top_cell};
-ghost use Rattle.trie_model.specs.Trees.{Tree, IsTree};
-ghost use Rattle.trie_model.specs.Trees.Tree.{leaf};
-ghost use Rattle.chunk_cells.specs.Laying.{extents_in};
-ghost use Rattle.trie_read.specs.Reads.{IsTop};
-ghost use Rattle.trie_write.specs.Puts.{span, item_span, taken, PutAsks, PutAsked, IsPut, GivenBack};
-ghost use Rattle.trie_write.specs.Roots.{IsOutside};
-ghost use Rattle.trie_space.specs.Spaces.{Ready, Fenced};
-ghost use Rattle.trie_space.specs.Ways.{Fork, plug, twigs_of, copied_along};
+ghost use Rattle.trie_write.specs.Prelude.{Cell, AreExtents, in_chunk, Entry, top_cell, Tree, IsTree, leaf, extents_in, IsTop, span, item_span};
+ghost use Rattle.trie_write.specs.Prelude.{taken, PutAsks, PutAsked, IsPut, GivenBack, IsOutside, Ready, Fenced, Fork, plug, twigs_of, copied_along};
 
 use super::laying::release_item;
 use super::mutable::make_mutable;

@@ -1,17 +1,9 @@
 //! A name taken out.
 
 ghost use Rattle.std.specs.Prelude.{◌≡◌, ◌+◌, ◌≤◌, ℕ, List, Contains, true, IfOk, IfErr, Err, Some, ◌↔◌};
-ghost use Rattle.packed_node.specs.declared.Cell.{Cell};
-ghost use Rattle.zone_model.specs.Keys.{Leads};
-ghost use Rattle.trie_model.specs.Keys.{Entry, InList};
-ghost use Rattle.trie_model.specs.Trees.{Tree};
-ghost use Rattle.trie_read.specs.Reads.{EachTells};
-ghost use Rattle.trie_write.specs.Asks.{HasKey, KeyIsThere};
-ghost use Rattle.trie_write.specs.Deletions.{Deleted, DropAsks, DropAsked};
-ghost use Rattle.trie_write.specs.Paths.{twigs_on_path, branches_on_path, delete_asks, to_copy};
-ghost use Rattle.trie_write.specs.Roots.{TwigsOnPath, BranchesOnPath, ToCopy, IsOutside, Beyond};
-ghost use Rattle.trie_space.specs.Spaces.{Ready, Fenced, Unchanged as Same, Refused};
-ghost use Rattle.trie_space.specs.Standing.{HasTrie};
+ghost use Rattle.trie_write.specs.Prelude.{Cell, Leads, Entry, InList, Tree, EachTells, HasKey, KeyIsThere, Deleted, DropAsks};
+ghost use Rattle.trie_write.specs.Prelude.{DropAsked, twigs_on_path, branches_on_path, delete_asks, to_copy, TwigsOnPath};
+ghost use Rattle.trie_write.specs.Prelude.{BranchesOnPath, ToCopy, IsOutside, Beyond, Ready, Fenced, Same, Refused, HasTrie};
 
 use super::change::{Span, item_below, let_go, put_change};
 use super::descend::{Descent, last_descent};

@@ -1,11 +1,7 @@
 //! One step of the way down along a key.
 
 ghost use Rattle.std.specs.Prelude.{◌≡◌, ◌<◌, ℕ, List, [], IfSome, None};
-ghost use Rattle.trie_model.specs.Memory.{top_cell};
-ghost use Rattle.trie_model.specs.Trees.{Tree};
-ghost use Rattle.trie_read.specs.Reads.{IsTop};
-ghost use Rattle.trie_space.specs.Ways.{Fork, plug, IsWay};
-ghost use Rattle.trie_write.specs.Descents.{HasWay, IsDescent, IsLastDescent};
+ghost use Rattle.trie_write.specs.Prelude.{top_cell, Tree, IsTop, Fork, plug, IsWay, HasWay, IsDescent, IsLastDescent};
 
 use super::node_top::{branch_above, key_twig};
 use super::paths::Trace;

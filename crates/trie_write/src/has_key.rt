@@ -1,11 +1,7 @@
 //! Whether a key is there.
 
 ghost use Rattle.std.specs.Prelude.{◌≡◌, List, Some, IfSome, None};
-ghost use Rattle.zone_model.specs.Keys.{Leads};
-ghost use Rattle.trie_model.specs.Keys.{Entry, InList};
-ghost use Rattle.trie_model.specs.Memory.{Stands};
-ghost use Rattle.trie_model.specs.Order.{IsThere};
-ghost use Rattle.trie_read.specs.Reads.{EachTells};
+ghost use Rattle.trie_write.specs.Prelude.{Leads, Entry, InList, Stands, IsThere, EachTells};
 
 use chunk_cells::CellRead;
 use packed_node::Ref;

@@ -1,20 +1,9 @@
 //! A name put in.
 
 ghost use Rattle.std.specs.Prelude.{◌≡◌, ◌+◌, ◌/◌, ◌<◌, ◌≤◌, ◌∷◌, ◌++◌, [], ℕ, suc, List, map, Contains, true, IfOk, IfErr, Err, Some, ◌↔◌, length};
-ghost use Rattle.packed_node.specs.declared.Cell.{Cell};
-ghost use Rattle.zone_model.specs.Keys.{Leads, most_item_octets};
-ghost use Rattle.trie_model.specs.Extents.{cells_in};
-ghost use Rattle.trie_model.specs.Keys.{Entry, IsEntry, InList};
-ghost use Rattle.trie_model.specs.Trees.{Tree};
-ghost use Rattle.trie_model.specs.Changes.{Inserted};
-ghost use Rattle.trie_read.specs.Reads.{EachTells};
-ghost use Rattle.trie_write.specs.Inserts.{LacksKey, KeyIsMissing, IsWith};
-ghost use Rattle.trie_write.specs.Paths.{twigs_on_path, branches_on_path, insert_asks, to_copy};
-ghost use Rattle.trie_write.specs.Laid.{extent_sizes};
-ghost use Rattle.trie_write.specs.Puts.{IsTaken};
-ghost use Rattle.trie_write.specs.Roots.{TwigsOnPath, BranchesOnPath, ToCopy, IsOutside, Beyond};
-ghost use Rattle.trie_space.specs.Spaces.{Ready, Frame, Fenced, Unchanged as Same, Refused};
-ghost use Rattle.trie_space.specs.Standing.{HasTrie};
+ghost use Rattle.trie_write.specs.Prelude.{Cell, Leads, most_item_octets, cells_in, Entry, IsEntry, InList, Tree, Inserted, EachTells, LacksKey};
+ghost use Rattle.trie_write.specs.Prelude.{KeyIsMissing, IsWith, twigs_on_path, branches_on_path, insert_asks, to_copy, extent_sizes, IsTaken};
+ghost use Rattle.trie_write.specs.Prelude.{TwigsOnPath, BranchesOnPath, ToCopy, IsOutside, Beyond, Ready, Frame, Fenced, Same, Refused, HasTrie};
 
 use super::add_leaf::with_leaf;
 use super::alloc::room_for;

@@ -1,11 +1,8 @@
 //! Cells for items.
 
 ghost use Rattle.std.specs.Prelude.{◌≡◌, ◌+◌, ◌<◌, ◌≤◌, ℕ, Contains, IfOk, IfErr, length};
-ghost use Rattle.trie_model.specs.Extents.{AreExtents, ItemLies, cells_in, content_cells, links, weigh_extents};
-ghost use Rattle.trie_model.specs.Reach.{in_chunk};
-ghost use Rattle.chunk_cells.specs.Laying.{extents_at, extents_in};
-ghost use Rattle.trie_write.specs.Laid.{HandedItem, extent_sizes};
-ghost use Rattle.trie_space.specs.Spaces.{Frame, Ready, Refused};
+ghost use Rattle.trie_write.specs.Prelude.{AreExtents, ItemLies, cells_in, content_cells, links, weigh_extents, in_chunk};
+ghost use Rattle.trie_write.specs.Prelude.{extents_at, extents_in, HandedItem, extent_sizes, Frame, Ready, Refused};
 
 use super::alloc::room_for;
 use chunk_cells::extents::{LAST_OCTETS, LINKED_OCTETS, content_cells_for, linked_extent};

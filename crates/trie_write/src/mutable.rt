@@ -1,14 +1,9 @@
 //! The way to a place on a key's path is made mutable: what isn't mutable yet is copied, and no entry changes.
 
 ghost use Rattle.std.specs.Prelude.{◌≡◌, ◌≢◌, ◌+◌, ◌<◌, ◌≤◌, ℕ, false, List, ◌∷◌, map, Contains, IfOk, IfErr, count_ones};
-ghost use Rattle.packed_node.specs.declared.Cell.{Cell};
-ghost use Rattle.packed_node.specs.Nodes.{IsBranch, branch_cell};
-ghost use Rattle.trie_model.specs.Extents.{IsRow, row};
-ghost use Rattle.trie_model.specs.Reach.{in_chunk};
-ghost use Rattle.trie_model.specs.Trees.{Tree};
-ghost use Rattle.trie_space.specs.Spaces.{Ready, Frame, Fenced, Refused, MayWrite, Wrote, IsWritable};
-ghost use Rattle.trie_space.specs.Ways.{Fork, plug, IsWay, twigs_of, twigs_along, copied_along};
-ghost use Rattle.trie_write.specs.Mutable.{WayAsks, WayAsked, IsCopied, IsParted, SlotAsks, SlotAsked, IsSlot};
+ghost use Rattle.trie_write.specs.Prelude.{Cell, IsBranch, branch_cell, IsRow, row, in_chunk, Tree, Ready, Frame, Fenced};
+ghost use Rattle.trie_write.specs.Prelude.{Refused, MayWrite, Wrote, IsWritable, Fork, plug, IsWay, twigs_of, twigs_along};
+ghost use Rattle.trie_write.specs.Prelude.{copied_along, WayAsks, WayAsked, IsCopied, IsParted, SlotAsks, SlotAsked, IsSlot};
 
 use super::alloc::room_for;
 use super::descend::{Descent, next_descent};

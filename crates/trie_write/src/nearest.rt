@@ -1,12 +1,7 @@
 //! Where a key first differs from those that are there.
 
 ghost use Rattle.std.specs.Prelude.{◌≡◌, ◌%◌, ◌^◌, ◌<◌, ℕ, List, count_ones};
-ghost use Rattle.std.specs.Int.{bit_at};
-ghost use Rattle.zone_model.specs.Keys.{Leads};
-ghost use Rattle.trie_model.specs.Keys.{at, IsKey};
-ghost use Rattle.trie_model.specs.Trees.{Tree, entries_of};
-ghost use Rattle.trie_read.specs.Reads.{IsTop, EachTells};
-ghost use Rattle.trie_write.specs.Nearness.{Closest, Differs};
+ghost use Rattle.trie_write.specs.Prelude.{bit_at, Leads, at, IsKey, Tree, entries_of, IsTop, EachTells, Closest, Differs};
 
 use super::node_top::top_of;
 use chunk_cells::CellRead;

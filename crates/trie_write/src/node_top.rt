@@ -1,14 +1,7 @@
 //! The top of a tree: a branch, or a leaf.
 
 ghost use Rattle.std.specs.Prelude.{◌≡◌, ◌<◌, ◌%◌, ◌^◌, ℕ, IfOk, IfErr, IfSome, None, count_ones};
-ghost use Rattle.trie_model.specs.Keys.{at};
-ghost use Rattle.packed_node.specs.declared.Cell.{Cell};
-ghost use Rattle.packed_node.specs.Nodes.{SaysNode};
-ghost use Rattle.trie_model.specs.Trees.{Tree, IsTree};
-ghost use Rattle.trie_model.specs.Changes.{Deep};
-ghost use Rattle.trie_model.specs.Memory.{top_cell};
-ghost use Rattle.trie_space.specs.Ways.{NotBefore};
-ghost use Rattle.trie_write.specs.Tops.{IsBranchTop, IsLeafTop};
+ghost use Rattle.trie_write.specs.Prelude.{at, Cell, SaysNode, Tree, IsTree, Deep, top_cell, NotBefore, IsBranchTop, IsLeafTop};
 
 use packed_node::{Branch, Cell, Leaf, Node};
 use shift_key::Key;

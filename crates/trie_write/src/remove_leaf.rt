@@ -1,14 +1,8 @@
 //! A branch without one of its leaves.
 
 ghost use Rattle.std.specs.Prelude.{◌≡◌, ◌+◌, ◌-◌, ◌≤◌, ℕ, List, IfOk, IfErr, count_ones};
-ghost use Rattle.trie_model.specs.Keys.{Entry};
-ghost use Rattle.trie_model.specs.Trees.{Tree};
-ghost use Rattle.trie_model.specs.Trees.Tree.{leaf};
-ghost use Rattle.trie_write.specs.Deletions.{LeafDescent, LeafTurned, IsWithout};
-ghost use Rattle.trie_write.specs.Laid.{IsNoItem};
-ghost use Rattle.trie_write.specs.Puts.{IsTaken};
-ghost use Rattle.trie_space.specs.Spaces.{Ready, Frame, Refused};
-ghost use Rattle.trie_space.specs.Ways.{Fork, plug};
+ghost use Rattle.trie_write.specs.Prelude.{Entry, Tree, leaf, LeafDescent, LeafTurned, IsWithout};
+ghost use Rattle.trie_write.specs.Prelude.{IsNoItem, IsTaken, Ready, Frame, Refused, Fork, plug};
 
 use super::alloc::copy_apart;
 use super::change::{Change, NO_CELLS, NO_ITEM, Span, item_below};

@@ -1,22 +1,9 @@
 //! An item exchanged for another of the same name.
 
 ghost use Rattle.std.specs.Prelude.{◌≡◌, ◌+◌, ◌≤◌, ℕ, List, Contains, true, IfOk, IfErr, Err, Some, ◌↔◌, length};
-ghost use Rattle.packed_node.specs.declared.Cell.{Cell};
-ghost use Rattle.zone_model.specs.Keys.{Leads};
-ghost use Rattle.trie_model.specs.Extents.{AreExtents, cells_in};
-ghost use Rattle.chunk_cells.specs.Laying.{extents_in};
-ghost use Rattle.trie_write.specs.Laid.{extent_sizes};
-ghost use Rattle.trie_model.specs.Keys.{Entry, InList};
-ghost use Rattle.trie_model.specs.Trees.{Tree};
-ghost use Rattle.trie_model.specs.Trees.Tree.{leaf};
-ghost use Rattle.trie_read.specs.Reads.{EachTells};
-ghost use Rattle.trie_write.specs.Asks.{HasKey, KeyIsThere};
-ghost use Rattle.trie_write.specs.Exchanges.{Exchanged};
-ghost use Rattle.trie_write.specs.Paths.{branches_on_path, replace_asks, to_copy};
-ghost use Rattle.trie_write.specs.Puts.{Makes, IsTaken};
-ghost use Rattle.trie_write.specs.Roots.{TwigsOnPath, BranchesOnPath, ToCopy, IsOutside, Beyond};
-ghost use Rattle.trie_space.specs.Spaces.{Ready, Frame, Fenced, Unchanged as Same, Refused};
-ghost use Rattle.trie_space.specs.Standing.{HasTrie};
+ghost use Rattle.trie_write.specs.Prelude.{Cell, Leads, AreExtents, cells_in, extents_in, extent_sizes, Entry, InList, Tree, leaf, EachTells};
+ghost use Rattle.trie_write.specs.Prelude.{HasKey, KeyIsThere, Exchanged, branches_on_path, replace_asks, to_copy, Makes, IsTaken};
+ghost use Rattle.trie_write.specs.Prelude.{TwigsOnPath, BranchesOnPath, ToCopy, IsOutside, Beyond, Ready, Frame, Fenced, Same, Refused, HasTrie};
 
 use super::change::{Change, NO_CELLS, item_below, put_change};
 use super::descend::end_node;

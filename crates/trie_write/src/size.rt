@@ -1,11 +1,7 @@
 //! How many cells a trie has, and whether it has more than so many.
 
 ghost use Rattle.std.specs.Prelude.{◌≡◌, ◌+◌, ◌<◌, ◌≤◌, ◌^◌, ◌-◌, ℕ, suc, List, length, min, Some, None, IfSome};
-ghost use Rattle.trie_model.specs.Keys.{Entry, Rises};
-ghost use Rattle.trie_model.specs.Shape.{cells as cells_of};
-ghost use Rattle.trie_model.specs.Trees.{Tree, entries_of};
-ghost use Rattle.trie_write.specs.Entries.{entries_of_items};
-ghost use Rattle.trie_write.specs.Points.{Front};
+ghost use Rattle.trie_write.specs.Prelude.{Entry, Rises, cells_of, Tree, entries_of, entries_of_items, Front};
 
 use super::Item;
 use super::branch_points::{BranchPoint, from_offset, point_ahead};

@@ -1,10 +1,7 @@
 //! What is counted of an entry, and of what an addition makes of it. No memory is taken.
 ghost use Rattle.std.specs.Prelude.{◌≡◌, ◌≢◌, ◌≤◌, ◌+◌, ◌==◌, false, length, flat_map, if◌then◌else◌};
-ghost use Rattle.zone_model.specs.Records.{Entry, IsEntry, rrset_bytes, has_record, item_limit};
-ghost use Rattle.zone_model.specs.Versions.{holds, with_added};
-ghost use Rattle.rr_data.specs.ItemViews.{SaysEntry};
-ghost use Rattle.zone_change.specs.Views.{addition_view};
-ghost use Rattle.zone_change.specs.Counts.{count_of, lone_by, records_in};
+ghost use Rattle.zone_change.specs.Prelude.{Entry, IsEntry, rrset_bytes, has_record, item_limit, holds};
+ghost use Rattle.zone_change.specs.Prelude.{with_added, SaysEntry, addition_view, count_of, lone_by, records_in};
 
 use crate::operations::NewRecord;
 use dns_name::Name;

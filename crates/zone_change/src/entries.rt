@@ -1,10 +1,7 @@
 //! What an operation makes of the entry of its owner.
 
 ghost use Rattle.std.specs.Prelude.{◌≡◌, IfOk, OnOk};
-ghost use Rattle.zone_model.specs.Records.{without_set, without_rr};
-ghost use Rattle.zone_model.specs.Versions.{holds, with_soa, with_added};
-ghost use Rattle.zone_change.specs.Views.{addition_view, operation_view};
-ghost use Rattle.zone_change.specs.Counts.{candidate};
+ghost use Rattle.zone_change.specs.Prelude.{without_set, without_rr, holds, with_soa, with_added, addition_view, operation_view, candidate};
 
 use crate::operations::{NewRecord, Operation};
 use rr_data::{Entry, Rdata, SOA};

@@ -1,7 +1,6 @@
 //! Operations of a block.
 ghost use Rattle.std.specs.Prelude.{◌≡◌};
-ghost use Rattle.zone_change.specs.Views.{operation_view};
-ghost use Rattle.zone_model.specs.Versions.{owner_of};
+ghost use Rattle.zone_change.specs.Prelude.{operation_view, owner_of};
 
 use dns_name::Name;
 use rr_data::Rdata;

@@ -1,7 +1,6 @@
 //! What a transaction wants of the version that it changes (RFC 2136, section 2.4, the forms without data).
 ghost use Rattle.std.specs.Prelude.{◌≡◌};
-ghost use Rattle.zone_model.specs.Transactions.{is_met_by};
-ghost use Rattle.zone_change.specs.Views.{prerequisite_view};
+ghost use Rattle.zone_change.specs.Prelude.{is_met_by, prerequisite_view};
 
 use dns_name::Name;
 use rr_data::ItemView;

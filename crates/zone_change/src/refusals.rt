@@ -1,10 +1,7 @@
 //! Whether an operation is refused, by the item of its owner where it lies. No memory is taken.
 ghost use Rattle.std.specs.Prelude.{◌≡◌, ◌≤◌, length, MatchOption, Ok, Err, Some, None, if◌then◌else◌};
-ghost use Rattle.zone_model.specs.Records.{Entry, IsEntry, without_set, without_rr};
-ghost use Rattle.zone_model.specs.Versions.{changed, is_low_soa, loses_soa, owner_of};
-ghost use Rattle.rr_data.specs.ItemViews.{SaysEntry};
-ghost use Rattle.zone_change.specs.Views.{addition_view, operation_view};
-ghost use Rattle.zone_change.specs.Counts.{candidate, count_of};
+ghost use Rattle.zone_change.specs.Prelude.{Entry, IsEntry, without_set, without_rr, changed, is_low_soa, loses_soa};
+ghost use Rattle.zone_change.specs.Prelude.{owner_of, SaysEntry, addition_view, operation_view, candidate, count_of};
 
 use crate::counting::{Count, has};
 use crate::operations::{NewRecord, Operation};

@@ -1,3 +1,4 @@
 pub mod Files
 pub mod Writing
 pub mod Walks
+pub mod Prelude

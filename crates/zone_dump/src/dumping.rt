@@ -1,17 +1,8 @@
 //! A version, written as a master file.
 ghost use Rattle.std.specs.Prelude.{◌≡◌, ◌+◌, ◌≤◌, ◌++◌, ◌∷◌, [], ℕ, List, length, Option, IfOk, OnOk, OnErr, IsErrOf};
-ghost use Rattle.std.specs.List.{flat_map};
-ghost use Rattle.std.specs.Io.{StartsWith};
-ghost use Rattle.outer_io.specs.Bytes.{Grows, GrowsByFront};
-ghost use Rattle.outer_io.specs.Faults.{Rose};
-ghost use Rattle.zone_model.specs.Keys.{most_item_octets};
-ghost use Rattle.zone_model.specs.Versions.{Version};
-ghost use Rattle.zone_model.specs.Rows.{row_text};
-ghost use Rattle.zone_model.specs.Dumps.{all_rows, record_count, version_lines, soa_ttl, dump};
-ghost use Rattle.zone_query.specs.Standing.{Shows, ShowsSome};
-ghost use Rattle.zone_dump.specs.Files.{file_text, directives_in};
-ghost use Rattle.zone_dump.specs.Walks.{Faces, FacesSome, GivesNext};
-ghost use Rattle.zone_dump.specs.Writing.{Passes};
+ghost use Rattle.zone_dump.specs.Prelude.{flat_map, StartsWith, Grows, GrowsByFront, Rose, most_item_octets, Version};
+ghost use Rattle.zone_dump.specs.Prelude.{row_text, all_rows, record_count, version_lines, soa_ttl, dump, Shows};
+ghost use Rattle.zone_dump.specs.Prelude.{ShowsSome, file_text, directives_in, Faces, FacesSome, GivesNext, Passes};
 
 use crate::lines::Lines;
 use crate::refusal::DumpRefusal;

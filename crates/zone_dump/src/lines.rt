@@ -1,13 +1,7 @@
 //! The lines of a dump, on their way to a sink.
 ghost use Rattle.std.specs.Prelude.{◌≡◌, ◌+◌, ◌≤◌, ◌++◌, ◌∷◌, [], ℕ, List, length, Option, IfOk, OnOk, OnErr, IsErrOf};
-ghost use Rattle.outer_io.specs.Bytes.{Grows, GrowsByFront};
-ghost use Rattle.outer_io.specs.Faults.{Rose};
-ghost use Rattle.zone_model.specs.Names.{Name as Labels};
-ghost use Rattle.zone_model.specs.Records.{Entry, IsItem};
-ghost use Rattle.zone_model.specs.Rows.{rows_of, line_text};
-ghost use Rattle.zone_model.specs.Dumps.{rows_at, owner_lines};
-ghost use Rattle.zone_dump.specs.Files.{head_text, lines_from};
-ghost use Rattle.zone_dump.specs.Writing.{Passes};
+ghost use Rattle.zone_dump.specs.Prelude.{Grows, GrowsByFront, Rose, Labels, Entry, IsItem, rows_of};
+ghost use Rattle.zone_dump.specs.Prelude.{line_text, rows_at, owner_lines, head_text, lines_from, Passes};
 
 use crate::refusal::DumpRefusal;
 use crate::writing::{RESERVED, flush, flush_long};

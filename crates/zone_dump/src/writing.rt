@@ -1,8 +1,6 @@
 //! Text that is gathered in a buffer before it is written.
 ghost use Rattle.std.specs.Prelude.{◌≡◌, ◌≤◌, [], OnOk, OnErr, length};
-ghost use Rattle.outer_io.specs.Bytes.{Grows, GrowsByFront};
-ghost use Rattle.outer_io.specs.Faults.{Rose};
-ghost use Rattle.zone_dump.specs.Writing.{Passes};
+ghost use Rattle.zone_dump.specs.Prelude.{Grows, GrowsByFront, Rose, Passes};
 
 use outer_io::{Failed, Sink, write_all};
 

@@ -1,13 +1,8 @@
 //! Operations on a transaction's working set.
 
 ghost use Rattle.std.specs.Prelude.{◌≡◌, ◌≤◌, length, IfOk, IsSomeAnd, Err, map};
-ghost use Rattle.zone_model.specs.Records.{Entry as Records, item_limit};
-ghost use Rattle.rr_data.specs.ItemViews.{SaysEntry};
-ghost use Rattle.zone_change.specs.Views.{operation_view};
-ghost use Rattle.zone_change.specs.Counts.{candidate};
-ghost use Rattle.shared_index.specs.Drafts.{Between, IsSame};
-ghost use Rattle.zone_edit.specs.Stores.{WorksOnSome, Edits, done_by};
-ghost use Rattle.zone_edit.specs.Blocks.{Applies, AppliesAll, most_done};
+ghost use Rattle.zone_edit.specs.Prelude.{Records, item_limit, SaysEntry, operation_view, candidate, Between};
+ghost use Rattle.zone_edit.specs.Prelude.{IsSame, WorksOnSome, Edits, done_by, Applies, AppliesAll, most_done};
 
 use crate::buffers::ItemBuffers;
 use crate::reading::read_owned;

@@ -1,9 +1,7 @@
 //! A transaction's changes.
 
 ghost use Rattle.std.specs.Prelude.{◌≡◌, IsSomeAnd, map};
-ghost use Rattle.zone_change.specs.Views.{operation_view, prerequisite_view};
-ghost use Rattle.zone_edit.specs.Stores.{WorksOnSome};
-ghost use Rattle.zone_edit.specs.Blocks.{Edited};
+ghost use Rattle.zone_edit.specs.Prelude.{operation_view, prerequisite_view, WorksOnSome, Edited};
 
 use crate::applying::{Halt, apply_all};
 use crate::buffers::ItemBuffers;

@@ -1,10 +1,7 @@
 //! What a transaction wants of its working set before it changes anything.
 
 ghost use Rattle.std.specs.Prelude.{◌≡◌, ◌≤◌, length, IsSomeAnd, map};
-ghost use Rattle.zone_model.specs.Keys.{most_item_octets};
-ghost use Rattle.zone_change.specs.Views.{prerequisite_view};
-ghost use Rattle.zone_edit.specs.Stores.{WorksOnSome, Edits};
-ghost use Rattle.zone_edit.specs.Blocks.{Meets, MeetsAll};
+ghost use Rattle.zone_edit.specs.Prelude.{most_item_octets, prerequisite_view, WorksOnSome, Edits, Meets, MeetsAll};
 
 use crate::reading::read_owned;
 use rr_data::ItemView;

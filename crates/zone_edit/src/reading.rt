@@ -1,9 +1,7 @@
 //! What a name owns in a transaction's working set.
 
 ghost use Rattle.std.specs.Prelude.{◌≡◌, ◌≤◌, length, IsSomeAnd};
-ghost use Rattle.zone_model.specs.Keys.{key_of, most_item_octets};
-ghost use Rattle.shared_index.specs.Drafts.{Between, IsSame};
-ghost use Rattle.zone_edit.specs.Stores.{WorksOnSome, Reads, Edits};
+ghost use Rattle.zone_edit.specs.Prelude.{key_of, most_item_octets, Between, IsSame, WorksOnSome, Reads, Edits};
 
 use dns_name::Name;
 use shared_index::{Law, Named, Transaction};

@@ -1,11 +1,7 @@
 //! An entry put under a name in a transaction's working set.
 
 ghost use Rattle.std.specs.Prelude.{◌≡◌, ◌<◌, ◌≤◌, [], List, length, IsSomeAnd};
-ghost use Rattle.zone_model.specs.Keys.{key_of};
-ghost use Rattle.zone_model.specs.Records.{item, item_limit, IsItem};
-ghost use Rattle.zone_model.specs.Versions.{owned};
-ghost use Rattle.rr_data.specs.ItemViews.{SaysEntry};
-ghost use Rattle.zone_edit.specs.Stores.{Owns, Stores, Edits, done_by};
+ghost use Rattle.zone_edit.specs.Prelude.{key_of, item, item_limit, IsItem, owned, SaysEntry, Owns, Stores, Edits, done_by};
 
 use dns_name::Name;
 use rr_data::Entry;

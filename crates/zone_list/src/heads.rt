@@ -1,11 +1,6 @@
 //! The first line of a part.
 ghost use Rattle.std.specs.Prelude.{◌≡◌, ◌≤◌, ◌<◌, ◌∷◌, [], ◌^◌, length, map};
-ghost use Rattle.std.specs.List.{All};
-ghost use Rattle.zone_model.specs.Lines.{lines_of};
-ghost use Rattle.zone_text.specs.Places.{first_line};
-ghost use Rattle.zone_text.specs.Tokens.{IsPlaced, token_view};
-ghost use Rattle.zone_text.specs.Views.{Reads};
-ghost use Rattle.zone_list.specs.Lists.{is_head, origin_word, head_says};
+ghost use Rattle.zone_list.specs.Prelude.{All, lines_of, first_line, IsPlaced, token_view, Reads, is_head, origin_word, head_says};
 
 use dns_name::Name;
 use master_file::name_word;

@@ -1,9 +1,6 @@
 //! The zones of an input.
 ghost use Rattle.std.specs.Prelude.{◌≡◌, ◌≤◌, ◌^◌, length, IfOk};
-ghost use Rattle.zone_model.specs.Lines.{lines_of};
-ghost use Rattle.zone_list.specs.Lists.{begins_part, zones_of};
-ghost use Rattle.zone_list.specs.Parts.{AreListed};
-ghost use Rattle.zone_list.specs.Views.{Says};
+ghost use Rattle.zone_list.specs.Prelude.{lines_of, begins_part, zones_of, AreListed, Says};
 
 use crate::heads::is_head;
 use crate::parts::read_part;

@@ -1,11 +1,7 @@
 //! Where parts begin, and what they say.
 ghost use Rattle.std.specs.Prelude.{◌≡◌, ◌≤◌, ◌<◌, ◌+◌, ◌∷◌, [], ◌^◌, true, length, IfOk};
-ghost use Rattle.std.specs.List.{list_any};
-ghost use Rattle.zone_model.specs.Names.{same_name};
-ghost use Rattle.zone_model.specs.Lines.{lines_of};
-ghost use Rattle.zone_text.specs.Places.{first_line};
-ghost use Rattle.zone_list.specs.Lists.{begins_part, new_origin, part_says};
-ghost use Rattle.zone_list.specs.Views.{Says, moved, IsFront, IsAtPart, ReadsPart};
+ghost use Rattle.zone_list.specs.Prelude.{list_any, same_name, lines_of, first_line, begins_part};
+ghost use Rattle.zone_list.specs.Prelude.{new_origin, part_says, Says, moved, IsFront, IsAtPart, ReadsPart};
 
 use crate::heads::{head_says, is_head};
 use crate::refusal::{ListKind, ListRefusal, refuse};

@@ -5,3 +5,4 @@ pub mod Parts
 pub mod AnswerExample
 pub mod Around
 pub mod NameExample
+pub mod Prelude

@@ -1,15 +1,8 @@
 //! Cuts: names below which another zone begins.
 
 ghost use Rattle.std.specs.Prelude.{◌≡◌, ◌≤◌, ◌+◌, ◌==◌, length, true};
-ghost use Rattle.std.specs.List.{find};
-ghost use Rattle.std.specs.Option.{option_map};
-ghost use Rattle.zone_model.specs.Keys.{most_item_octets};
-ghost use Rattle.zone_model.specs.Names.{is_under, ancestor};
-ghost use Rattle.zone_model.specs.Versions.{Version, owned};
-ghost use Rattle.trie_read.specs.declared.ancestors.Ancestor.{Ancestor};
-ghost use Rattle.zone_query.specs.Answers.{is_cut};
-ghost use Rattle.zone_query.specs.Parts.{IsCutOf, IsCutOver, delegated};
-ghost use Rattle.zone_query.specs.Standing.{ShowsAbove};
+ghost use Rattle.zone_query.specs.Prelude.{find, option_map, most_item_octets, is_under, ancestor, Version};
+ghost use Rattle.zone_query.specs.Prelude.{owned, Ancestor, is_cut, IsCutOf, IsCutOver, delegated, ShowsAbove};
 
 use crate::records::Held;
 use dns_name::Name;

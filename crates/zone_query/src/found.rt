@@ -1,11 +1,7 @@
 //! What a version has of a name.
 
 ghost use Rattle.std.specs.Prelude.{◌≡◌, ◌≤◌, List, IfOk, MatchOption, Some, None, length, map, take};
-ghost use Rattle.std.specs.List.{All};
-ghost use Rattle.zone_model.specs.Names.{ancestor};
-ghost use Rattle.zone_model.specs.Versions.{Version};
-ghost use Rattle.zone_query.specs.Standing.{Shows, ShowsSome};
-ghost use Rattle.zone_query.specs.Neighbours.{Names};
+ghost use Rattle.zone_query.specs.Prelude.{All, ancestor, Version, Shows, ShowsSome, Names};
 ghost use Rattle.zone_query.specs.Around as around;
 
 use dns_name::Name;

@@ -1,11 +1,7 @@
 //! What answers for a name.
 
 ghost use Rattle.std.specs.Prelude.{◌≡◌, ◌≤◌, Some, length};
-ghost use Rattle.zone_model.specs.Keys.{key_of, most_item_octets};
-ghost use Rattle.zone_model.specs.Versions.{Version};
-ghost use Rattle.zone_query.specs.Answers.{node};
-ghost use Rattle.zone_query.specs.Parts.{IsNodeOf, own_node};
-ghost use Rattle.zone_query.specs.Standing.{IsApart, StandsOn};
+ghost use Rattle.zone_query.specs.Prelude.{key_of, most_item_octets, Version, node, IsNodeOf, own_node, IsApart, StandsOn};
 
 use crate::records::Held;
 use crate::walker::Walker;

@@ -1,12 +1,7 @@
 //! Questions and their answers.
 
 ghost use Rattle.std.specs.Prelude.{◌≡◌, ◌≤◌, [], List, length, IfOk};
-ghost use Rattle.zone_model.specs.Keys.{most_item_octets};
-ghost use Rattle.zone_model.specs.Rows.{Row};
-ghost use Rattle.zone_model.specs.Versions.{Version};
-ghost use Rattle.zone_query.specs.Answers.{LeadsTo, answer, behind, followed, going_on};
-ghost use Rattle.zone_query.specs.Parts.{IsGiven};
-ghost use Rattle.zone_query.specs.Standing.{Shows, ShowsSome};
+ghost use Rattle.zone_query.specs.Prelude.{most_item_octets, Row, Version, LeadsTo, answer, behind, followed, going_on, IsGiven, Shows, ShowsSome};
 
 use crate::answers::Answer;
 use crate::kind::Kind;

@@ -1,12 +1,7 @@
 //! What a name owns.
 
 ghost use Rattle.std.specs.Prelude.{◌≡◌, ◌≤◌, IfOk, List, ℕ, length};
-ghost use Rattle.zone_model.specs.Keys.{key_of, most_item_octets};
-ghost use Rattle.zone_model.specs.Records.{Entry as Records};
-ghost use Rattle.zone_model.specs.Versions.{Version};
-ghost use Rattle.rr_data.specs.ItemViews.{SaysEntry};
-ghost use Rattle.zone_query.specs.Parts.{IsHeld, IsRead};
-ghost use Rattle.zone_query.specs.Standing.{Shows, ShowsSome};
+ghost use Rattle.zone_query.specs.Prelude.{key_of, most_item_octets, Records, Version, SaysEntry, IsHeld, IsRead, Shows, ShowsSome};
 
 use dns_name::Name;
 use rr_data::{DecodeRefusal, Entry, ItemView};

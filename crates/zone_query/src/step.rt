@@ -1,16 +1,9 @@
 //! What one name gives to an answer.
 
 ghost use Rattle.std.specs.Prelude.{◌≡◌, ◌≤◌, length, Option, Some, None, MatchOption, true};
-ghost use Rattle.std.specs.Option.{option_map};
-ghost use Rattle.zone_model.specs.Keys.{key_of, most_item_octets};
-ghost use Rattle.zone_model.specs.Names.{Name as Labels, is_under};
-ghost use Rattle.zone_model.specs.Records.{rrset_of};
-ghost use Rattle.zone_model.specs.Rows.{rows_of};
-ghost use Rattle.zone_model.specs.Splits.{split_name};
-ghost use Rattle.zone_model.specs.Versions.{Version, exists, owned};
-ghost use Rattle.zone_query.specs.Answers.{Ends, LeadsTo, alias_in, by_alias, step, target_of, set_rows, ns_type};
-ghost use Rattle.zone_query.specs.Parts.{Gives, GivesAtOnce, NoneOver};
-ghost use Rattle.zone_query.specs.Standing.{IsApart, Shows, ShowsSome};
+ghost use Rattle.zone_query.specs.Prelude.{option_map, key_of, most_item_octets, Labels, is_under, rrset_of, rows_of};
+ghost use Rattle.zone_query.specs.Prelude.{split_name, Version, exists, owned, Ends, LeadsTo, alias_in, by_alias, step, target_of};
+ghost use Rattle.zone_query.specs.Prelude.{set_rows, ns_type, Gives, GivesAtOnce, NoneOver, IsApart, Shows, ShowsSome};
 
 use crate::cut::{cut_over, is_cut, is_right_under};
 use crate::kind::Kind;

@@ -1,12 +1,7 @@
 //! The names that follow a name, in either direction.
 
 ghost use Rattle.std.specs.Prelude.{◌≡◌, ◌++◌, [], ◌∷◌, List, IfOk, map, take, reverse};
-ghost use Rattle.std.specs.List.{AllByRecursion};
-ghost use Rattle.std.specs.Map.{keys_of};
-ghost use Rattle.zone_model.specs.Versions.{Version};
-ghost use Rattle.trie_model.specs.Keys.{Entry};
-ghost use Rattle.trie_read.specs.Readings.{IsStanding};
-ghost use Rattle.zone_query.specs.Standing.{IsStorable, Shows, ShowsSome, trie_entry};
+ghost use Rattle.zone_query.specs.Prelude.{AllByRecursion, keys_of, Version, Entry, IsStanding, IsStorable, Shows, ShowsSome, trie_entry};
 ghost use Rattle.zone_query.specs.Around as around;
 
 use dns_name::Name;

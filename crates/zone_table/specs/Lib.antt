@@ -9,3 +9,4 @@ pub mod Openings
 pub mod Changes
 pub mod Dealings
 pub mod Endings
+pub mod Prelude

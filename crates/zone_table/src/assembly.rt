@@ -1,12 +1,7 @@
 //! Zones and the table of their origins, opened together.
 ghost use Rattle.std.specs.Prelude.{◌≡◌, ◌+◌, ◌≤◌, ℕ, List, All, IfOk, IfErr, Some, length, map, slice_get};
-ghost use Rattle.std.specs.List.{AllByRecursion, IsDistinct};
-ghost use Rattle.zone_model.specs.Names.{IsName, same_name};
-ghost use Rattle.trie_model.specs.Keys.{Entry, Rises};
-ghost use Rattle.shared_cells.specs.declared.view.TableSize.{TableSize};
-ghost use Rattle.zone_table.specs.Tables.{IsTable};
-ghost use Rattle.zone_table.specs.Openings.{AllFit, IsBegun, AreBegun, RefusesZones, entries_in, origins_of, places_of};
-ghost use Rattle.zone_table.specs.Dealings.{AreMade};
+ghost use Rattle.zone_table.specs.Prelude.{AllByRecursion, IsDistinct, IsName, same_name, Entry, Rises, TableSize, IsTable};
+ghost use Rattle.zone_table.specs.Prelude.{AllFit, IsBegun, AreBegun, RefusesZones, entries_in, origins_of, places_of, AreMade};
 
 use crate::dealing::deal_all;
 use crate::law::TableLaw;

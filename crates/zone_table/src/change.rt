@@ -1,7 +1,6 @@
 //! Changes of the table: an origin is put in, or taken out.
 ghost use Rattle.std.specs.Prelude.{◌≡◌, ◌<◌, Ok, Err, IfSome, MatchResult, length, slice_get};
-ghost use Rattle.zone_table.specs.Passes.{IsPassOf, table_known};
-ghost use Rattle.zone_table.specs.Changes.{Attaches, Detaches};
+ghost use Rattle.zone_table.specs.Prelude.{IsPassOf, table_known, Attaches, Detaches};
 
 use crate::pass::ZonesPass;
 use crate::zones::Zones;

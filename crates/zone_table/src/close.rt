@@ -1,7 +1,6 @@
 //! How the zones and their table end.
 ghost use Rattle.std.specs.Prelude.{◌≡◌, ◌+◌, ◌<◌, ◌≤◌, [], ℕ, All, IfOk, OnOk, length, map, slice_index};
-ghost use Rattle.zone_table.specs.Passes.{IsPassOf, table_known};
-ghost use Rattle.zone_table.specs.Endings.{AreAdded, AreEnded, AreSplit, Belong, EachEnds, IsEnd};
+ghost use Rattle.zone_table.specs.Prelude.{IsPassOf, table_known, AreAdded, AreEnded, AreSplit, Belong, EachEnds, IsEnd};
 
 use crate::pass::ZonesPass;
 use crate::zones::Zones;

@@ -1,10 +1,6 @@
 //! The zone of the deepest origin at or above a name, of those that are attached.
 ghost use Rattle.std.specs.Prelude.{◌↔◌, ◌<◌, IfSome, IsNone, IsTrue, List, ℕ, length};
-ghost use Rattle.dns_name.specs.Spelling.{IsSpelled, Spells};
-ghost use Rattle.trie_model.specs.Keys.{Entry};
-ghost use Rattle.zone_model.specs.Names.{Name as Labels};
-ghost use Rattle.zone_table.specs.Locations.{IsZoneOf};
-ghost use Rattle.zone_table.specs.Recalled.{AreAttached, IsAt};
+ghost use Rattle.zone_table.specs.Prelude.{IsSpelled, Spells, Entry, Labels, IsZoneOf, AreAttached, IsAt};
 
 use crate::shelves::shelf_of;
 use crate::zones::Zones;

@@ -1,10 +1,6 @@
 //! Where a name is, and how many zones are attached.
 ghost use Rattle.std.specs.Prelude.{◌≡◌, length};
-ghost use Rattle.shared_index.specs.Passes.{known_at, version_seen, Pinned};
-ghost use Rattle.zone_table.specs.Tables.{IsAmong};
-ghost use Rattle.zone_table.specs.Locations.{IsZoneOf};
-ghost use Rattle.zone_table.specs.Passes.{IsPassOf};
-ghost use Rattle.zone_table.specs.Recalled.{AreAttached};
+ghost use Rattle.zone_table.specs.Prelude.{known_at, version_seen, Pinned, IsAmong, IsZoneOf, IsPassOf, AreAttached};
 
 use crate::pass::ZonesPass;
 use crate::zones::Zones;

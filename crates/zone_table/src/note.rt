@@ -1,8 +1,6 @@
 //! Notes: what one pass of the zones has seen is told to another.
 ghost use Rattle.std.specs.Prelude.{◌≡◌, ℕ, All, IsSome, IfOk, map};
-ghost use Rattle.shared_index.specs.Passes.{Known, known_at};
-ghost use Rattle.zone_table.specs.Passes.{IsPassOf};
-ghost use Rattle.zone_table.specs.Notes.{IsNoteOf, KnowsSame, Tells, LearntAt, HasLearnt};
+ghost use Rattle.zone_table.specs.Prelude.{Known, known_at, IsPassOf, IsNoteOf, KnowsSame, Tells, LearntAt, HasLearnt};
 
 use crate::pass::ZonesPass;
 use crate::zones::Zones;

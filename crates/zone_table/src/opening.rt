@@ -1,9 +1,6 @@
 //! How the zones and their table are opened.
 ghost use Rattle.std.specs.Prelude.{◌≡◌, ◌+◌, ◌<◌, ◌≤◌, ◌++◌, ◌∷◌, [], ℕ, List, All, MatchResult, Some, length, map, slice_get};
-ghost use Rattle.trie_model.specs.Keys.{Rises};
-ghost use Rattle.shared_cells.specs.declared.view.TableSize.{TableSize};
-ghost use Rattle.shared_index.specs.Openings.{Refuses};
-ghost use Rattle.zone_table.specs.Openings.{Place, places_of, entries_in, OpensZones, RefusesZones};
+ghost use Rattle.zone_table.specs.Prelude.{Rises, TableSize, Refuses, Place, places_of, entries_in, OpensZones, RefusesZones};
 
 use crate::law::TableLaw;
 use dns_name::Name;

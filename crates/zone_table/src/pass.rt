@@ -1,9 +1,6 @@
 //! A pass of the zones: one of the table and one of each zone.
 ghost use Rattle.std.specs.Prelude.{◌≡◌, ◌<◌, ◌+◌, Some, IsSome, length, slice_get};
-ghost use Rattle.std.specs.Borrow.{sem};
-ghost use Rattle.shared_index.specs.Passes.{known_at};
-ghost use Rattle.zone_table.specs.Passes.{IsPassOf, zone_known};
-ghost use Rattle.zone_table.specs.Lends.{lends_zone};
+ghost use Rattle.zone_table.specs.Prelude.{sem, known_at, IsPassOf, zone_known, lends_zone};
 
 use crate::recalled::Recalled;
 use crate::zones::Zones;

@@ -1,10 +1,7 @@
 //! What a pass remembers of the table: which zones are attached in the version that it has looked at last. A version never changes, so a name is located
 //! without looking at it again.
 ghost use Rattle.std.specs.Prelude.{◌≡◌, ◌↔◌, ◌≤◌, IsTrue, List, None, Some, length};
-ghost use Rattle.trie_model.specs.Keys.{Entry};
-ghost use Rattle.trie_read.specs.Readings.{IsHeld};
-ghost use Rattle.zone_table.specs.Recalled.{AreAttached};
-ghost use Rattle.zone_table.specs.Tables.{IsAttached};
+ghost use Rattle.zone_table.specs.Prelude.{Entry, IsHeld, AreAttached, IsAttached};
 
 use dns_name::Name;
 use shift_key::Key;

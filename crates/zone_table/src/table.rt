@@ -1,10 +1,7 @@
 //! What the table of zones begins with.
 ghost use Rattle.std.specs.Prelude.{◌≡◌, IfOk, IsPermutation, IsSorted, map};
-ghost use Rattle.std.specs.List.{AllByRecursion, IsDistinct};
-ghost use Rattle.zone_model.specs.Names.{IsName, name_cmp, same_name};
-ghost use Rattle.trie_model.specs.Keys.{Rises};
-ghost use Rattle.trie_write.specs.Entries.{entry_of, entries_of_items};
-ghost use Rattle.zone_table.specs.Tables.{entry_for, IsTable};
+ghost use Rattle.zone_table.specs.Prelude.{AllByRecursion, IsDistinct, IsName, name_cmp, same_name};
+ghost use Rattle.zone_table.specs.Prelude.{Rises, entry_of, entries_of_items, entry_for, IsTable};
 
 use dns_name::Name;
 use std::alloc::{AllocError, Global};

@@ -5,3 +5,4 @@ pub mod Spelling
 pub mod Escapes
 pub mod Parts
 pub mod Pushing
+pub mod Prelude

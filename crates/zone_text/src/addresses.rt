@@ -1,13 +1,8 @@
 //! Texts of addresses.
 ghost use Rattle.std.specs.Prelude.{◌≡◌, ◌<◌, ◌≤◌, ◌+◌, ◌*◌, ◌++◌, ◌∷◌, [], length, map, Some, None, Option, IfOk, IfSome, OnOk, true, ◌==◌, ◌-◌, replicate};
-ghost use Rattle.std.specs.Option.{option_map};
-ghost use Rattle.std.specs.List.{slice_split, list_all, list_any, position};
-ghost use Rattle.std.specs.Char.{is_ascii_hexdigit};
-ghost use Rattle.zone_model.specs.Texts.{address, address_part};
-ghost use Rattle.zone_model.specs.DataWords.{digit_value};
-ghost use Rattle.zone_model.specs.Addresses.{hex_from, group, groups_of, last_groups_of, last_group, parts_of, double_at, address6, by_double};
-ghost use Rattle.zone_text.specs.Pushing.{PushesAll};
-ghost use Rattle.zone_text.specs.Parts.{parts_said};
+ghost use Rattle.zone_text.specs.Prelude.{option_map, slice_split, list_all, list_any, position, is_ascii_hexdigit};
+ghost use Rattle.zone_text.specs.Prelude.{address, address_part, digit_value, hex_from, group, groups_of, last_groups_of};
+ghost use Rattle.zone_text.specs.Prelude.{last_group, parts_of, double_at, address6, by_double, PushesAll, parts_said};
 
 use crate::words::number;
 use std::alloc::{AllocError, Global};

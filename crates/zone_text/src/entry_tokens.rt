@@ -1,15 +1,8 @@
 //! The tokens of an entry.
 ghost use Rattle.std.specs.Prelude.{◌≡◌, ◌≤◌, ◌<◌, ◌+◌, ◌^◌, ℕ, List, length, drop, IfOk, [], Result};
 ghost use Rattle.zone_model.specs.Refusals.{Refused};
-ghost use Rattle.zone_model.specs.Grammar.{SpellsEntry};
-ghost use Rattle.zone_model.specs.declared.ZoneKind.{ZoneKind};
-ghost use Rattle.zone_text.specs.Spelling.{EntrySpelled};
-ghost use Rattle.std.specs.List.{All};
-ghost use Rattle.zone_model.specs.Tokens.{EntryTokens, entry_from, fresh, begins_blank};
-ghost use Rattle.zone_model.specs.Lines.{lines_of};
-ghost use Rattle.zone_text.specs.Views.{HasScanned, ReadsLine, Reads, lexed_view, scan_view};
-ghost use Rattle.zone_text.specs.Tokens.{IsPlaced};
-ghost use Rattle.zone_text.specs.declared.lexer.Begun.{Begun};
+ghost use Rattle.zone_text.specs.Prelude.{SpellsEntry, ZoneKind, EntrySpelled, All, EntryTokens, entry_from, fresh, begins_blank};
+ghost use Rattle.zone_text.specs.Prelude.{lines_of, HasScanned, ReadsLine, Reads, lexed_view, scan_view, IsPlaced, Begun};
 
 use crate::lexer::{Begun, Scan, scan_tokens};
 use crate::lines::line_at;

@@ -1,8 +1,6 @@
 //! Texts with escapes.
 ghost use Rattle.std.specs.Prelude.{◌≡◌, ◌<◌, ◌+◌, ◌∷◌, ℕ, List, Some, None, Option, IfOk, IfSome};
-ghost use Rattle.zone_model.specs.DataWords.{octets_from, unescaped};
-ghost use Rattle.zone_text.specs.Escapes.{behind_view, BehindSmall, Unescapes, last_digit};
-ghost use Rattle.zone_text.specs.Pushing.{PushesAll};
+ghost use Rattle.zone_text.specs.Prelude.{octets_from, unescaped, behind_view, BehindSmall, Unescapes, last_digit, PushesAll};
 
 use std::alloc::{AllocError, Global};
 

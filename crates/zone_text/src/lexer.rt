@@ -1,11 +1,7 @@
 //! The tokens of a line.
 ghost use Rattle.std.specs.Prelude.{◌≡◌, ◌<◌, ◌≤◌, ◌+◌, ◌^◌, ◌++◌, ◌∷◌, [], ℕ, length, slice_index, OnOk, Result, Ok, Err, true, false, if◌then◌else◌};
-ghost use Rattle.std.specs.List.{slice_range, position, All};
-ghost use Rattle.zone_model.specs.Grammar.{stops_word};
-ghost use Rattle.zone_model.specs.Tokens.{apart, in_word, in_quote, step, steps, line_end, line_tokens, with_token, parts_words, Word, Quote};
-ghost use Rattle.zone_text.specs.Views.{scan_view, Gives, HasScanned, IsInside};
-ghost use Rattle.zone_text.specs.Tokens.{IsPlaced};
-ghost use Rattle.zone_text.specs.declared.lexer.Begun.{Begun};
+ghost use Rattle.zone_text.specs.Prelude.{slice_range, position, All, stops_word, apart, in_word, in_quote, step, steps, line_end, line_tokens};
+ghost use Rattle.zone_text.specs.Prelude.{with_token, parts_words, Word, Quote, scan_view, Gives, HasScanned, IsInside, IsPlaced, Begun};
 
 use crate::refusal::{ZoneRefusal, refuse};
 use crate::token::Token;

@@ -1,8 +1,6 @@
 //! The lines of a text.
 ghost use Rattle.std.specs.Prelude.{◌≡◌, ◌<◌, ◌≤◌, ◌+◌, ◌^◌, length, take, ◌==◌, Some, None, Option};
-ghost use Rattle.std.specs.List.{position};
-ghost use Rattle.std.specs.Str.Lines.{strip_carriage_return};
-ghost use Rattle.zone_text.specs.Places.{FirstLine};
+ghost use Rattle.zone_text.specs.Prelude.{position, strip_carriage_return, FirstLine};
 
 // The index of the first line feed.
 fn first_feed(text: &[u8]) -> Option<usize>

@@ -1,14 +1,7 @@
 //! The tokens of one line by itself.
 ghost use Rattle.std.specs.Prelude.{◌≡◌, ◌≤◌, ◌<◌, ◌∷◌, ◌^◌, length, drop, IfOk, [], Result};
-ghost use Rattle.zone_model.specs.Grammar.{Spelled, Spells, line_says};
-ghost use Rattle.zone_model.specs.declared.ZoneKind.{ZoneKind};
-ghost use Rattle.zone_text.specs.Spelling.{LineSpelled};
-ghost use Rattle.std.specs.List.{All};
-ghost use Rattle.zone_model.specs.Tokens.{single_line};
-ghost use Rattle.zone_model.specs.Lines.{lines_of};
-ghost use Rattle.zone_text.specs.Tokens.{IsPlaced};
-ghost use Rattle.zone_text.specs.Views.{Reads, line_view};
-ghost use Rattle.zone_text.specs.Places.{first_line};
+ghost use Rattle.zone_text.specs.Prelude.{Spelled, Spells, line_says, ZoneKind, LineSpelled, All};
+ghost use Rattle.zone_text.specs.Prelude.{single_line, lines_of, IsPlaced, Reads, line_view, first_line};
 
 use crate::entry_tokens::new_scan;
 use crate::lexer::{Scan, scan_tokens};

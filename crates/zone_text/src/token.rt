@@ -1,7 +1,6 @@
 //! Tokens of a text.
 ghost use Rattle.std.specs.Prelude.{◌≡◌, MatchOption, true, false};
-ghost use Rattle.std.specs.List.{slice_range};
-ghost use Rattle.zone_text.specs.Tokens.{IsPlaced};
+ghost use Rattle.zone_text.specs.Prelude.{slice_range, IsPlaced};
 
 /// A token: its text is the bytes from `from` up to but not including `upto` of the bytes that it was read from. The
 /// quotes around it lie outside, its escapes are still in it. Lines count from 1.

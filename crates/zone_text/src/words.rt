@@ -1,9 +1,6 @@
 //! What words say.
 ghost use Rattle.std.specs.Prelude.{◌≡◌, ◌≤◌, ◌+◌, Some, None, Option, IfSome, option_and_then, unwrap_or, true, ◌*◌, ◌-◌};
-ghost use Rattle.std.specs.Char.{is_ascii_digit};
-ghost use Rattle.std.specs.List.{list_all};
-ghost use Rattle.zone_model.specs.Texts.{number, at_most};
-ghost use Rattle.zone_model.specs.DataWords.{most_time, seconds, groups, time_of, is_word};
+ghost use Rattle.zone_text.specs.Prelude.{is_ascii_digit, list_all, number, at_most, most_time, seconds, groups, time_of, is_word};
 
 /// The most seconds of a time to live (RFC 2181, section 8).
 pub const MOST_TIME: u32 = 2_147_483_647;

@@ -3,3 +3,4 @@ pub mod Scripts
 pub mod Jobs
 pub mod Told
 pub mod Views
+pub mod Prelude

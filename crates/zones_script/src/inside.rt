@@ -2,9 +2,8 @@
 ghost use Rattle.std.specs.Prelude.{◌≡◌, ◌<◌, ◌≤◌, ◌+◌, ◌^◌, ◌++◌, length, IfOk, map, Some, None, Ok, Err, Result};
 ghost use Rattle.job_model.specs.Jobs as says;
 ghost use Rattle.job_script.specs.Views.{command_view};
-ghost use Rattle.job_script.specs.Scripts.{script_view as alone_view};
+ghost use Rattle.zones_script.specs.Prelude.{alone_view, script_view, chosen_view, open_view, ScriptReads, LineSteps};
 ghost use Rattle.zones_script.specs.Scripts as zones;
-ghost use Rattle.zones_script.specs.Views.{script_view, chosen_view, open_view, ScriptReads, LineSteps};
 
 use crate::commands::Command;
 use crate::script::{Chosen, OpenBlock, Script};

@@ -1,12 +1,10 @@
 //! Lines outside a block.
 ghost use Rattle.std.specs.Prelude.{◌≡◌, ◌<◌, ◌≤◌, ◌+◌, [], length, Some, None, Option, Ok, Err, Result, true, position};
-ghost use Rattle.zone_model.specs.Names.{same_name};
-ghost use Rattle.zone_text.specs.Tokens.{IsPlaced, token_view};
+ghost use Rattle.zones_script.specs.Prelude.{same_name, IsPlaced, token_view, Says, alone_view, command_view};
+ghost use Rattle.zones_script.specs.Prelude.{chosen_view, phrase_view, PhrasePlaced, script_view, ScriptReads};
 ghost use Rattle.job_model.specs.Jobs as jobs;
-ghost use Rattle.job_script.specs.Scripts.{Says, script_view as alone_view};
 ghost use Rattle.zones_script.specs.Scripts as zones;
 ghost use Rattle.zones_script.specs.Phrases as phrases;
-ghost use Rattle.zones_script.specs.Views.{command_view, chosen_view, phrase_view, PhrasePlaced, script_view, ScriptReads};
 
 use crate::commands::{Command, Worker};
 use crate::phrases::Phrase;

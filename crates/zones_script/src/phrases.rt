@@ -1,10 +1,7 @@
 //! What the tokens of a line outside blocks are, by the command word and the number of tokens.
 ghost use Rattle.std.specs.Prelude.{◌≡◌, ◌<◌, ◌∷◌, map, Some, None, Option, IfSome};
-ghost use Rattle.std.specs.Option.{option_map};
-ghost use Rattle.std.specs.List.{All};
-ghost use Rattle.zone_text.specs.Tokens.{IsPlaced, token_view};
+ghost use Rattle.zones_script.specs.Prelude.{option_map, All, IsPlaced, token_view, phrase_view, PhrasePlaced};
 ghost use Rattle.zones_script.specs.Phrases as phrases;
-ghost use Rattle.zones_script.specs.Views.{phrase_view, PhrasePlaced};
 
 use job_model::Weight;
 use job_script::says;

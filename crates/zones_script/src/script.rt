@@ -1,14 +1,8 @@
 //! The lines of a script over zones.
 ghost use Rattle.std.specs.Prelude.{◌≡◌, ◌<◌, ◌≤◌, ◌+◌, ◌^◌, length, IfOk, map, Some, None, Option, Ok, Err, Result};
-ghost use Rattle.std.specs.Option.{option_map};
-ghost use Rattle.std.specs.List.{All};
-ghost use Rattle.job_model.specs.Phrases.{script_tokens};
-ghost use Rattle.zone_model.specs.Lines.{lines_of};
-ghost use Rattle.zone_text.specs.Tokens.{IsPlaced, token_view};
-ghost use Rattle.job_script.specs.Scripts.{Says};
+ghost use Rattle.zones_script.specs.Prelude.{option_map, All, script_tokens, lines_of, IsPlaced, token_view, Says};
+ghost use Rattle.zones_script.specs.Prelude.{AreLists, workers_view, script_view, open_view, ScriptReads, LineSteps};
 ghost use Rattle.zones_script.specs.Scripts as zones;
-ghost use Rattle.zones_script.specs.Told.{AreLists};
-ghost use Rattle.zones_script.specs.Views.{workers_view, script_view, open_view, ScriptReads, LineSteps};
 
 use crate::commands::{Command, Worker, ZonesScript};
 use crate::inside::take_inside;

@@ -11,3 +11,4 @@ pub mod Changes
 pub mod Endings
 pub mod Tellings
 pub mod Openings
+pub mod Prelude

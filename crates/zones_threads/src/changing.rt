@@ -1,9 +1,7 @@
 //! Changes of the table of zones.
 ghost use Rattle.std.specs.Prelude.{◌≡◌, ◌<◌, length};
 ghost use Rattle.zones_model.specs.Commands as model;
-ghost use Rattle.zone_table.specs.Passes.{IsPassOf};
-ghost use Rattle.zones_threads.specs.Changes.{cause_told, version_told};
-ghost use Rattle.zones_threads.specs.Steps.{Goes};
+ghost use Rattle.zones_threads.specs.Prelude.{IsPassOf, cause_told, version_told, Goes};
 
 use job_commands::ZoneLaw;
 use shared_index::{Named, Receipt};

@@ -1,8 +1,6 @@
 //! How large each zone is, when all workers are done.
 ghost use Rattle.std.specs.Prelude.{◌≡◌, ◌≢◌, ◌<◌, ℕ, Some, IfOk, IsSome, length, slice_get};
-ghost use Rattle.shared_index.specs.Passes.{known_at};
-ghost use Rattle.zone_table.specs.Passes.{IsPassOf, table_known, zone_known};
-ghost use Rattle.zones_threads.specs.Visits.{Counted};
+ghost use Rattle.zones_threads.specs.Prelude.{known_at, IsPassOf, table_known, zone_known, Counted};
 
 use job_commands::ZoneLaw;
 use shared_index::{Index, Named, Pass};

@@ -1,9 +1,6 @@
 //! How the zones and their table end, when all workers are done.
 ghost use Rattle.std.specs.Prelude.{◌≡◌, ◌+◌, ◌<◌, ℕ, Some, All, IfOk, length, slice_get, slice_index};
-ghost use Rattle.zone_table.specs.Passes.{IsPassOf, table_known, zone_known};
-ghost use Rattle.zones_threads.specs.Closings.{table_views, zone_views};
-ghost use Rattle.zones_threads.specs.Endings.{EndsTable, EndsZone};
-ghost use Rattle.zones_threads.specs.Sites.{IsSite, Site};
+ghost use Rattle.zones_threads.specs.Prelude.{IsPassOf, table_known, zone_known, table_views, zone_views, EndsTable, EndsZone, IsSite, Site};
 
 use crate::closing::all_names;
 use job_commands::ZoneLaw;

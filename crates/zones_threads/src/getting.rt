@@ -1,8 +1,7 @@
 //! Questions for the zone that a name belongs to.
 ghost use Rattle.std.specs.Prelude.{IfOk};
 ghost use Rattle.zones_model.specs.Commands as model;
-ghost use Rattle.zone_table.specs.Passes.{IsPassOf};
-ghost use Rattle.zones_threads.specs.Steps.{Goes};
+ghost use Rattle.zones_threads.specs.Prelude.{IsPassOf, Goes};
 
 use dns_name::Name;
 use job_commands::{Room, ZoneLaw, run_question};

@@ -1,22 +1,9 @@
 //! All workers, each in a thread of its own where one can be started.
 ghost use Rattle.std.specs.Prelude.{◌≡◌, ◌<◌, ◌∷◌, ℕ, List, All, IfOk, Some, length, map, slice_get};
-ghost use Rattle.zone_model.specs.MasterFile.{Zone};
-ghost use Rattle.zones_model.specs.Commands.{origins_of};
-ghost use Rattle.zones_model.specs.Outcomes.{passes_for};
-ghost use Rattle.std.specs.List.{AllByRecursion};
-ghost use Rattle.std.specs.Thread.{IsSync};
-ghost use Rattle.shared_index.specs.Passes.{Learnt};
-ghost use Rattle.job_commands.specs.Calls.{AreHeard};
-ghost use Rattle.zone_table.specs.Passes.{IsPassOf, table_known, zone_known};
-ghost use Rattle.zones_threads.specs.Calls.{AllHeard};
-ghost use Rattle.zones_threads.specs.Closings.{table_views, zone_views};
-ghost use Rattle.zones_threads.specs.Gatherings.{AreGathered, HasWorked, MayRun, MayWork};
-ghost use Rattle.zones_report.specs.Telling.{last_of};
-ghost use Rattle.zones_threads.specs.Runs.{IsZonesRun, TableBegins, ZoneBegins};
-ghost use Rattle.zones_threads.specs.Sites.{IsSaid, IsSite, Opens, Site};
-ghost use Rattle.zones_script.specs.Views.{command_view, worker_view};
-ghost use Rattle.zones_threads.specs.Views.{workers_view};
-ghost use Rattle.zones_threads.specs.Works.{AreApart};
+ghost use Rattle.zones_threads.specs.Prelude.{Zone, origins_of, passes_for, AllByRecursion, IsSync, Learnt, AreHeard, IsPassOf};
+ghost use Rattle.zones_threads.specs.Prelude.{table_known, zone_known, AllHeard, table_views, zone_views, AreGathered};
+ghost use Rattle.zones_threads.specs.Prelude.{HasWorked, MayRun, MayWork, last_of, IsZonesRun, TableBegins, ZoneBegins};
+ghost use Rattle.zones_threads.specs.Prelude.{IsSaid, IsSite, Opens, Site, command_view, worker_view, workers_view, AreApart};
 
 use crate::ending::close_zones;
 use crate::worker::{Ended, Task, run_worker};

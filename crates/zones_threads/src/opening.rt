@@ -1,14 +1,8 @@
 //! Zones that are opened and run.
 ghost use Rattle.std.specs.Prelude.{◌≡◌, ◌+◌, ◌≤◌, ℕ, List, All, IfOk, Some, length, map, slice_get};
-ghost use Rattle.std.specs.List.{AllByRecursion, IsDistinct};
-ghost use Rattle.zone_model.specs.MasterFile.{Zone};
-ghost use Rattle.zone_model.specs.Names.{same_name};
-ghost use Rattle.job_commands.specs.Histories.{IsZone};
-ghost use Rattle.zones_model.specs.Outcomes.{passes_for};
-ghost use Rattle.zone_table.specs.Openings.{entries_in, origins_of, places_of};
-ghost use Rattle.zones_threads.specs.Openings.{StandFor, ZonesRanOn};
-ghost use Rattle.zones_threads.specs.Sites.{IsSaid};
-ghost use Rattle.zones_threads.specs.Views.{workers_view};
+ghost use Rattle.zones_threads.specs.Prelude.{AllByRecursion, IsDistinct, Zone, same_name, IsZone, passes_for};
+ghost use Rattle.zones_threads.specs.Prelude.{entries_in, places_of, StandFor, ZonesRanOn, IsSaid, workers_view};
+ghost use Rattle.zone_table.specs.Openings.{origins_of};
 
 use crate::job::run_zones;
 use job_commands::{Gate, ZoneLaw};

@@ -1,9 +1,6 @@
 //! Transactions of a zone.
 ghost use Rattle.std.specs.Prelude.{IfOk};
-ghost use Rattle.job_script.specs.Views.{asked_view};
-ghost use Rattle.zone_table.specs.Passes.{IsPassOf};
-ghost use Rattle.zones_threads.specs.Sites.{IsSaid, Opens};
-ghost use Rattle.zones_threads.specs.Steps.{Goes};
+ghost use Rattle.zones_threads.specs.Prelude.{asked_view, IsPassOf, IsSaid, Opens, Goes};
 ghost use Rattle.zones_model.specs.Commands as model;
 
 use job_commands::{Room, ZoneLaw, run_block};

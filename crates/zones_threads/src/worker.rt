@@ -1,11 +1,6 @@
 //! A worker that runs its commands.
 ghost use Rattle.std.specs.Prelude.{◌≡◌, IfOk, length, map};
-ghost use Rattle.job_commands.specs.Calls.{AreHeard};
-ghost use Rattle.zone_table.specs.Passes.{IsPassOf};
-ghost use Rattle.zones_threads.specs.Gatherings.{HasWorked, MayWork};
-ghost use Rattle.zones_threads.specs.Sites.{IsSaid, Opens};
-ghost use Rattle.zones_threads.specs.Steps.{Goes};
-ghost use Rattle.zones_script.specs.Views.{command_view};
+ghost use Rattle.zones_threads.specs.Prelude.{AreHeard, IsPassOf, HasWorked, MayWork, IsSaid, Opens, Goes, command_view};
 
 use crate::changing::{attach, detach};
 use crate::getting::get;

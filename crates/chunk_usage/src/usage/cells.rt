@@ -1,12 +1,9 @@
 //! Cells that are handed out, and released.
 
 ghost use Rattle.std.specs.Prelude.{◌≡◌, ◌<◌, ◌≤◌, ◌-◌, ◌+◌, ◌*◌, ◌/◌, ◌%◌, ◌↔◌, ◌&&◌, ℕ, false, true, nat_le, IfSome, None, Some, IsErr, slice_index, slice_index_or};
-ghost use Rattle.chunk_usage.specs.Ledger.{free_count, filled, is_bump, is_used, is_mutable};
-ghost use Rattle.chunk_usage.specs.Counting.{is_unmixed};
-ghost use Rattle.chunk_usage.specs.Handing.{IsShort, all_released, allocated, grant_of, lowest_free, next_cell, released, roomy, shortage, taken, with_bump};
-ghost use Rattle.chunk_usage.specs.Handing.{IsSpent, new_grant, newly_taken, reserve_allocated, reserve_grant_of};
-ghost use Rattle.chunk_usage.specs.Keeping.{closed};
-ghost use Rattle.chunk_usage.specs.Rooms.{Grows};
+ghost use Rattle.chunk_usage.specs.Prelude.{free_count, filled, is_bump, is_used, is_mutable, is_unmixed, IsShort, all_released};
+ghost use Rattle.chunk_usage.specs.Prelude.{allocated, grant_of, lowest_free, next_cell, released, roomy, shortage, taken, with_bump};
+ghost use Rattle.chunk_usage.specs.Prelude.{IsSpent, new_grant, newly_taken, reserve_allocated, reserve_grant_of, closed, Grows};
 
 use super::Usage;
 use crate::bump::{Bump, chunk_of};

@@ -1,10 +1,7 @@
 //! Chunks that nothing reaches, given back.
 
 ghost use Rattle.std.specs.Prelude.{◌≡◌, ◌&&◌, ◌+◌, ◌/◌, ◌<◌, ◌≤◌, ℕ, true, false, not, count_by, length, All, Contains, IfSome};
-ghost use Rattle.packed_node.specs.declared.Cell.{Cell};
-ghost use Rattle.chunk_sets.specs.ChunkSets.{Without, has};
-ghost use Rattle.chunk_usage.specs.Ledger.{Row, free_count, is_given, is_bump};
-ghost use Rattle.chunk_usage.specs.Keeping.{freed, is_in_rows, is_needed, is_unreached};
+ghost use Rattle.chunk_usage.specs.Prelude.{Cell, Without, has, Row, free_count, is_given, is_bump, freed, is_in_rows, is_needed, is_unreached};
 
 use super::Usage;
 use crate::bump::Bump;

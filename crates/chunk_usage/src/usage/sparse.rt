@@ -1,8 +1,7 @@
 //! Chunks of which few cells count.
 
 ghost use Rattle.std.specs.Prelude.{◌≡◌, ◌<◌, ◌≤◌, ℕ, true, false, IfSome, None, length, slice_index};
-ghost use Rattle.chunk_usage.specs.Ledger.{is_bump};
-ghost use Rattle.chunk_usage.specs.Counting.{is_sparse, bump_low, sparse_count};
+ghost use Rattle.chunk_usage.specs.Prelude.{is_bump, is_sparse, bump_low, sparse_count};
 
 use super::Usage;
 use crate::bump::Bump;

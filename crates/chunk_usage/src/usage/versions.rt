@@ -1,9 +1,8 @@
 //! Kept versions.
 
 ghost use Rattle.std.specs.Prelude.{◌≡◌, ◌≢◌, ◌<◌, ◌≤◌, ◌+◌, ◌-◌, ℕ, true, false, length, IfSome, take};
-ghost use Rattle.std.specs.List.{All, position_or_len};
-ghost use Rattle.chunk_usage.specs.Ledger.{Row, Rising, is_used, is_mutable, newest};
-ghost use Rattle.chunk_usage.specs.Keeping.{AreOlder, dropped, frozen, is_among, is_kept, is_row_of, narrowed, restored, rows_of, without_row};
+ghost use Rattle.chunk_usage.specs.Prelude.{All, position_or_len, Row, Rising, is_used, is_mutable, newest, AreOlder, dropped};
+ghost use Rattle.chunk_usage.specs.Prelude.{frozen, is_among, is_kept, is_row_of, narrowed, restored, rows_of, without_row};
 
 use super::Usage;
 use crate::bump::chunk_of;

@@ -1,8 +1,6 @@
 //! The writer's stores: chunks that it gives and frees, cells that it writes, versions that it publishes.
 ghost use Rattle.std.specs.Prelude.{◌≡◌, ◌+◌, ◌*◌, ◌<◌, ◌≤◌, length, All, IfOk, OnOk, OnErr};
-ghost use Rattle.std.specs.List.{list_all};
-ghost use Rattle.pin_core.specs.Words.{chunk_of};
-ghost use Rattle.pin_core.specs.Machine.{is_given, given, freed, written, image_of, can_publish, published};
+ghost use Rattle.pin_core.specs.Prelude.{list_all, chunk_of, is_given, given, freed, written, image_of, can_publish, published};
 
 use super::State;
 use super::turn::clear_marks;

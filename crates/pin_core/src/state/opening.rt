@@ -1,11 +1,8 @@
 //! Openings.
 ghost use Rattle.std.specs.Prelude.{◌≡◌, ◌+◌, ◌*◌, ◌^◌, ◌<◌, ◌≤◌, IfOk, IsTrue, All, replicate, length};
-ghost use Rattle.std.specs.List.{fold};
+ghost use Rattle.pin_core.specs.Prelude.{fold, size_of, IsSound, can_open, opened, started, with_cell, IsWithinLimits};
 ghost use Rattle.pin_core.specs.declared.kept.Stage.TheVariants as stage;
 ghost use Rattle.pin_core.specs.declared.kept.Mark.TheVariants as mark;
-ghost use Rattle.pin_core.specs.Words.{size_of};
-ghost use Rattle.pin_core.specs.Machine.{IsSound, can_open, opened, started, with_cell};
-ghost use Rattle.pin_core.specs.Runs.{IsWithinLimits};
 
 use super::State;
 use crate::kept::{CellAt, Image, Kept, Mark, Stage};

@@ -1,7 +1,6 @@
 //! What a pass does.
 ghost use Rattle.std.specs.Prelude.{◌≡◌, ◌<◌};
-ghost use Rattle.pin_core.specs.Machine.{entered, looked, settled, shown, left, learned};
-ghost use Rattle.pin_core.specs.Sound.{stage_at};
+ghost use Rattle.pin_core.specs.Prelude.{entered, looked, settled, shown, left, learned, stage_at};
 
 use super::State;
 use crate::event::{Half, Step};

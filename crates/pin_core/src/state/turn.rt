@@ -1,9 +1,8 @@
 //! The writer's rounds: it marks each pass by its pin, and helps one that is about to look.
 ghost use Rattle.std.specs.Prelude.{◌≡◌, ◌==◌, ◌<◌, ◌≤◌, length, slice_set, replicate, filter};
-ghost use Rattle.std.specs.List.{list_any, list_all};
+ghost use Rattle.pin_core.specs.Prelude.{list_any, list_all, mark_at, turn_of, mark_of, is_settled};
+ghost use Rattle.pin_core.specs.Prelude.{names_version, kept_by_round, round_checked, scanned, assigned};
 ghost use Rattle.pin_core.specs.declared.kept.Mark.TheVariants as mark;
-ghost use Rattle.pin_core.specs.Sound.{mark_at, turn_of};
-ghost use Rattle.pin_core.specs.Machine.{mark_of, is_settled, names_version, kept_by_round, round_checked, scanned, assigned};
 
 use super::State;
 use crate::event::Step;

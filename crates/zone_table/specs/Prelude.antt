@@ -1,0 +1,22 @@
+-- The words that this crate's clauses cite, passed on from one place. Declares nothing.
+pub use Rattle.std.specs.Borrow.{sem}
+pub use Rattle.std.specs.List.{AllByRecursion, IsDistinct, range_with_len}
+pub use Rattle.zone_model.specs.Names.{IsName, Name as Labels, name_cmp, same_name}
+pub use Rattle.dns_name.specs.Spelling.{IsSpelled, Spells}
+pub use Rattle.trie_model.specs.Keys.{Entry, Rises}
+pub use Rattle.trie_read.specs.Readings.{IsHeld}
+pub use Rattle.shared_cells.specs.declared.view.TableSize.{TableSize}
+pub use Rattle.trie_write.specs.Entries.{entries_of_items, entry_of}
+pub use Rattle.shared_index.specs.Openings.{Refuses}
+pub use Rattle.shared_index.specs.Passes.{Known, Pinned, known_at, version_seen}
+pub use Rattle.zone_table.specs.Changes.{Attaches, Detaches}
+pub use Rattle.zone_table.specs.Dealings.{AreMade}
+pub use Rattle.zone_table.specs.Endings.{AreAdded, AreEnded, AreSplit, Belong, EachEnds, IsEnd}
+pub use Rattle.zone_table.specs.Lends.{lends_zone}
+pub use Rattle.zone_table.specs.Locations.{IsZoneOf}
+pub use Rattle.zone_table.specs.Notes.{HasLearnt, IsNoteOf, KnowsSame, LearntAt, Tells}
+pub use Rattle.zone_table.specs.Openings.{AllFit, AreBegun, IsBegun, OpensZones, Place, RefusesZones, entries_in, origins_of, places_of}
+pub use Rattle.zone_table.specs.Passes.{IsPassOf, table_known, zone_known}
+pub use Rattle.zone_table.specs.Recalled.{AreAttached, IsAt}
+pub use Rattle.zone_table.specs.Shelves.{AreFiled, AreZones}
+pub use Rattle.zone_table.specs.Tables.{IsAmong, IsAttached, IsTable, entry_for}
