@@ -198,9 +198,9 @@ fn open_all<C: CellWrite>(
     ensures ready { Ready C.kept C.given reserve_account_of cells.new usage.new }
 {
     for _ in 0..ROUNDS {
-        let begun = marks.begun;
+        let sparse = usage.sparse();
         step_in_all(cells, usage, root, Step::Copy, marks)?;
-        if marks.begun == begun {
+        if usage.sparse() == sparse {
             return Ok(());
         }
     }

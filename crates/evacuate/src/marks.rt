@@ -1,7 +1,10 @@
 //! What was found along listed paths.
 
-/// So many words have a bit for each path that is marked; paths may share one.
-const WORDS: usize = 64;
+/// So many words have four bits for each path that is marked; paths may share theirs.
+const PATH_WORDS: usize = 128;
+
+/// So many words have a bit for each chunk.
+const CHUNK_WORDS: usize = 64;
 
 /// Where a path is listed.
 #[derive(Clone, Copy)]
@@ -19,18 +22,52 @@ pub enum Mark {
     Forked,
 }
 
+// The bits of a mark. A path without any has none.
+const MARKED: u64 = 1;
+
+const FORKED: u64 = 2;
+
+const TO_ITEM: u64 = 4;
+
+const NOTED: u64 = 8;
+
+const ALL: u64 = 15;
+
+impl Mark {
+    fn bits(self) -> u64 {
+        match self {
+            Mark::Straight { to_item, noted } => {
+                MARKED | bit_if(to_item, TO_ITEM) | bit_if(noted, NOTED)
+            }
+            Mark::Forked => MARKED | FORKED,
+        }
+    }
+
+    fn of_bits(bits: u64) -> Option<Mark> {
+        if bits & MARKED == 0 {
+            return None;
+        }
+        if bits & FORKED != 0 {
+            return Some(Mark::Forked);
+        }
+        Some(Mark::Straight {
+            to_item: bits & TO_ITEM != 0,
+            noted: bits & NOTED != 0,
+        })
+    }
+}
+
+#[inline]
+fn bit_if(value: bool, bit: u64) -> u64 {
+    if value { bit } else { 0 }
+}
+
 /// Marks of paths, by where they are listed. Nothing is proved of them: one that seems to be marked may not be.
 #[derive(Clone, Copy)]
 pub struct Marks {
-    // Which are marked, which of these lead to an item, which aren't listed yet, and which fork.
-    left: [u64; WORDS],
-    to_item: [u64; WORDS],
-    unnoted: [u64; WORDS],
-    forked: [u64; WORDS],
-    // Of which chunks the paths were gone along, a bit for each.
-    chunks: [u64; WORDS],
-    /// How many chunks that is.
-    pub begun: u32,
+    paths: [u64; PATH_WORDS],
+    // Of which chunks the paths were gone along.
+    chunks: [u64; CHUNK_WORDS],
     /// How many chunks were free before the first was marked. As long as it is so many, the bump chunk is the same.
     pub free: u32,
 }
@@ -39,71 +76,44 @@ impl Marks {
     /// None is marked, and so many chunks are free.
     pub fn new(free: u32) -> Marks {
         Marks {
-            left: [0; WORDS],
-            to_item: [0; WORDS],
-            unnoted: [0; WORDS],
-            forked: [0; WORDS],
-            chunks: [0; WORDS],
-            begun: 0,
+            paths: [0; PATH_WORDS],
+            chunks: [0; CHUNK_WORDS],
             free,
         }
     }
 
     /// The paths of a chunk are gone along. Tells whether they weren't before.
     pub fn begin(&mut self, chunk: u32) -> bool {
-        let bit = chunk as usize;
-        if has(&self.chunks, bit) {
-            return false;
-        }
-        put(&mut self.chunks, bit, true);
-        self.begun = self.begun.saturating_add(1);
-        true
+        let word = &mut self.chunks[chunk as usize / 64 % CHUNK_WORDS];
+        let bit = 1 << (chunk % 64);
+        let is_new = *word & bit == 0;
+        *word |= bit;
+        is_new
     }
 
     /// Marks a path.
     pub fn put(&mut self, listing: Listing, mark: Mark) {
-        let bit = bit_of(listing);
-        put(&mut self.left, bit, true);
-        match mark {
-            Mark::Straight { to_item, noted } => {
-                put(&mut self.to_item, bit, to_item);
-                put(&mut self.unnoted, bit, !noted);
-            }
-            Mark::Forked => put(&mut self.forked, bit, true),
-        }
+        let number = number_of(listing);
+        let word = &mut self.paths[number / 16 % PATH_WORDS];
+        let shift = number % 16 * 4;
+        *word = *word & !(ALL << shift) | mark.bits() << shift;
     }
 
     /// A path's mark, as it seems. It has none where nothing is left.
     pub fn of(&self, listing: Listing) -> Option<Mark> {
-        let bit = bit_of(listing);
-        if !has(&self.left, bit) {
-            return None;
-        }
-        if has(&self.forked, bit) {
-            return Some(Mark::Forked);
-        }
-        Some(Mark::Straight {
-            to_item: has(&self.to_item, bit),
-            noted: !has(&self.unnoted, bit),
-        })
+        let number = number_of(listing);
+        Mark::of_bits(self.paths[number / 16 % PATH_WORDS] >> (number % 16 * 4) & ALL)
     }
 }
 
-/// The bit of a path. Lists of less than 37 paths have theirs apart, as far as there is room.
+/// The numbers of a chunk's paths begin so far behind those of the one before, which mostly lists fewer than 148: so a dozen chunks side by
+/// side have theirs apart.
+const APART: usize = 549;
+
+/// The number of a path.
 #[inline]
-fn bit_of(listing: Listing) -> usize {
+fn number_of(listing: Listing) -> usize {
     (listing.chunk as usize)
-        .wrapping_mul(37)
+        .wrapping_mul(APART)
         .wrapping_add(listing.place)
-}
-
-/// Sets a bit, if it is to be.
-#[inline]
-fn put(words: &mut [u64; WORDS], bit: usize, value: bool) {
-    words[bit / 64 % WORDS] |= (value as u64) << (bit % 64);
-}
-
-#[inline]
-fn has(words: &[u64; WORDS], bit: usize) -> bool {
-    (words[bit / 64 % WORDS] >> (bit % 64)) & 1 == 1
 }

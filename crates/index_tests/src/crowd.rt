@@ -1,6 +1,9 @@
 //! Passes in threads of their own, beside each other.
 ghost use Rattle.std.specs.Prelude.{◌≡◌};
-ghost use Rattle.index_tests.specs.Prelude.{IsHeld, pinned_image, version_seen, Holds};
+ghost use Rattle.trie_read.specs.Readings.{IsHeld};
+ghost use Rattle.shared_cells.specs.Views.{pinned_image};
+ghost use Rattle.shared_index.specs.Passes.{version_seen};
+ghost use Rattle.shared_index.specs.Meanings.{Holds};
 
 use crate::buffer::Buffer;
 use crate::course::{NAMES, due, name_at, visit_of};

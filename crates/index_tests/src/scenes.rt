@@ -1,6 +1,7 @@
 //! Scenes that the tests play, each on an index of one item.
 ghost use Rattle.std.specs.Prelude.{◌≡◌, ◌≤◌, Some, IsSome, slice_get};
-ghost use Rattle.index_tests.specs.Prelude.{Rises, entries_of_items};
+ghost use Rattle.trie_model.specs.Keys.{Rises};
+ghost use Rattle.trie_write.specs.Entries.{entries_of_items};
 
 use crate::crowd::{at_once, crowd, moved};
 use crate::items::numbered;

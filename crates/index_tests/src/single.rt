@@ -1,6 +1,7 @@
 //! An index whose law lets a commit have one operation at most.
 ghost use Rattle.std.specs.Prelude.{◌≡◌, Some, slice_get};
-ghost use Rattle.index_tests.specs.Prelude.{Rises, entries_of_items};
+ghost use Rattle.trie_model.specs.Keys.{Rises};
+ghost use Rattle.trie_write.specs.Entries.{entries_of_items};
 
 use crate::items::numbered;
 use shared_index::{Blank, Index, Law, Locked, Named};

@@ -1,6 +1,7 @@
 //! A pass with its index, as tests use it.
 ghost use Rattle.std.specs.Prelude.{◌≡◌, ◌≤◌, IsSome, IsSomeAnd, All};
-ghost use Rattle.index_tests.specs.Prelude.{IsHeld, Works};
+ghost use Rattle.trie_read.specs.Readings.{IsHeld};
+ghost use Rattle.shared_index.specs.Drafts.{Works};
 
 use crate::buffer::Buffer;
 use crate::items::numbered;

@@ -1,8 +1,14 @@
 //! The turn with its usage: between two transactions, and during one.
 ghost use Rattle.std.specs.Prelude.{◌≡◌, ◌+◌, ◌*◌, List, [], length};
 ghost use Rattle.std.proofs.Props.{props};
-ghost use Rattle.shared_index.specs.Prelude.{words_for, kept_in, pass_of, version_seen, Agrees, AtRest, cells_with, current_root};
-ghost use Rattle.shared_index.specs.Prelude.{StandsFor, Joined, CommitsAreWithin, RestsRoomy, Entry, closed, freed, restored};
+ghost use Rattle.pin_core.specs.Words.{words_for};
+ghost use Rattle.shared_cells.specs.Views.{kept_in, pass_of};
+ghost use Rattle.shared_index.specs.Passes.{version_seen};
+ghost use Rattle.shared_index.specs.Turns.{Agrees, AtRest, cells_with, current_root};
+ghost use Rattle.shared_index.specs.Bases.{StandsFor, Joined, CommitsAreWithin};
+ghost use Rattle.shared_index.specs.Capacity.{RestsRoomy};
+ghost use Rattle.trie_model.specs.Keys.{Entry};
+ghost use Rattle.chunk_usage.specs.Keeping.{closed, freed, restored};
 
 use crate::freeing::free_unreached;
 use crate::log::Log;

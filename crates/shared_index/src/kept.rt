@@ -1,6 +1,7 @@
 //! The numbers of kept versions.
 ghost use Rattle.std.specs.Prelude.{◌≡◌, ◌≤◌, ◌<◌, ◌+◌, length, take};
-ghost use Rattle.shared_index.specs.Prelude.{AllPairs, kept_versions};
+ghost use Rattle.std.specs.List.{AllPairs};
+ghost use Rattle.chunk_usage.specs.Keeping.{kept_versions};
 
 use chunk_usage::Usage;
 

@@ -1,6 +1,8 @@
 //! The operations that a transaction has made. They exist in proofs alone: a log takes no memory, and its calls do nothing.
 ghost use Rattle.std.specs.Prelude.{◌≡◌, List, [], ◌∷◌, ◌++◌};
-ghost use Rattle.shared_index.specs.Prelude.{ftrue, Operation, operations_code};
+ghost use Rattle.std.specs.Borrow.{ftrue};
+ghost use Rattle.shared_index.specs.declared.meaning.Operation.{Operation};
+ghost use Rattle.shared_index.specs.Logged.{operations_code};
 
 use crate::change::Change;
 use std::marker::Model;

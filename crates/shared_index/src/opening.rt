@@ -1,9 +1,22 @@
 //! How an index begins.
 ghost use Rattle.std.specs.Prelude.{◌≡◌, ◌*◌, ◌<◌, ◌≤◌, [], Some, IsSome, IfOk, IfErr, All, length, map, slice_get};
-ghost use Rattle.shared_index.specs.Prelude.{range_with_len, Rises, cells_in_trie, frozen_part, Lacks, consumed, entries_of_items, number_of};
-ghost use Rattle.shared_index.specs.Prelude.{words_of, given_chunks, with_words, CanOpen, Opened, applied, AreWithin, IsVersion, commits_in};
-ghost use Rattle.shared_index.specs.Prelude.{first_version, known_at, pinned_in, cells_with, StandsFor, AreAll, IsUnused, SeesFirst, Refuses, room_in};
+ghost use Rattle.std.specs.List.{range_with_len};
 ghost use Rattle.std.proofs.Props.{props};
+ghost use Rattle.trie_model.specs.Keys.{Rises};
+ghost use Rattle.trie_model.specs.Shape.{cells as cells_in_trie};
+ghost use Rattle.chunk_usage.specs.Ledger.{frozen_part};
+ghost use Rattle.chunk_usage.specs.Handing.{Lacks, consumed};
+ghost use Rattle.trie_write.specs.Entries.{entries_of_items};
+ghost use Rattle.shared_cells.specs.Views.{number_of, words_of};
+ghost use Rattle.shared_cells.specs.Cells.{given_chunks, with_words};
+ghost use Rattle.shared_cells.specs.Steps.{CanOpen, Opened};
+ghost use Rattle.shared_index.specs.Operations.{applied, AreWithin};
+ghost use Rattle.shared_index.specs.Meanings.{IsVersion};
+ghost use Rattle.shared_index.specs.Passes.{commits_in, first_version, known_at, pinned_in};
+ghost use Rattle.shared_index.specs.Turns.{cells_with};
+ghost use Rattle.shared_index.specs.Bases.{StandsFor};
+ghost use Rattle.shared_index.specs.Closings.{AreAll};
+ghost use Rattle.shared_index.specs.Openings.{IsUnused, SeesFirst, Refuses, room_in};
 
 use crate::desk::Desk;
 use crate::index::{Index, Turn};

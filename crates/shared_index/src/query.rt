@@ -1,7 +1,9 @@
 //! A query: one version, read while others write.
 ghost use Rattle.std.specs.Prelude.{◌≡◌, Some, IsSome, slice_get};
 ghost use Rattle.shared_cells.specs.declared.view.Progress.TheVariants as progress;
-ghost use Rattle.shared_index.specs.Prelude.{with_progress, pinned_image, known_at, version_seen, Pinned, Holds, IsVersion};
+ghost use Rattle.shared_cells.specs.Views.{with_progress, pinned_image};
+ghost use Rattle.shared_index.specs.Passes.{known_at, version_seen, Pinned};
+ghost use Rattle.shared_index.specs.Meanings.{Holds, IsVersion};
 
 use crate::index::Index;
 use crate::meaning::{Law, Meaning, Named, Operations, Version};

@@ -1,8 +1,12 @@
 //! Snapshots: a version that is held for as long as wanted.
 ghost use Rattle.std.specs.Prelude.{◌≡◌, List, Some, IsSome, slice_get};
-ghost use Rattle.shared_index.specs.Prelude.{Entry, PassSeat, with_progress, pinned_image, known_at};
-ghost use Rattle.shared_index.specs.Prelude.{version_seen, Pinned, Holds, IsVersion, Operation};
+ghost use Rattle.trie_model.specs.Keys.{Entry};
+ghost use Rattle.shared_cells.specs.declared.pass.PassSeat.{PassSeat};
 ghost use Rattle.shared_cells.specs.declared.view.Progress.TheVariants as progress;
+ghost use Rattle.shared_cells.specs.Views.{with_progress, pinned_image};
+ghost use Rattle.shared_index.specs.Passes.{known_at, version_seen, Pinned};
+ghost use Rattle.shared_index.specs.Meanings.{Holds, IsVersion};
+ghost use Rattle.shared_index.specs.declared.meaning.Operation.{Operation};
 
 use crate::index::Index;
 use crate::meaning::{Law, Meaning, Named, Operations, Version};

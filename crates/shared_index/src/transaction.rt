@@ -1,7 +1,12 @@
 //! Transactions: one at a time, each of a pass that has joined the turn.
 ghost use Rattle.std.specs.Prelude.{◌≡◌, ◌≢◌, ◌↔◌, ◌+◌, ◌≤◌, Some, Err, IsSome, IsNone, IfSome, IsSomeAnd, IsOk, IsErr, IfOk, IfErr, length, slice_get};
-ghost use Rattle.shared_index.specs.Prelude.{most_item_octets, cells_in, known_at, ForSome, full, HasRoom, IsCramped};
+ghost use Rattle.zone_model.specs.Keys.{most_item_octets};
+ghost use Rattle.trie_model.specs.Extents.{cells_in};
+ghost use Rattle.shared_index.specs.Passes.{known_at};
+ghost use Rattle.std.specs.Option.{ForSome};
 ghost use Rattle.std.proofs.Props.{props};
+ghost use Rattle.chunk_usage.specs.Keeping.{full};
+ghost use Rattle.shared_index.specs.Bounds.{HasRoom, IsCramped};
 
 use crate::change::Change;
 use crate::commit::Receipt;

@@ -27,7 +27,6 @@ pub use Rattle.trie_write.specs.Exchanges.{Exchanged}
 pub use Rattle.trie_write.specs.Inserts.{IsWith, JoinAsked, KeyIsMissing, LacksKey, PairAsked, WithAsked, WithAsks}
 pub use Rattle.trie_write.specs.Laid.{HandedItem, IsNoItem, extent_sizes}
 pub use Rattle.trie_write.specs.Mutable.{IsCopied, IsParted, IsSlot, SlotAsked, SlotAsks, WayAsked, WayAsks}
-pub use Rattle.trie_write.specs.Named.{begins_with_name}
 pub use Rattle.trie_write.specs.Nearness.{Closest, Differs}
 pub use Rattle.trie_write.specs.Paths.{branches_on_path, delete_asks, insert_asks, replace_asks, to_copy, twigs_on_path}
 pub use Rattle.trie_write.specs.Points.{Ahead, Before, Front}

@@ -1,7 +1,8 @@
 //! Items: what a trie holds for a name.
 
 ghost use Rattle.std.specs.Prelude.{◌≡◌, ◌<◌, ◌≤◌, ◌^◌, ℕ, List, length, slice_index, true};
-ghost use Rattle.trie_write.specs.Prelude.{most_item_octets, begins_with_name};
+ghost use Rattle.zone_model.specs.Keys.{most_item_octets};
+ghost use Rattle.trie_write.specs.Named.{begins_with_name};
 
 use dns_name::Name;
 use packed_node::ITEM_LIMIT;

@@ -1,6 +1,6 @@
 -- The words that this crate's clauses cite, passed on from one place. Declares nothing.
 pub use Rattle.std.specs.Borrow.{sem}
-pub use Rattle.std.specs.List.{AllByRecursion, IsDistinct, range_with_len}
+pub use Rattle.std.specs.List.{AllByRecursion, IsDistinct}
 pub use Rattle.zone_model.specs.Names.{IsName, Name as Labels, name_cmp, same_name}
 pub use Rattle.dns_name.specs.Spelling.{IsSpelled, Spells}
 pub use Rattle.trie_model.specs.Keys.{Entry, Rises}
@@ -18,5 +18,4 @@ pub use Rattle.zone_table.specs.Notes.{HasLearnt, IsNoteOf, KnowsSame, LearntAt,
 pub use Rattle.zone_table.specs.Openings.{AllFit, AreBegun, IsBegun, OpensZones, Place, RefusesZones, entries_in, origins_of, places_of}
 pub use Rattle.zone_table.specs.Passes.{IsPassOf, table_known, zone_known}
 pub use Rattle.zone_table.specs.Recalled.{AreAttached, IsAt}
-pub use Rattle.zone_table.specs.Shelves.{AreFiled, AreZones}
 pub use Rattle.zone_table.specs.Tables.{IsAmong, IsAttached, IsTable, entry_for}

@@ -1,7 +1,9 @@
 //! The zones that are served, and the table of their origins.
 ghost use Rattle.std.specs.Prelude.{◌≡◌, ◌<◌, ◌≤◌, ◌+◌, Some, length, map, slice_get};
-ghost use Rattle.zone_table.specs.Prelude.{AllByRecursion, range_with_len, IsName, AreFiled, AreZones};
+ghost use Rattle.std.specs.List.{AllByRecursion, range_with_len};
 ghost use Rattle.std.proofs.Props.{props};
+ghost use Rattle.zone_model.specs.Names.{IsName};
+ghost use Rattle.zone_table.specs.Shelves.{AreFiled, AreZones};
 
 use crate::law::TableLaw;
 use dns_name::Name;
