@@ -10,6 +10,24 @@ use evacuate::{Done, evacuate};
 use packed_node::Ref;
 use trie_write::Item;
 
+/// The root once all items are put in or taken out.
+pub(crate) fn changed_all<C: CellWrite, U: Space>(
+    cells: &mut C,
+    usage: &mut U,
+    root: Option<Ref>,
+    items: &[Item],
+    change: Change,
+) -> Option<Option<Ref>>
+    requires { IsTrie C.has C.kept C.given U.account cells.old usage.old root }
+    ensures { IfSome result (IsTrie C.has C.kept C.given U.account cells.new usage.new) }
+{
+    let mut root = root;
+    for item in items {
+        root = changed(cells, usage, root, change, item).ok()?;
+    }
+    Some(root)
+}
+
 /// The root once all items but one of so many are put in or taken out.
 pub(crate) fn changed_but<C: CellWrite, U: Space>(
     cells: &mut C,
