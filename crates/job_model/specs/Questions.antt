@@ -1,10 +1,16 @@
--- The questions of scripts: the word of each, and what its operands say. Operands are read from the left.
-use Rattle.std.specs.Prelude.{ℕ, List, [], ◌∷◌, if◌then◌else◌, Option, Some, None, Result, Ok, codes}
+-- The questions of scripts: the word of each, what its operands say, and what it asks of a version. Operands are read from the left.
+use Rattle.std.specs.Prelude.{ℕ, List, [], ◌∷◌, length, if◌then◌else◌, Option, Some, None, Result, Ok, codes}
 use Rattle.std.specs.Option.{option_map, ok_or}
 use Rattle.zone_model.specs.Names.{Name}
 use Rattle.zone_model.specs.Refusals.{◌>>=◌}
 use Rattle.zone_model.specs.Tokens.{Token}
 use Rattle.zone_model.specs.MasterFile.{name_word, type_word}
+use Rattle.zone_model.specs.Rows.{Row}
+use Rattle.zone_model.specs.Dumps.{all_rows}
+use Rattle.zone_model.specs.Versions.{Version}
+use Rattle.zone_query.specs.Answers.{Answer, answer}
+use Rattle.zone_query.specs.Around.{Found, find, walk, back}
+use Rattle.job_model.specs.Sizes.{node_count}
 use Rattle.job_model.specs.declared.Question.{Question}
 use Rattle.job_model.specs.declared.Question.TheVariants.{Get, Find, Walk, Back, Stat, Dump}
 use Rattle.job_model.specs.declared.Stretch.{Stretch}
@@ -56,3 +62,23 @@ asked_of origin w operands =
     else if says w (codes "stat") then bare Stat operands
     else if says w (codes "dump") then bare Dump operands
     else None
+
+-- ---- what they ask of a version
+
+-- The form of a reply, and what fills it from a version: an answer; what there is of a name; a word with names, or with records; how many
+-- names and nodes.
+pub data Form : Type 0 where
+  OfAnswer : (answer : Version → Answer) → Form
+  OfFound : (found : Version → Found) → Form
+  OfNames : (word : List ℕ) (names : Version → List Name) → Form
+  OfRows : (word : List ℕ) (rows : Version → List Row) → Form
+  OfSize : (names nodes : Version → ℕ) → Form
+
+-- what a question asks of the versions of the zone of an origin
+abbrev pub form_of : Name → Question → Form
+form_of origin (Get name rtype) = OfAnswer (λ version. answer origin version name rtype)
+form_of origin (Find name) = OfFound (λ version. find name version)
+form_of origin (Walk s) = OfNames (codes "WALK") (λ version. walk s.start s.most version)
+form_of origin (Back s) = OfNames (codes "BACK") (λ version. back s.start s.most version)
+form_of origin Stat = OfSize (λ version. length version) (λ version. node_count version)
+form_of origin Dump = OfRows (codes "DUMP") (λ version. all_rows version)

@@ -1,39 +1,19 @@
--- What versions reply to questions, and how that is printed.
+-- How what versions reply to questions is printed.
 use Rattle.std.specs.Prelude.{ℕ, List, [], ◌++◌, length, ◌==◌, if◌then◌else◌, Option, Some, None, codes}
 use Rattle.std.specs.List.{flat_map}
 use Rattle.std.specs.Fmt.{decimal}
 use Rattle.zone_model.specs.Names.{Name}
 use Rattle.zone_model.specs.NameText.{text_of}
 use Rattle.zone_model.specs.Rows.{Row, row_text}
-use Rattle.zone_model.specs.Dumps.{all_rows}
 use Rattle.zone_model.specs.Versions.{Version}
-use Rattle.zone_query.specs.Answers.{Answer, answer}
+use Rattle.zone_query.specs.Answers.{Answer}
 use Rattle.zone_query.specs.declared.kind.Kind.{Kind}
 use Rattle.zone_query.specs.declared.kind.Kind.TheVariants.{Answered, Nodata, Nxdomain, Referral, Outside}
-use Rattle.zone_query.specs.Around.{Found, find, walk, back}
+use Rattle.zone_query.specs.Around.{Found}
 use Rattle.trie_read.specs.declared.found.Kind.{Kind as FoundKind}
 use Rattle.trie_read.specs.declared.found.Kind.TheVariants as there
-use Rattle.job_model.specs.Sizes.{node_count}
 use Rattle.job_model.specs.declared.Question.{Question}
-use Rattle.job_model.specs.declared.Question.TheVariants.{Get, Find, Walk, Back, Stat, Dump}
-
--- The form of a reply, and what fills it from a version: an answer; what there is of a name; a word with names, or with records; how many
--- names and nodes.
-pub data Form : Type 0 where
-  OfAnswer : (answer : Version → Answer) → Form
-  OfFound : (found : Version → Found) → Form
-  OfNames : (word : List ℕ) (names : Version → List Name) → Form
-  OfRows : (word : List ℕ) (rows : Version → List Row) → Form
-  OfSize : (names nodes : Version → ℕ) → Form
-
--- what a question asks of the versions of the zone of an origin
-abbrev pub form_of : Name → Question → Form
-form_of origin (Get name rtype) = OfAnswer (λ version. answer origin version name rtype)
-form_of origin (Find name) = OfFound (λ version. find name version)
-form_of origin (Walk s) = OfNames (codes "WALK") (λ version. walk s.start s.most version)
-form_of origin (Back s) = OfNames (codes "BACK") (λ version. back s.start s.most version)
-form_of origin Stat = OfSize (λ version. length version) (λ version. node_count version)
-form_of origin Dump = OfRows (codes "DUMP") (λ version. all_rows version)
+use Rattle.job_model.specs.Questions.{Form, OfAnswer, OfFound, OfNames, OfRows, OfSize, form_of}
 
 -- ---- answers
 

@@ -15,7 +15,8 @@ use Rattle.zone_query.specs.Around.{Found}
 use Rattle.trie_read.specs.declared.found.Kind.{Kind as FoundKind}
 use Rattle.trie_read.specs.declared.found.Kind.TheVariants as there
 use Rattle.job_model.specs.declared.Question.{Question}
-use Rattle.job_model.specs.Replies.{Form, OfAnswer, OfFound, OfNames, OfRows, OfSize, form_of, form_text, reply_of, reply_text, count_text, kind_text, answer_text, name_line, names_text, found_kind_text, name_or_none, found_text, size_text}
+use Rattle.job_model.specs.Questions.{Form, OfAnswer, OfFound, OfNames, OfRows, OfSize, form_of}
+use Rattle.job_model.specs.Replies.{form_text, reply_of, reply_text, count_text, kind_text, answer_text, name_line, names_text, found_kind_text, name_or_none, found_text, size_text}
 use Rattle.report_laws.proofs.CutLemmas.{Free, free_append}
 use Rattle.report_laws.proofs.TextLemmas.{spaced_free, decimal_free, name_free, type_free, data_free}
 use Rattle.report_laws.proofs.LineLemmas.{IsLine, line, line_cut, IsWord, counted_cut}
