@@ -6,12 +6,12 @@ use Rattle.trie_model.specs.Trees.{Tree}
 use Rattle.chunk_usage.specs.Ledger.{Ledger}
 use Rattle.chunk_usage.specs.Rooms.{reserve_account_of}
 use Rattle.trie_read.specs.Reads.{IsTop}
-use Rattle.trie_space.specs.Spaces.{Fenced, IsWritable}
+use Rattle.trie_space.specs.Spaces.{Fenced, Ready}
 use Rattle.trie_space.proofs.SpaceLaws.{frame_refl, fenced_of, fenced_then, writable_later}
 use Rattle.evacuate.specs.declared.trail.Trail.{Trail}
 use Rattle.evacuate.specs.Fillings.{Fills, Moves}
 use Rattle.evacuate.specs.Places.{Stood, IsStood}
-use Rattle.evacuate.specs.Rearranging.{Rearranged}
+use Rattle.evacuate.specs.Rearranging.{CanRearrange, Rearranged}
 use Rattle.evacuate.specs.Trails.{Found, HasFound}
 use Rattle.evacuate.proofs.DescentLaws.{stood_same}
 use Rattle.evacuate.proofs.EndLaws.{node_top}
@@ -19,35 +19,41 @@ use Rattle.evacuate.proofs.FillingLaws.{moves_none, moves_then}
 
 module _ {S : Type 0} {has : S → ℕ → Cell → Type 0} {kept : S → List ℕ} {given : S → List Bool} {r : ℕ} where
   -- nothing was moved
-  pub rearranged_same : {s s1 : S} {l l1 : Ledger} → s1 ≡ s → l1 ≡ l → Rearranged has kept given r s l s1 l1
-  rearranged_same {s} {s1} {l} {l1} e f =
+  pub rearranged_same : {s s1 : S} {l l1 : Ledger} → s1 ≡ s → l1 ≡ l → Ready kept given reserve_account_of s l → Rearranged has kept given r s l s1 l1
+  rearranged_same {s} {s1} {l} {l1} e f ready =
       subst (λ z. Rearranged has kept given r s l z l1) (sym e) (subst (λ z. Rearranged has kept given r s l s z) (sym f)
-      (record { stood = λ es t h. (t, h); moves = λ old fills. moves_none old l fills; frame = fenced_of (frame_refl s l) }))
+      (record { stood = λ es t h. (t, h); moves = λ old fills. moves_none old l fills; frame = fenced_of (frame_refl s l); ready = ready }))
 
   pub rearranged_then : {s s1 s2 : S} {l l1 l2 : Ledger} → Rearranged has kept given r s l s1 l1 → Rearranged has kept given r s1 l1 s2 l2 → Rearranged has kept given r s l s2 l2
   rearranged_then a b = record {
     stood = λ es t h. let x = a.stood es t h in b.stood es x.0 x.1;
     moves = λ old fills. let m = a.moves old fills in moves_then m (b.moves old m.fills);
     frame = fenced_then a.frame b.frame;
+    ready = b.ready;
   }
 
-  pub stood_after : {s s1 : S} {l l1 : Ledger} → Rearranged has kept given r s l s1 l1 → IsStood has s l r → IsStood has s1 l1 r
-  stood_after a h = let x = a.stood h.es h.t h.stood in record { es = h.es; t = x.0; stood = x.1 }
+  -- more may be moved
+  pub can_again : {s s1 : S} {l l1 : Ledger} → Rearranged has kept given r s l s1 l1 → CanRearrange has kept given r s l → CanRearrange has kept given r s1 l1
+  can_again a can =
+      let x = a.stood can.stands.es can.stands.t can.stands.stood in
+      record {
+        stands = record { es = can.stands.es; t = x.0; stood = x.1 };
+        writable = writable_later can.writable a.frame.grows a.frame.given_stays;
+        ready = a.ready;
+      }
 
-  pub writable_after : {s s1 : S} {l l1 : Ledger} → Rearranged has kept given r s l s1 l1 → IsWritable given reserve_account_of s l r → IsWritable given reserve_account_of s1 l1 r
-  writable_after a w = writable_later w a.frame.grows a.frame.given_stays
+  -- cells were read
+  pub can_read : {s s1 : S} {l l1 : Ledger} → s1 ≡ s → l1 ≡ l → CanRearrange has kept given r s l → CanRearrange has kept given r s1 l1
+  can_read e f can = can_again (rearranged_same e f can.ready) can
 
   -- what a trail leads to was moved, or what is above it
   pub rearranged_found : {s s1 : S} {l l1 : Ledger} {trail : Trail} → ((es : List Entry) (t : Tree) → Stood has s l r es t → Found l trail t) →
-      ((es : List Entry) (t : Tree) → Stood has s l r es t → Found l trail t → (u : Tree) × Stood has s1 l1 r es u) → ((old : List Bool) → Fills old l → Moves old 0 l l1) → Fenced has kept given reserve_account_of s l s1 l1 → Rearranged has kept given r s l s1 l1
-  rearranged_found found stood moves frame = record { stood = λ es t h. stood es t h (found es t h); moves = moves; frame = frame }
+      ((es : List Entry) (t : Tree) → Stood has s l r es t → Found l trail t → (u : Tree) × Stood has s1 l1 r es u) → ((old : List Bool) → Fills old l → Moves old 0 l l1) → Fenced has kept given reserve_account_of s l s1 l1 → Ready kept given reserve_account_of s1 l1 → Rearranged has kept given r s l s1 l1
+  rearranged_found found stood moves frame ready = record { stood = λ es t h. stood es t h (found es t h); moves = moves; frame = frame; ready = ready }
 
 module _ {S : Type 0} {has : S → ℕ → Cell → Type 0} {r : ℕ} where
   pub found_there : {s : S} {l : Ledger} {trail : Trail} → ((es : List Entry) (t : Tree) → Stood has s l r es t → Found l trail t) → IsStood has s l r → HasFound has s l r trail
   found_there found h = record { es = h.es; t = h.t; stood = h.stood; found = found h.es h.t h.stood }
-
-  pub stood_there : {s s1 : S} {l l1 : Ledger} → s1 ≡ s → l1 ≡ l → IsStood has s l r → IsStood has s1 l1 r
-  stood_there e f h = record { es = h.es; t = h.t; stood = stood_same e f h.stood }
 
   -- the root's cell was read, and from there the trail was laid
   pub found_on : {s s1 s2 : S} {l l1 : Ledger} {trail : Trail} {node : Cell} → s1 ≡ s → ((d : Cell) → has s r d → node ≡ d) → s2 ≡ s1 → l1 ≡ l → ((t : Tree) → IsTop (has s1) 0 node t → Found l trail t) → (es : List Entry) (t : Tree) → Stood has s2 l1 r es t → Found l1 trail t

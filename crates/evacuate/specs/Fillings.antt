@@ -73,5 +73,5 @@ abbrev pub Fewer : Ledger → Ledger → Type 0
 Fewer l new = (given : List Bool) → Fills given l → old_live given new.live < old_live given l.live
 
 -- what begins at a cell was moved; or it lies in no sparse chunk, and all is as it was
-abbrev pub Opened : Ledger → Ledger → ℕ → Type 0
-Opened l new from = Fewer l new ⊎ ((is_sparse l (from / 1024) ≡ false) × (new ≡ l))
+abbrev pub MovedIfDue : Ledger → Ledger → ℕ → Type 0
+MovedIfDue l new from = Fewer l new ⊎ ((is_sparse l (from / 1024) ≡ false) × (new ≡ l))

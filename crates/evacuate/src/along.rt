@@ -2,7 +2,7 @@
 
 ghost use Rattle.std.specs.Prelude.{◌≡◌, ◌⊎◌, ◌+◌, ◌/◌, ◌<◌, ◌≤◌, ◌^◌, ℕ, List, Bool, true, false, IfOk, IfErr, IfSome, count_ones};
 ghost use Rattle.evacuate.specs.Prelude.{Branch, branch_node, Entry, node_of, Tree, is_sparse, is_mutable, reserve_account_of, Ready, Fenced};
-ghost use Rattle.evacuate.specs.Prelude.{IsWritable, Fork, Fills, Moves, IsFull, Stood, Hung, Hangs, IsStood, IsHung, Rearranged, TwigsAt};
+ghost use Rattle.evacuate.specs.Prelude.{IsWritable, Fork, Fills, Moves, IsFull, Stood, Hung, Hangs, IsStood, IsHung, CanRearrange, Rearranged, TwigsAt};
 
 use super::foothold::Foothold;
 use super::items::move_item;
@@ -31,8 +31,8 @@ fn lie_in(usage: &Usage, branch: Branch, chunk: u32) -> bool
 
 /// How a way on which twigs are made mutable goes on at a node: they stay where they may be written and don't lie in a chunk that is sparse.
 /// It ends at a leaf, where the path forks, and at an offset.
-#[inline]
-fn opened_at(usage: &Usage, node: Node, path: Path, chunk: u32, end: u16) -> Option<Passage>
+#[inline(always)]
+fn copied_at(usage: &Usage, node: Node, path: Path, chunk: u32, end: u16) -> Option<Passage>
     requires { (b : Branch) → node ≡ branch_node b → b.twigs + count_ones b.bitmap ≤ 2 ^ 22 }
     ensures branch { IfSome result (λ passage. node ≡ branch_node passage.descent.branch) }
     ensures index { IfSome result (λ passage. passage.descent.index < count_ones passage.descent.branch.bitmap) }
@@ -51,7 +51,7 @@ fn opened_at(usage: &Usage, node: Node, path: Path, chunk: u32, end: u16) -> Opt
 
 /// How a way on which a sparse chunk is emptied goes on at a node: twigs that lie in it are moved, and others stay where they may be written.
 /// Where they may not, the way ends, or they are moved where it goes on to an item. It ends at a leaf and where the path forks.
-#[inline]
+#[inline(always)]
 fn emptied_at(usage: &Usage, node: Node, path: Path, chunk: u32, to_item: bool) -> Option<Passage>
     requires { (b : Branch) → node ≡ branch_node b → b.twigs + count_ones b.bitmap ≤ 2 ^ 22 }
     ensures branch { IfSome result (λ passage. node ≡ branch_node passage.descent.branch) }
@@ -148,7 +148,7 @@ fn end_along<C: CellWrite>(
 
 /// Goes on down from a foothold along what the path says from there on, and makes the twigs of branches before an offset mutable; those that lie
 /// in a sparse chunk are moved in any case. Tells whether anything was moved. Where there is no room for that, what was moved before stays so.
-pub fn open_on<C: CellWrite>(
+pub fn copy_on<C: CellWrite>(
     cells: &mut C,
     usage: &mut Usage,
     root: Ref,
@@ -162,13 +162,12 @@ pub fn open_on<C: CellWrite>(
     requires ready { Ready C.kept C.given reserve_account_of cells.old usage.old }
     ensures rearranged { Rearranged C.has C.kept C.given root cells.old usage.old cells.new usage.new }
     ensures full { IfErr result (λ _. IsFull usage.new) }
-    ensures ready { Ready C.kept C.given reserve_account_of cells.new usage.new }
 {
     let mut on = from.on;
     let mut at = from.at;
     let mut node = from.node;
     let mut moved = false;
-    while let Some(passage) = opened_at(usage, node, on, chunk, end) {
+    while let Some(passage) = copied_at(usage, node, on, chunk, end) {
         at = pass(cells, usage, at, passage)?;
         moved = moved || !passage.stays;
         on = on.rest();
@@ -187,12 +186,9 @@ pub fn empty_along<C: CellWrite>(
     chunk: u32,
     to_item: bool,
 ) -> Result<bool, Full>
-    requires stood { IsStood C.has cells.old usage.old root }
-    requires writable { IsWritable C.given reserve_account_of cells.old usage.old root }
-    requires ready { Ready C.kept C.given reserve_account_of cells.old usage.old }
+    requires { CanRearrange C.has C.kept C.given root cells.old usage.old }
     ensures rearranged { Rearranged C.has C.kept C.given root cells.old usage.old cells.new usage.new }
     ensures full { IfErr result (λ _. IsFull usage.new) }
-    ensures ready { Ready C.kept C.given reserve_account_of cells.new usage.new }
 {
     let mut on = path;
     let mut at = root;

@@ -32,7 +32,7 @@ fn is_there(at: Ref, chunk: Option<u32>) -> bool
 }
 
 /// Moves the root's cell, unless it lies in the chunk that is filled on.
-pub fn open_root<C: CellWrite>(
+pub fn copy_root<C: CellWrite>(
     cells: &mut C,
     usage: &mut Usage,
     root: Ref,

@@ -32,7 +32,7 @@ fn branch_before(node: Node, place: u16) -> Option<Branch>
 }
 
 /// A twig of a branch that the cell at a place says: it may be written, since the twigs were moved if they might not.
-fn open_twig<C: CellWrite>(
+fn copy_twig<C: CellWrite>(
     cells: &mut C,
     usage: &mut Usage,
     at: Ref,
@@ -94,7 +94,7 @@ pub fn reach<C: CellWrite>(
     let mut node = Node::of(cells.cell(root));
     while let Some(branch) = branch_before(node, trail.end) {
         let index = trail.index_at(branch.offset);
-        at = open_twig(cells, usage, at, branch, index)?;
+        at = copy_twig(cells, usage, at, branch, index)?;
         node = Node::of(cells.cell(at));
     }
     Ok(Spot { at, node })

@@ -2,10 +2,10 @@
 
 ghost use Rattle.std.specs.Prelude.{◌≡◌, ◌+◌, ◌*◌, ◌-◌, ◌/◌, ◌<◌, ◌≤◌, ℕ, List, Bool, true, false, Some, length, slice_index};
 ghost use Rattle.evacuate.specs.Prelude.{filled_cells, Entry, cells_of, Tree, free_count, consumed, account_of};
-ghost use Rattle.evacuate.specs.Prelude.{reserve_account_of, Ready, Fenced, IsWritable, HasTrie, FillsNew, IsDense, IsCleared};
-ghost use Rattle.evacuate.specs.Prelude.{HasSparse, refused, Fills, IsFull, old_live, Stood, IsStood, Rearranged};
+ghost use Rattle.evacuate.specs.Prelude.{reserve_account_of, Ready, Fenced, HasTrie, FillsNew, IsDense, IsCleared};
+ghost use Rattle.evacuate.specs.Prelude.{HasSparse, refused, Fills, IsFull, old_live, Stood, IsStood, CanRearrange, Rearranged};
 
-use super::beginning::{begin, open_root};
+use super::beginning::{begin, copy_root};
 use super::descent::move_found;
 use super::listed::move_listed;
 use super::sparse::is_any_sparse;
@@ -79,7 +79,7 @@ fn empty_sparse<C: CellWrite>(cells: &mut C, usage: &mut Usage, root: Ref) -> (R
 {
     usage.known(); // for the proof
     let chunk = begin(usage);
-    let at = match open_root(cells, usage, root, chunk) {
+    let at = match copy_root(cells, usage, root, chunk) {
         Err(_) => return (root, Done::Stopped),
         Ok(at) => at,
     };
@@ -109,14 +109,11 @@ fn empty_sparse<C: CellWrite>(cells: &mut C, usage: &mut Usage, root: Ref) -> (R
 /// Moves what the lists of sparse chunks lead to. Tells how that ended, unless some is left: once the lists were made anew, that may be
 /// where they had no room for all.
 fn empty_listed<C: CellWrite>(cells: &mut C, usage: &mut Usage, root: Ref) -> Option<Done>
-    requires stood { IsStood C.has cells.old usage.old root }
-    requires writable { IsWritable C.given reserve_account_of cells.old usage.old root }
-    requires ready { Ready C.kept C.given reserve_account_of cells.old usage.old }
+    requires { CanRearrange C.has C.kept C.given root cells.old usage.old }
     ensures rearranged { Rearranged C.has C.kept C.given root cells.old usage.old cells.new usage.new }
     ensures whole { result ≡ Some Done.Whole → IsCleared usage.new }
     ensures full { result ≡ Some Done.Stopped → IsFull usage.new }
     ensures left { result ≡ Some Done.Stopped → (given : List Bool) → Fills given usage.old → HasSparse usage.new }
-    ensures ready { Ready C.kept C.given reserve_account_of cells.new usage.new }
 {
     match known_lists(cells, usage, root) {
         None => {
@@ -129,14 +126,11 @@ fn empty_listed<C: CellWrite>(cells: &mut C, usage: &mut Usage, root: Ref) -> Op
 
 /// The same with the lists that there are, unless they are known to lack something.
 fn known_lists<C: CellWrite>(cells: &mut C, usage: &mut Usage, root: Ref) -> Option<Done>
-    requires stood { IsStood C.has cells.old usage.old root }
-    requires writable { IsWritable C.given reserve_account_of cells.old usage.old root }
-    requires ready { Ready C.kept C.given reserve_account_of cells.old usage.old }
+    requires { CanRearrange C.has C.kept C.given root cells.old usage.old }
     ensures rearranged { Rearranged C.has C.kept C.given root cells.old usage.old cells.new usage.new }
     ensures whole { result ≡ Some Done.Whole → IsCleared usage.new }
     ensures full { result ≡ Some Done.Stopped → IsFull usage.new }
     ensures left { result ≡ Some Done.Stopped → (given : List Bool) → Fills given usage.old → HasSparse usage.new }
-    ensures ready { Ready C.kept C.given reserve_account_of cells.new usage.new }
 {
     if usage.is_any_lacking() {
         return None;
@@ -146,14 +140,11 @@ fn known_lists<C: CellWrite>(cells: &mut C, usage: &mut Usage, root: Ref) -> Opt
 
 /// The same with the lists that there are. What is moved away may leave further chunks sparse, so there are some rounds.
 fn try_lists<C: CellWrite>(cells: &mut C, usage: &mut Usage, root: Ref) -> Option<Done>
-    requires stood { IsStood C.has cells.old usage.old root }
-    requires writable { IsWritable C.given reserve_account_of cells.old usage.old root }
-    requires ready { Ready C.kept C.given reserve_account_of cells.old usage.old }
+    requires { CanRearrange C.has C.kept C.given root cells.old usage.old }
     ensures rearranged { Rearranged C.has C.kept C.given root cells.old usage.old cells.new usage.new }
     ensures whole { result ≡ Some Done.Whole → IsCleared usage.new }
     ensures full { result ≡ Some Done.Stopped → IsFull usage.new }
     ensures left { result ≡ Some Done.Stopped → (given : List Bool) → Fills given usage.old → HasSparse usage.new }
-    ensures ready { Ready C.kept C.given reserve_account_of cells.new usage.new }
 {
     for _ in 0..ROUNDS {
         let moved = move_listed(cells, usage, root);

@@ -1,7 +1,7 @@
 //! How far a path can be gone down before anything has to be moved.
 
 ghost use Rattle.std.specs.Prelude.{◌≡◌, ◌+◌, ◌^◌, ◌<◌, ◌≤◌, true, IfSome, count_ones};
-ghost use Rattle.evacuate.specs.Prelude.{Branch, branch_node, is_mutable, reserve_account_of, Ready, IsWritable, Hangs, IsStood};
+ghost use Rattle.evacuate.specs.Prelude.{Branch, branch_node, is_mutable, reserve_account_of, IsWritable, Hangs, CanRearrange};
 
 use super::path_walk::{Descent, descent_on};
 use chunk_cells::CellWrite;
@@ -42,9 +42,7 @@ pub fn descend<C: CellWrite>(
     path: Path,
     chunk: u32,
 ) -> Foothold
-    requires stood { IsStood C.has cells.old usage.now root }
-    requires writable { IsWritable C.given reserve_account_of cells.old usage.now root }
-    requires ready { Ready C.kept C.given reserve_account_of cells.old usage.now }
+    requires { CanRearrange C.has C.kept C.given root cells.old usage.now }
     ensures same { cells.new ≡ cells.old }
     ensures hangs { Hangs C.has cells.old usage.now root result.at result.node }
     ensures writable { IsWritable C.given reserve_account_of cells.old usage.now result.at }

@@ -1,7 +1,7 @@
 //! What lies in sparse chunks along a path that forks: at a branch of which it says no twig it goes on to all.
 
 ghost use Rattle.std.specs.Prelude.{◌≡◌, ◌<◌, ◌≤◌, ℕ, true, IfErr, count_ones, slice_index};
-ghost use Rattle.evacuate.specs.Prelude.{Tree, reserve_account_of, IsTop, Ready, IsWritable, IsFull, IsStood, Rearranged, Found};
+ghost use Rattle.evacuate.specs.Prelude.{Tree, IsTop, IsFull, CanRearrange, Rearranged, Found};
 
 use super::descent::{move_found, reach};
 use super::path_walk::{descent_on, position_from};
@@ -154,18 +154,15 @@ fn last_sparse<C: CellRead>(
 }
 
 /// Makes the twigs mutable that are above the last on a path that lies in a sparse chunk. Tells whether there is one.
-pub fn open_forked<C: CellWrite>(
+pub fn copy_forked<C: CellWrite>(
     cells: &mut C,
     usage: &mut Usage,
     root: Ref,
     path: Path,
 ) -> Result<bool, Full>
-    requires stood { IsStood C.has cells.old usage.old root }
-    requires writable { IsWritable C.given reserve_account_of cells.old usage.old root }
-    requires ready { Ready C.kept C.given reserve_account_of cells.old usage.old }
+    requires { CanRearrange C.has C.kept C.given root cells.old usage.old }
     ensures rearranged { Rearranged C.has C.kept C.given root cells.old usage.old cells.new usage.new }
     ensures full { IfErr result (λ _. IsFull usage.new) }
-    ensures ready { Ready C.kept C.given reserve_account_of cells.new usage.new }
 {
     let mut trail = Trail::new();
     let mut leaf = path;
@@ -185,12 +182,9 @@ pub fn move_forked<C: CellWrite>(
     root: Ref,
     path: Path,
 ) -> Result<(), Full>
-    requires stood { IsStood C.has cells.old usage.old root }
-    requires writable { IsWritable C.given reserve_account_of cells.old usage.old root }
-    requires ready { Ready C.kept C.given reserve_account_of cells.old usage.old }
+    requires { CanRearrange C.has C.kept C.given root cells.old usage.old }
     ensures rearranged { Rearranged C.has C.kept C.given root cells.old usage.old cells.new usage.new }
     ensures full { IfErr result (λ _. IsFull usage.new) }
-    ensures ready { Ready C.kept C.given reserve_account_of cells.new usage.new }
 {
     let mut trail = Trail::new();
     let mut leaf = path;

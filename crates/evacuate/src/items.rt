@@ -4,7 +4,7 @@
 ghost use Rattle.std.specs.Prelude.{◌≡◌, ◌⊎◌, ◌+◌, ◌-◌, ◌/◌, ◌^◌, ◌<◌, ◌≤◌, ℕ, List, Bool, true, false, IfOk, IfErr};
 ghost use Rattle.evacuate.specs.Prelude.{leaf_node, Extents, first_of_extents, Entry, node_of, Tree, is_sparse, is_mutable};
 ghost use Rattle.evacuate.specs.Prelude.{reserve_account_of, Ready, Fenced, IsWritable, Fork, Goes, GoesOn, GoesSparse, HasSparse};
-ghost use Rattle.evacuate.specs.Prelude.{Fills, Moves, Fewer, Opened, IsFull, moved, put_first, Stood, Hung, IsHung, IsDue};
+ghost use Rattle.evacuate.specs.Prelude.{Fills, Moves, Fewer, MovedIfDue, IsFull, moved, put_first, Stood, Hung, IsHung, IsDue};
 
 use super::moves::{move_linked, move_node};
 use super::sparse::is_item_sparse;
@@ -31,7 +31,7 @@ fn is_due(usage: &Usage, at: Ref, len: u16) -> bool
 }
 
 /// Moves the first extent of a leaf's item, which the cell at a place says, if that is due, and tells where it is.
-fn open_first<C: CellWrite>(
+fn move_first<C: CellWrite>(
     cells: &mut C,
     usage: &mut Usage,
     at: Ref,
@@ -44,7 +44,7 @@ fn open_first<C: CellWrite>(
         → Hung C.has cells.new usage.new r at es way (moved t to)) }
     ensures writable { IfOk result (λ to. 4096 < leaf.len → IsWritable C.given reserve_account_of cells.new usage.new (to + 255)) }
     ensures moves { (given : List Bool) → Fills given usage.old → Moves given 0 usage.old usage.new }
-    ensures opened { IfOk result (λ _. Opened usage.old usage.new leaf.at) }
+    ensures if_due { IfOk result (λ _. MovedIfDue usage.old usage.new leaf.at) }
     ensures full { IfErr result (λ _. IsFull usage.new) }
     ensures same { IfErr result (λ _. cells.new ≡ cells.old) }
     ensures unchanged { IfErr result (λ _. usage.new ≡ usage.old) }
@@ -59,7 +59,7 @@ fn open_first<C: CellWrite>(
 }
 
 /// The same of the extent behind one that begins here, whose item has so many octets from there on.
-fn open_next<C: CellWrite>(cells: &mut C, usage: &mut Usage, at: Ref, len: u16) -> Result<Ref, Full>
+fn move_next<C: CellWrite>(cells: &mut C, usage: &mut Usage, at: Ref, len: u16) -> Result<Ref, Full>
     requires goes { GoesOn C.has cells.old usage.old at len }
     requires writable { IsWritable C.given reserve_account_of cells.old usage.old (at + 255) }
     requires ready { Ready C.kept C.given reserve_account_of cells.old usage.old }
@@ -67,8 +67,8 @@ fn open_next<C: CellWrite>(cells: &mut C, usage: &mut Usage, at: Ref, len: u16) 
         → Goes C.has cells.new usage.new r at len es way e front (put_first rest to)) }
     ensures writable { IfOk result (λ to. 4096 < len - 4080 → IsWritable C.given reserve_account_of cells.new usage.new (to + 255)) }
     ensures moves { (given : List Bool) → Fills given usage.old → Moves given 0 usage.old usage.new }
-    ensures opened { IfOk result (λ _. (r : ℕ) (es : List Entry) (way : List Fork) (e : Entry) (front : List ℕ) (rest : Extents) → Goes C.has cells.old usage.old r at len es way e front rest
-        → Opened usage.old usage.new (first_of_extents rest)) }
+    ensures if_due { IfOk result (λ _. (r : ℕ) (es : List Entry) (way : List Fork) (e : Entry) (front : List ℕ) (rest : Extents) → Goes C.has cells.old usage.old r at len es way e front rest
+        → MovedIfDue usage.old usage.new (first_of_extents rest)) }
     ensures full { IfErr result (λ _. IsFull usage.new) }
     ensures same { IfErr result (λ _. cells.new ≡ cells.old) }
     ensures unchanged { IfErr result (λ _. usage.new ≡ usage.old) }
@@ -108,7 +108,7 @@ fn move_behind<C: CellWrite>(
     if !is_item_sparse(cells, usage, next, behind) {
         return Ok(());
     }
-    let to = open_next(cells, usage, at, len)?;
+    let to = move_next(cells, usage, at, len)?;
     if behind as usize > LAST_OCTETS {
         return move_behind(cells, usage, to, behind);
     }
@@ -134,7 +134,7 @@ pub fn move_item<C: CellWrite>(
     ensures frame { Fenced C.has C.kept C.given reserve_account_of cells.old usage.old cells.new usage.new }
     ensures ready { Ready C.kept C.given reserve_account_of cells.new usage.new }
 {
-    let to = open_first(cells, usage, at, leaf)?;
+    let to = move_first(cells, usage, at, leaf)?;
     if leaf.len as usize > LAST_OCTETS {
         return move_behind(cells, usage, to, leaf.len);
     }

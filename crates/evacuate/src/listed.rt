@@ -1,11 +1,11 @@
 //! What lies in sparse chunks, found along the paths that these were written on, and moved.
 
 ghost use Rattle.std.specs.Prelude.{◌≡◌, IfErr};
-ghost use Rattle.evacuate.specs.Prelude.{reserve_account_of, Ready, IsWritable, IsFull, IsStood, Rearranged};
+ghost use Rattle.evacuate.specs.Prelude.{IsFull, CanRearrange, Rearranged};
 
-use super::along::{empty_along, open_on};
+use super::along::{copy_on, empty_along};
 use super::foothold::descend;
-use super::forks::{move_forked, open_forked};
+use super::forks::{copy_forked, move_forked};
 use super::marks::{Listing, Mark, Marks};
 use super::path_walk::{Last, Rest, last_along};
 use chunk_cells::CellWrite;
@@ -35,12 +35,9 @@ fn move_along<C: CellWrite>(
     to_item: bool,
     noted: Option<u32>,
 ) -> Result<(), Full>
-    requires stood { IsStood C.has cells.old usage.old root }
-    requires writable { IsWritable C.given reserve_account_of cells.old usage.old root }
-    requires ready { Ready C.kept C.given reserve_account_of cells.old usage.old }
+    requires { CanRearrange C.has C.kept C.given root cells.old usage.old }
     ensures rearranged { Rearranged C.has C.kept C.given root cells.old usage.old cells.new usage.new }
     ensures full { IfErr result (λ _. IsFull usage.new) }
-    ensures ready { Ready C.kept C.given reserve_account_of cells.new usage.new }
 {
     let moved = empty_along(cells, usage, root, path, chunk, to_item)?;
     if moved && noted != Some(usage.free()) {
@@ -62,32 +59,29 @@ fn mark_of(noted: bool, rest: Rest) -> Option<Mark> {
 
 /// Makes twigs mutable that are above the last on a path that lies in a chunk, and the bump chunk lists the path if any was moved for that.
 /// Tells what is left there then.
-fn open_along<C: CellWrite>(
+fn copy_along<C: CellWrite>(
     cells: &mut C,
     usage: &mut Usage,
     root: Ref,
     chunk: u32,
     path: Path,
 ) -> Result<Option<Mark>, Full>
-    requires stood { IsStood C.has cells.old usage.old root }
-    requires writable { IsWritable C.given reserve_account_of cells.old usage.old root }
-    requires ready { Ready C.kept C.given reserve_account_of cells.old usage.old }
+    requires { CanRearrange C.has C.kept C.given root cells.old usage.old }
     ensures rearranged { Rearranged C.has C.kept C.given root cells.old usage.old cells.new usage.new }
     ensures full { IfErr result (λ _. IsFull usage.new) }
-    ensures ready { Ready C.kept C.given reserve_account_of cells.new usage.new }
 {
     let from = descend(cells, usage, root, path, chunk);
     match last_along(cells, chunk, from.node, from.on) {
         Last::None => Ok(None),
         Last::Below { end, rest } => {
-            let noted = open_on(cells, usage, root, from, chunk, end)?;
+            let noted = copy_on(cells, usage, root, from, chunk, end)?;
             if noted {
                 usage.note(path);
             }
             Ok(mark_of(noted, rest))
         }
         Last::Forks => {
-            let found = open_forked(cells, usage, root, path)?;
+            let found = copy_forked(cells, usage, root, path)?;
             Ok(if found { Some(Mark::Forked) } else { None })
         }
     }
@@ -102,16 +96,13 @@ fn step_along<C: CellWrite>(
     marks: &mut Marks,
     listing: Listing,
 ) -> Result<(), Full>
-    requires stood { IsStood C.has cells.old usage.old root }
-    requires writable { IsWritable C.given reserve_account_of cells.old usage.old root }
-    requires ready { Ready C.kept C.given reserve_account_of cells.old usage.old }
+    requires { CanRearrange C.has C.kept C.given root cells.old usage.old }
     ensures rearranged { Rearranged C.has C.kept C.given root cells.old usage.old cells.new usage.new }
     ensures full { IfErr result (λ _. IsFull usage.new) }
-    ensures ready { Ready C.kept C.given reserve_account_of cells.new usage.new }
 {
     if step == Step::Copy {
         let path = usage.path(listing.chunk, listing.place);
-        if let Some(mark) = open_along(cells, usage, root, listing.chunk, path)? {
+        if let Some(mark) = copy_along(cells, usage, root, listing.chunk, path)? {
             marks.put(listing, mark);
         }
         return Ok(());
@@ -138,12 +129,9 @@ fn step_in_chunk<C: CellWrite>(
     step: Step,
     marks: &mut Marks,
 ) -> Result<(), Full>
-    requires stood { IsStood C.has cells.old usage.old root }
-    requires writable { IsWritable C.given reserve_account_of cells.old usage.old root }
-    requires ready { Ready C.kept C.given reserve_account_of cells.old usage.old }
+    requires { CanRearrange C.has C.kept C.given root cells.old usage.old }
     ensures rearranged { Rearranged C.has C.kept C.given root cells.old usage.old cells.new usage.new }
     ensures full { IfErr result (λ _. IsFull usage.new) }
-    ensures ready { Ready C.kept C.given reserve_account_of cells.new usage.new }
 {
     if step == Step::Copy && !marks.begin(chunk) {
         return Ok(());
@@ -166,12 +154,9 @@ fn step_in_all<C: CellWrite>(
     step: Step,
     marks: &mut Marks,
 ) -> Result<(), Full>
-    requires stood { IsStood C.has cells.old usage.old root }
-    requires writable { IsWritable C.given reserve_account_of cells.old usage.old root }
-    requires ready { Ready C.kept C.given reserve_account_of cells.old usage.old }
+    requires { CanRearrange C.has C.kept C.given root cells.old usage.old }
     ensures rearranged { Rearranged C.has C.kept C.given root cells.old usage.old cells.new usage.new }
     ensures full { IfErr result (λ _. IsFull usage.new) }
-    ensures ready { Ready C.kept C.given reserve_account_of cells.new usage.new }
 {
     let mut from = 0;
     while let Some(chunk) = usage.sparse_from(from) {
@@ -184,18 +169,15 @@ fn step_in_all<C: CellWrite>(
 
 /// Makes twigs mutable above what the lists of sparse chunks lead to. What is moved away may leave further chunks sparse, whose lists are gone
 /// along too before anything else is moved: so what changes often doesn't come to lie behind what doesn't.
-fn open_all<C: CellWrite>(
+fn copy_all<C: CellWrite>(
     cells: &mut C,
     usage: &mut Usage,
     root: Ref,
     marks: &mut Marks,
 ) -> Result<(), Full>
-    requires stood { IsStood C.has cells.old usage.old root }
-    requires writable { IsWritable C.given reserve_account_of cells.old usage.old root }
-    requires ready { Ready C.kept C.given reserve_account_of cells.old usage.old }
+    requires { CanRearrange C.has C.kept C.given root cells.old usage.old }
     ensures rearranged { Rearranged C.has C.kept C.given root cells.old usage.old cells.new usage.new }
     ensures full { IfErr result (λ _. IsFull usage.new) }
-    ensures ready { Ready C.kept C.given reserve_account_of cells.new usage.new }
 {
     for _ in 0..ROUNDS {
         let sparse = usage.sparse();
@@ -209,14 +191,11 @@ fn open_all<C: CellWrite>(
 
 /// Moves what the lists of sparse chunks lead to. What lies above it is made mutable first, for all of them.
 pub fn move_listed<C: CellWrite>(cells: &mut C, usage: &mut Usage, root: Ref) -> Result<(), Full>
-    requires stood { IsStood C.has cells.old usage.old root }
-    requires writable { IsWritable C.given reserve_account_of cells.old usage.old root }
-    requires ready { Ready C.kept C.given reserve_account_of cells.old usage.old }
+    requires { CanRearrange C.has C.kept C.given root cells.old usage.old }
     ensures rearranged { Rearranged C.has C.kept C.given root cells.old usage.old cells.new usage.new }
     ensures full { IfErr result (λ _. IsFull usage.new) }
-    ensures ready { Ready C.kept C.given reserve_account_of cells.new usage.new }
 {
     let mut marks = Marks::new(usage.free());
-    open_all(cells, usage, root, &mut marks)?;
+    copy_all(cells, usage, root, &mut marks)?;
     step_in_all(cells, usage, root, Step::Move, &mut marks)
 }

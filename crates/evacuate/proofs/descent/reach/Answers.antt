@@ -30,11 +30,11 @@ index_at-index-requires g c =
     let u = c.loop-branch.invariant.way _ _ c.requires.found.stood c.requires.found.found in
     early u c.in-Some.branch c.in-Some.ensures.branch c.in-Some.ensures.before
 
-pub open_twig-requires-clause-hung : goal.open_twig-requires-clause-hung
-open_twig-requires-clause-hung g c = underway_hung (c.loop-branch.invariant.way _ _ c.requires.found.stood c.requires.found.found) c.in-Some.ensures.branch
+pub copy_twig-requires-clause-hung : goal.copy_twig-requires-clause-hung
+copy_twig-requires-clause-hung g c = underway_hung (c.loop-branch.invariant.way _ _ c.requires.found.stood c.requires.found.found) c.in-Some.ensures.branch
 
-pub open_twig-requires-clause-index : goal.open_twig-requires-clause-index
-open_twig-requires-clause-index g c =
+pub copy_twig-requires-clause-index : goal.copy_twig-requires-clause-index
+copy_twig-requires-clause-index g c =
     let u = c.loop-branch.invariant.way _ _ c.requires.found.stood c.requires.found.found in
     let l = index_inside u c.in-Some.branch c.in-Some.ensures.branch c.in-Some.ensures.before in
     let e = c.index_at-index.ensures in omega arith
@@ -79,9 +79,9 @@ loop-branch-preserved g c = record {
       let b = c.in-Some.branch in
       let w = c.in_ok-at.ensures.hung c.args.root es u.upper (plug u.rest u.end) u.hung (branch_node_is u b c.in-Some.ensures.branch c.in-Some.ensures.before) in
       underway_further u b c.in-Some.ensures.branch c.in-Some.ensures.before c.index_at-index.ensures w c.cell-in-Some.ensures.same (c.cell-in-Some.ensures.value _ (further_there u b c.in-Some.ensures.branch c.in-Some.ensures.before c.index_at-index.ensures w)) c.of-node-in-Some.ensures.back;
-  writable = subst (λ s. IsWritable g.C.CellWrite.given reserve_account_of s c.open_twig.new.usage c.in_ok-at.at) (sym c.cell-in-Some.ensures.same) c.in_ok-at.ensures.writable;
+  writable = subst (λ s. IsWritable g.C.CellWrite.given reserve_account_of s c.copy_twig.new.usage c.in_ok-at.at) (sym c.cell-in-Some.ensures.same) c.in_ok-at.ensures.writable;
   moves = λ given fills. let m = c.loop-branch.invariant.moves given fills in moves_then m (c.in_ok-at.ensures.moves given m.fills);
-  frame = subst (λ s. Fenced g.C.CellRead.has g.C.CellWrite.kept g.C.CellWrite.given reserve_account_of c.args.cells.now c.args.usage.now s c.open_twig.new.usage) (sym c.cell-in-Some.ensures.same) (fenced_then c.loop-branch.invariant.frame c.in_ok-at.ensures.frame);
+  frame = subst (λ s. Fenced g.C.CellRead.has g.C.CellWrite.kept g.C.CellWrite.given reserve_account_of c.args.cells.now c.args.usage.now s c.copy_twig.new.usage) (sym c.cell-in-Some.ensures.same) (fenced_then c.loop-branch.invariant.frame c.in_ok-at.ensures.frame);
   ready = ready_put c.in_ok-at.ensures.ready (ap g.C.CellWrite.given c.cell-in-Some.ensures.same) (ap g.C.CellWrite.kept c.cell-in-Some.ensures.same);
 }
 

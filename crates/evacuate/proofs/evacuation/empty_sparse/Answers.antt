@@ -10,11 +10,10 @@ use Rattle.std.specs.Prelude.{Option, Some}
 use Rattle.evacuate.specs.declared.evacuation.Done.{Done}
 use Rattle.evacuate.specs.Evacuations.{FillsNew, HasSparse}
 use Rattle.evacuate.specs.Fillings.{Moves, begun, filled_on, is_old, old_chunks, old_live}
-use Rattle.evacuate.proofs.BeginLaws.{begun_consumed, fenced_begun, fills_count, fills_new, fills_there, left_begun, nothing_moved, opened, opened_then, ready_begun, stood_begun}
+use Rattle.evacuate.proofs.BeginLaws.{begun_consumed, fenced_begun, fills_count, fills_new, fills_there, left_begun, nothing_moved, root_copied, copied_then, ready_begun, stood_begun}
 use Rattle.evacuate.proofs.DescentLaws.{stood_same}
 use Rattle.evacuate.proofs.EndLaws.{all_cleared, node_top}
 use Rattle.evacuate.proofs.FillingLaws.{moves_then}
-use Rattle.evacuate.proofs.RearrangeLaws.{writable_after}
 use Rattle.evacuate.proofs.evacuation.empty_sparse.Goals.{then-resumed, else-resumed}
 use Rattle.evacuate.proofs.evacuation.empty_sparse.Goals as goal
 
@@ -31,14 +30,14 @@ since l new filled_on m = record {
   paid = let p = m.paid in let s = begun_consumed l filled_on in omega arith;
 }
 
-pub open_root-requires-clause-stood : goal.open_root-requires-clause-stood
-open_root-requires-clause-stood g c = let h = c.requires.stood in record { es = h.es; t = h.t; stood = stood_begun c.begin-chunk.result c.begin-chunk.ensures.after c.begin-chunk.ensures.grows h.stood }
+pub copy_root-requires-clause-stood : goal.copy_root-requires-clause-stood
+copy_root-requires-clause-stood g c = let h = c.requires.stood in record { es = h.es; t = h.t; stood = stood_begun c.begin-chunk.result c.begin-chunk.ensures.after c.begin-chunk.ensures.grows h.stood }
 
-pub open_root-requires-clause-fills : goal.open_root-requires-clause-fills
-open_root-requires-clause-fills g c = fills_there c.args.usage.now _ c.begin-chunk.result c.known.ensures c.begin-chunk.ensures.unmixed c.begin-chunk.ensures.after
+pub copy_root-requires-clause-fills : goal.copy_root-requires-clause-fills
+copy_root-requires-clause-fills g c = fills_there c.args.usage.now _ c.begin-chunk.result c.known.ensures c.begin-chunk.ensures.unmixed c.begin-chunk.ensures.after
 
-pub open_root-requires-clause-ready : goal.open_root-requires-clause-ready
-open_root-requires-clause-ready g c = ready_begun g.C.CellRead.has g.C.CellWrite.kept g.C.CellWrite.given c.begin-chunk.result c.begin-chunk.ensures.after c.begin-chunk.ensures.grows c.requires.ready
+pub copy_root-requires-clause-ready : goal.copy_root-requires-clause-ready
+copy_root-requires-clause-ready g c = ready_begun g.C.CellRead.has g.C.CellWrite.kept g.C.CellWrite.given c.begin-chunk.result c.begin-chunk.ensures.after c.begin-chunk.ensures.grows c.requires.ready
 
 pub returns-in-Err-clause-stood : goal.returns-in-Err-clause-stood
 returns-in-Err-clause-stood g c es t h = (t, stood_same c.in-Err.ensures.same c.in-Err.ensures.unchanged (stood_begun c.begin-chunk.result c.begin-chunk.ensures.after c.begin-chunk.ensures.grows h))
@@ -53,42 +52,47 @@ pub returns-in-Err-clause-paid : goal.returns-in-Err-clause-paid
 returns-in-Err-clause-paid g c = (since c.args.usage.now _ c.begin-chunk.result (nothing_moved c.args.usage.now _ _ c.begin-chunk.result c.known.ensures c.begin-chunk.ensures.unmixed c.begin-chunk.ensures.after c.in-Err.ensures.unchanged)).paid
 
 pub returns-in-Err-clause-frame : goal.returns-in-Err-clause-frame
-returns-in-Err-clause-frame g c = fenced_then (fenced_begun g.C.CellRead.has g.C.CellWrite.kept g.C.CellWrite.given c.begin-chunk.result c.begin-chunk.ensures.after c.begin-chunk.ensures.grows) c.open_root.ensures.frame
+returns-in-Err-clause-frame g c = fenced_then (fenced_begun g.C.CellRead.has g.C.CellWrite.kept g.C.CellWrite.given c.begin-chunk.result c.begin-chunk.ensures.after c.begin-chunk.ensures.grows) c.copy_root.ensures.frame
 
 pub returns-in-Err-clause-left : goal.returns-in-Err-clause-left
 returns-in-Err-clause-left g c e = subst HasSparse (sym (c.in-Err.ensures.unchanged ∙ c.begin-chunk.ensures.after)) (left_begun c.args.usage.now c.begin-chunk.result c.requires.sparse)
 
-pub empty_listed-requires-clause-stood : goal.empty_listed-requires-clause-stood
-empty_listed-requires-clause-stood g c =
-    let h = c.requires.stood in record { es = h.es; t = h.t; stood = c.in-Ok.ensures.stood h.es h.t (stood_begun c.begin-chunk.result c.begin-chunk.ensures.after c.begin-chunk.ensures.grows h.stood) }
+pub empty_listed-requires : goal.empty_listed-requires
+empty_listed-requires g c =
+    let h = c.requires.stood in
+    record {
+      stands = record { es = h.es; t = h.t; stood = c.in-Ok.ensures.stood h.es h.t (stood_begun c.begin-chunk.result c.begin-chunk.ensures.after c.begin-chunk.ensures.grows h.stood) };
+      writable = c.in-Ok.ensures.writable;
+      ready = c.copy_root.ensures.ready;
+    }
 
 pub returns-in-Some-clause-stood : goal.returns-in-Some-clause-stood
 returns-in-Some-clause-stood g c es t h = c.empty_listed.ensures.rearranged.stood es t (c.in-Ok.ensures.stood es t (stood_begun c.begin-chunk.result c.begin-chunk.ensures.after c.begin-chunk.ensures.grows h))
 
 pub returns-in-Some-clause-fills : goal.returns-in-Some-clause-fills
-returns-in-Some-clause-fills g c = (since c.args.usage.now _ c.begin-chunk.result (opened_then (opened c.args.usage.now _ _ c.begin-chunk.result c.in-Ok.at c.begin-chunk.ensures.after c.in-Ok.ensures.moves c.in-Ok.ensures.elsewhere) c.empty_listed.ensures.rearranged.moves)).fills
+returns-in-Some-clause-fills g c = (since c.args.usage.now _ c.begin-chunk.result (copied_then (root_copied c.args.usage.now _ _ c.begin-chunk.result c.in-Ok.at c.begin-chunk.ensures.after c.in-Ok.ensures.moves c.in-Ok.ensures.elsewhere) c.empty_listed.ensures.rearranged.moves)).fills
 
 pub returns-in-Some-clause-count : goal.returns-in-Some-clause-count
-returns-in-Some-clause-count g c = (since c.args.usage.now _ c.begin-chunk.result (opened_then (opened c.args.usage.now _ _ c.begin-chunk.result c.in-Ok.at c.begin-chunk.ensures.after c.in-Ok.ensures.moves c.in-Ok.ensures.elsewhere) c.empty_listed.ensures.rearranged.moves)).count
+returns-in-Some-clause-count g c = (since c.args.usage.now _ c.begin-chunk.result (copied_then (root_copied c.args.usage.now _ _ c.begin-chunk.result c.in-Ok.at c.begin-chunk.ensures.after c.in-Ok.ensures.moves c.in-Ok.ensures.elsewhere) c.empty_listed.ensures.rearranged.moves)).count
 
 pub returns-in-Some-clause-paid : goal.returns-in-Some-clause-paid
-returns-in-Some-clause-paid g c = (since c.args.usage.now _ c.begin-chunk.result (opened_then (opened c.args.usage.now _ _ c.begin-chunk.result c.in-Ok.at c.begin-chunk.ensures.after c.in-Ok.ensures.moves c.in-Ok.ensures.elsewhere) c.empty_listed.ensures.rearranged.moves)).paid
+returns-in-Some-clause-paid g c = (since c.args.usage.now _ c.begin-chunk.result (copied_then (root_copied c.args.usage.now _ _ c.begin-chunk.result c.in-Ok.at c.begin-chunk.ensures.after c.in-Ok.ensures.moves c.in-Ok.ensures.elsewhere) c.empty_listed.ensures.rearranged.moves)).paid
 
 pub returns-in-Some-clause-frame : goal.returns-in-Some-clause-frame
 returns-in-Some-clause-frame g c =
     fenced_then (fenced_then (fenced_begun g.C.CellRead.has g.C.CellWrite.kept g.C.CellWrite.given c.begin-chunk.result c.begin-chunk.ensures.after c.begin-chunk.ensures.grows) c.in-Ok.ensures.frame) c.empty_listed.ensures.rearranged.frame
 
 pub returns-in-Some-clause-left : goal.returns-in-Some-clause-left
-returns-in-Some-clause-left g c e = c.empty_listed.ensures.left (c.in-Some.is ∙ ap (λ (d : Done). Some d) e) (old_chunks c.args.usage.now.given c.begin-chunk.result) (opened c.args.usage.now _ _ c.begin-chunk.result c.in-Ok.at c.begin-chunk.ensures.after c.in-Ok.ensures.moves c.in-Ok.ensures.elsewhere).moves.fills
+returns-in-Some-clause-left g c e = c.empty_listed.ensures.left (c.in-Some.is ∙ ap (λ (d : Done). Some d) e) (old_chunks c.args.usage.now.given c.begin-chunk.result) (root_copied c.args.usage.now _ _ c.begin-chunk.result c.in-Ok.at c.begin-chunk.ensures.after c.in-Ok.ensures.moves c.in-Ok.ensures.elsewhere).moves.fills
 
 pub passes-init : goal.passes-init
 passes-init g c = record {
   stood = λ es t h. c.empty_listed.ensures.rearranged.stood es t (c.in-Ok.ensures.stood es t (stood_begun c.begin-chunk.result c.begin-chunk.ensures.after c.begin-chunk.ensures.grows h));
-  moves = subst (λ f. Moves (old_chunks c.args.usage.now.given f) 0 (begun c.args.usage.now f) c.empty_listed.new.usage) c.begin-chunk.ensures.value (opened_then (opened c.args.usage.now _ _ c.begin-chunk.result c.in-Ok.at c.begin-chunk.ensures.after c.in-Ok.ensures.moves c.in-Ok.ensures.elsewhere) c.empty_listed.ensures.rearranged.moves);
-  elsewhere = subst (λ f. is_old (old_chunks c.args.usage.now.given f) c.in-Ok.at ≡ false) c.begin-chunk.ensures.value (opened c.args.usage.now _ _ c.begin-chunk.result c.in-Ok.at c.begin-chunk.ensures.after c.in-Ok.ensures.moves c.in-Ok.ensures.elsewhere).elsewhere;
-  writable = writable_after c.empty_listed.ensures.rearranged c.in-Ok.ensures.writable;
+  moves = subst (λ f. Moves (old_chunks c.args.usage.now.given f) 0 (begun c.args.usage.now f) c.empty_listed.new.usage) c.begin-chunk.ensures.value (copied_then (root_copied c.args.usage.now _ _ c.begin-chunk.result c.in-Ok.at c.begin-chunk.ensures.after c.in-Ok.ensures.moves c.in-Ok.ensures.elsewhere) c.empty_listed.ensures.rearranged.moves);
+  elsewhere = subst (λ f. is_old (old_chunks c.args.usage.now.given f) c.in-Ok.at ≡ false) c.begin-chunk.ensures.value (root_copied c.args.usage.now _ _ c.begin-chunk.result c.in-Ok.at c.begin-chunk.ensures.after c.in-Ok.ensures.moves c.in-Ok.ensures.elsewhere).elsewhere;
+  writable = let moved = c.empty_listed.ensures.rearranged in writable_later c.in-Ok.ensures.writable moved.frame.grows moved.frame.given_stays;
   frame = fenced_then (fenced_then (fenced_begun g.C.CellRead.has g.C.CellWrite.kept g.C.CellWrite.given c.begin-chunk.result c.begin-chunk.ensures.after c.begin-chunk.ensures.grows) c.in-Ok.ensures.frame) c.empty_listed.ensures.rearranged.frame;
-  ready = c.empty_listed.ensures.ready;
+  ready = c.empty_listed.ensures.rearranged.ready;
 }
 
 pub cell-node-requires : goal.cell-node-requires

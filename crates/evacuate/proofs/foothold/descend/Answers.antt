@@ -10,7 +10,7 @@ use Rattle.evacuate.proofs.TreeLaws.{hung_cells}
 use Rattle.evacuate.proofs.foothold.descend.Goals as goal
 
 pub of-node-requires : goal.of-node-requires
-of-node-requires g c = let h = begins c.requires.stood.stood in hung_says h (c.cell.ensures.value _ (hung_there h))
+of-node-requires g c = let h = begins c.requires.stands.stood in hung_says h (c.cell.ensures.value _ (hung_there h))
 
 pub loop-descent-init : goal.loop-descent-init
 loop-descent-init g c = record {
@@ -20,29 +20,29 @@ loop-descent-init g c = record {
 }
 
 pub mutable_descent-requires : goal.mutable_descent-requires
-mutable_descent-requires g c b is = inside_in (c.loop-descent.invariant.hangs _ _ c.requires.stood.stood) b is
+mutable_descent-requires g c b is = inside_in (c.loop-descent.invariant.hangs _ _ c.requires.stands.stood) b is
 
 pub overflow_add-at : goal.overflow_add-at
 overflow_add-at g c =
-    let u = c.loop-descent.invariant.hangs _ _ c.requires.stood.stood in
+    let u = c.loop-descent.invariant.hangs _ _ c.requires.stands.stood in
     let i = inside_in u c.in-Some.descent.branch c.in-Some.ensures.branch in let l = c.in-Some.ensures.index in
     Fits-lt {n = 4194304} (omega arith) (Fits-lit tt)
 
 pub cell-requires-in-Some : goal.cell-requires-in-Some
 cell-requires-in-Some g c =
-    let u = c.loop-descent.invariant.hangs _ _ c.requires.stood.stood in
+    let u = c.loop-descent.invariant.hangs _ _ c.requires.stands.stood in
     record { there = (_, read_there u c.in-Some.descent.branch c.in-Some.ensures.branch c.in-Some.descent.index c.in-Some.ensures.index c.loop-descent.invariant.same) }
 
 pub of-node-requires-in-Some : goal.of-node-requires-in-Some
 of-node-requires-in-Some g c =
-    let u = c.loop-descent.invariant.hangs _ _ c.requires.stood.stood in
+    let u = c.loop-descent.invariant.hangs _ _ c.requires.stands.stood in
     let b = c.in-Some.descent.branch in let is = c.in-Some.ensures.branch in let i = c.in-Some.descent.index in let l = c.in-Some.ensures.index in
     let w = twigs_there u b is i l in
     says_in u b is i l w (c.cell-in-Some.ensures.value _ (read_there u b is i l c.loop-descent.invariant.same))
 
 pub loop-descent-smaller : goal.loop-descent-smaller
 loop-descent-smaller g c =
-    let u = c.loop-descent.invariant.hangs _ _ c.requires.stood.stood in
+    let u = c.loop-descent.invariant.hangs _ _ c.requires.stands.stood in
     let b = c.in-Some.descent.branch in let is = c.in-Some.ensures.branch in let i = c.in-Some.descent.index in let l = c.in-Some.ensures.index in
     let w = twigs_there u b is i l in
     fewer_in u b is i l w (c.cell-in-Some.ensures.value _ (read_there u b is i l c.loop-descent.invariant.same)) c.of-node-in-Some.ensures.back
@@ -57,7 +57,7 @@ loop-descent-preserved g c =
           let w = twigs_there u b is i l in
           hangs_further u b is i l w refl (c.cell-in-Some.ensures.value _ (read_there u b is i l c.loop-descent.invariant.same)) c.of-node-in-Some.ensures.back;
       writable =
-          let u = c.loop-descent.invariant.hangs _ _ c.requires.stood.stood in
+          let u = c.loop-descent.invariant.hangs _ _ c.requires.stands.stood in
           let h = is_hung u is in
           let x = hung_cells h.hung (ap first_of h.is) (ap width_of h.is) in
           let used = x.in_use i l in

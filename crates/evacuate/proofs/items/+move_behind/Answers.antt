@@ -49,15 +49,15 @@ pub returns-then-not-is_item_sparse-clause-ready : goal.returns-then-not-is_item
 returns-then-not-is_item_sparse-clause-ready g t c =
     let same = c.is_item_sparse.ensures.same ∙ c.next_extent-next.ensures.same in ready_put c.requires.ready (ap g.C.CellWrite.given same) (ap g.C.CellWrite.kept same)
 
-pub open_next-requires-clause-goes : goal.open_next-requires-clause-goes
-open_next-requires-clause-goes g t c = goes_on_same (c.is_item_sparse.ensures.same ∙ c.next_extent-next.ensures.same) c.requires.goes
+pub move_next-requires-clause-goes : goal.move_next-requires-clause-goes
+move_next-requires-clause-goes g t c = goes_on_same (c.is_item_sparse.ensures.same ∙ c.next_extent-next.ensures.same) c.requires.goes
 
-pub open_next-requires-clause-writable : goal.open_next-requires-clause-writable
-open_next-requires-clause-writable g t c =
+pub move_next-requires-clause-writable : goal.move_next-requires-clause-writable
+move_next-requires-clause-writable g t c =
     subst (λ s. IsWritable g.C.CellWrite.given reserve_account_of s c.args.usage.now (c.args.at + 255)) (sym (c.is_item_sparse.ensures.same ∙ c.next_extent-next.ensures.same)) c.requires.writable
 
-pub open_next-requires-clause-ready : goal.open_next-requires-clause-ready
-open_next-requires-clause-ready g t c =
+pub move_next-requires-clause-ready : goal.move_next-requires-clause-ready
+move_next-requires-clause-ready g t c =
     let same = c.is_item_sparse.ensures.same ∙ c.next_extent-next.ensures.same in ready_put c.requires.ready (ap g.C.CellWrite.given same) (ap g.C.CellWrite.kept same)
 
 pub returns-in_err-to-clause-stood : goal.returns-in_err-to-clause-stood
@@ -72,13 +72,13 @@ returns-in_err-to-clause-left g t c =
     by_err c.from_residual.result (subst HasSparse (sym c.in_err-to.ensures.unchanged) (goes_left c.requires.goes.goes sparse))
 
 pub returns-in_err-to-clause-frame : goal.returns-in_err-to-clause-frame
-returns-in_err-to-clause-frame g t c = fenced_same (c.is_item_sparse.ensures.same ∙ c.next_extent-next.ensures.same) c.open_next.ensures.frame
+returns-in_err-to-clause-frame g t c = fenced_same (c.is_item_sparse.ensures.same ∙ c.next_extent-next.ensures.same) c.move_next.ensures.frame
 
 pub move_behind-requires : goal.move_behind-requires
 move_behind-requires g t c κs within =
     let h = c.requires.goes in
     let f = further (c.in_ok-to.ensures.goes h.r h.es h.way h.e h.front h.rest (goes_same (c.is_item_sparse.ensures.same ∙ c.next_extent-next.ensures.same) h.goes)) (omega arith) in
-    let on : GoesOn g.C.CellRead.has c.open_next.new.cells c.open_next.new.usage c.in_ok-to.to (c.args.len - 4080) = record { r = h.r; es = h.es; way = h.way; e = h.e; front = h.front ++ (c.args.at ∷ []); rest = f.beyond; goes = f.goes } in
+    let on : GoesOn g.C.CellRead.has c.move_next.new.cells c.move_next.new.usage c.in_ok-to.to (c.args.len - 4080) = record { r = h.r; es = h.es; way = h.way; e = h.e; front = h.front ++ (c.args.at ∷ []); rest = f.beyond; goes = f.goes } in
     let less : c.args.len - 4080 < c.args.len = omega arith in
     (search (rules, less), (within, (on, (c.in_ok-to.ensures.writable (omega arith), c.in_ok-to.ensures.ready))))
 
@@ -94,11 +94,11 @@ pub returns-then-behind-gt-LAST_OCTETS-clause-less : goal.returns-then-behind-gt
 returns-then-behind-gt-LAST_OCTETS-clause-less g t c = ok_map c.move_behind.result (λ u less due.
     let h = due.on in
     let goes = goes_same (c.is_item_sparse.ensures.same ∙ c.next_extent-next.ensures.same) h.goes in
-    elim (c.in_ok-to.ensures.opened h.r h.es h.way h.e h.front h.rest goes) [
+    elim (c.in_ok-to.ensures.if_due h.r h.es h.way h.e h.front h.rest goes) [
       | inl fewer ↦ fewer_then fewer c.in_ok-to.ensures.moves c.move_behind.ensures.moves
       | inr stays ↦ (
           let f = further (c.in_ok-to.ensures.goes h.r h.es h.way h.e h.front h.rest goes) (omega arith) in
-          let on : GoesOn g.C.CellRead.has c.open_next.new.cells c.open_next.new.usage c.in_ok-to.to (c.args.len - 4080) = record { r = h.r; es = h.es; way = h.way; e = h.e; front = h.front ++ (c.args.at ∷ []); rest = f.beyond; goes = f.goes } in
+          let on : GoesOn g.C.CellRead.has c.move_next.new.cells c.move_next.new.usage c.in_ok-to.to (c.args.len - 4080) = record { r = h.r; es = h.es; way = h.way; e = h.e; front = h.front ++ (c.args.at ∷ []); rest = f.beyond; goes = f.goes } in
           let beyond : SparseExtents c.args.usage.now f.beyond = sparse_behind c.args.usage.now (first_of h.rest) f.beyond stays.0 (subst (SparseExtents c.args.usage.now) f.is due.sparse) in
           subst (λ l. Fewer l c.move_behind.new.usage) stays.1 (less (record { on = on; sparse = subst (λ l. SparseExtents l f.beyond) (sym stays.1) beyond }))
           )
@@ -115,13 +115,13 @@ pub returns-clause-less : goal.returns-clause-less
 returns-clause-less g t c due =
     let h = due.on in
     let goes = goes_same (c.is_item_sparse.ensures.same ∙ c.next_extent-next.ensures.same) h.goes in
-    elim (c.in_ok-to.ensures.opened h.r h.es h.way h.e h.front h.rest goes) [
+    elim (c.in_ok-to.ensures.if_due h.r h.es h.way h.e h.front h.rest goes) [
       | inl fewer ↦ fewer
       | inr stays ↦ absurd (true≢false (sym (last_behind goes (omega arith) due.sparse) ∙ stays.0))
     ]
 
 pub returns-clause-frame : goal.returns-clause-frame
-returns-clause-frame g t c = fenced_same (c.is_item_sparse.ensures.same ∙ c.next_extent-next.ensures.same) c.open_next.ensures.frame
+returns-clause-frame g t c = fenced_same (c.is_item_sparse.ensures.same ∙ c.next_extent-next.ensures.same) c.move_next.ensures.frame
 
 pub overflow_sub-behind : goal.overflow_sub-behind
 overflow_sub-behind g t c = let long = (goes_behind c.requires.goes.goes refl refl).long in omega arith

@@ -33,12 +33,12 @@ pub returns-then-leaf-gt-LAST_OCTETS-clause-moves : goal.returns-then-leaf-gt-LA
 returns-then-leaf-gt-LAST_OCTETS-clause-moves g c given fills = let m = c.in_ok-to.ensures.moves given fills in moves_then m (c.move_behind.ensures.moves given m.fills)
 
 pub returns-then-leaf-gt-LAST_OCTETS-clause-less : goal.returns-then-leaf-gt-LAST_OCTETS-clause-less
-returns-then-leaf-gt-LAST_OCTETS-clause-less g c = ok_map c.move_behind.result (λ u less due. elim c.in_ok-to.ensures.opened [
+returns-then-leaf-gt-LAST_OCTETS-clause-less g c = ok_map c.move_behind.result (λ u less due. elim c.in_ok-to.ensures.if_due [
   | inl fewer ↦ fewer_then fewer c.in_ok-to.ensures.moves c.move_behind.ensures.moves
   | inr stays ↦ (
       let h = due.hung in
       let b = begins_at (c.in_ok-to.ensures.hung h.r h.es h.way h.t h.hung h.is) h.is (omega arith) in
-      let on : GoesOn g.C.CellRead.has c.open_first.new.cells c.open_first.new.usage c.in_ok-to.to c.args.leaf.len = record { r = h.r; es = h.es; way = h.way; e = b.e; front = []; rest = b.rest; goes = b.goes } in
+      let on : GoesOn g.C.CellRead.has c.move_first.new.cells c.move_first.new.usage c.in_ok-to.to c.args.leaf.len = record { r = h.r; es = h.es; way = h.way; e = b.e; front = []; rest = b.rest; goes = b.goes } in
       let behind : SparseExtents c.args.usage.now b.rest = sparse_behind c.args.usage.now c.args.leaf.at b.rest stays.0 (subst (LiesSparse c.args.usage.now) b.is due.sparse) in
       subst (λ l. Fewer l c.move_behind.new.usage) stays.1 (less (record { on = on; sparse = subst (λ l. SparseExtents l b.rest) (sym stays.1) behind }))
       )
@@ -54,7 +54,7 @@ pub returns-clause-stood : goal.returns-clause-stood
 returns-clause-stood g c r es way t h is = (_, (c.in_ok-to.ensures.hung r es way t h is).stood)
 
 pub returns-clause-less : goal.returns-clause-less
-returns-clause-less g c due = elim c.in_ok-to.ensures.opened [
+returns-clause-less g c due = elim c.in_ok-to.ensures.if_due [
   | inl fewer ↦ fewer
   | inr stays ↦ absurd (true≢false (sym (lone_sparse due.hung.hung due.hung.is (omega arith) due.sparse) ∙ stays.0))
 ]

@@ -1,14 +1,9 @@
 use Rattle.std.proofs.Common.{◌-◌}
-use Rattle.chunk_usage.specs.Rooms.{reserve_account_of}
-use Rattle.trie_space.specs.Spaces.{Ready}
 use Rattle.evacuate.specs.Rearranging.{Rearranged}
 use Rattle.evacuate.proofs.listed.step_in_all.Given as goal
 
 abbrev pub invariant-loop-chunk : goal.invariant-loop-chunk
-invariant-loop-chunk g l = record {
-  rearranged : Rearranged g.C.CellRead.has g.C.CellWrite.kept g.C.CellWrite.given l.fn.root l.fn.cells l.fn.usage l.cells l.usage;
-  ready : Ready g.C.CellWrite.kept g.C.CellWrite.given reserve_account_of l.cells l.usage;
-}
+invariant-loop-chunk g l = Rearranged g.C.CellRead.has g.C.CellWrite.kept g.C.CellWrite.given l.fn.root l.fn.cells l.fn.usage l.cells l.usage
 
 abbrev pub decreases-loop-chunk : goal.decreases-loop-chunk
 decreases-loop-chunk g l = 4096 - l.from

@@ -1,14 +1,15 @@
-use Rattle.evacuate.proofs.RearrangeLaws.{rearranged_then, stood_after}
+use Rattle.std.proofs.Common.{refl}
+use Rattle.evacuate.proofs.RearrangeLaws.{rearranged_same, rearranged_then, can_again}
 use Rattle.evacuate.proofs.listed.step_in_chunk.Goals as goal
 
-pub step_along-requires-clause-stood : goal.step_along-requires-clause-stood
-step_along-requires-clause-stood g c = stood_after c.loop-place.invariant.rearranged c.requires.stood
+pub step_along-requires : goal.step_along-requires
+step_along-requires g c = can_again c.loop-place.invariant c.requires
 
 pub returns-in_err-step_along-clause-rearranged : goal.returns-in_err-step_along-clause-rearranged
-returns-in_err-step_along-clause-rearranged g c = rearranged_then c.loop-place.invariant.rearranged c.step_along.ensures.rearranged
+returns-in_err-step_along-clause-rearranged g c = rearranged_then c.loop-place.invariant c.step_along.ensures.rearranged
+
+pub loop-place-init : goal.loop-place-init
+loop-place-init g c = rearranged_same refl refl c.requires.ready
 
 pub loop-place-preserved : goal.loop-place-preserved
-loop-place-preserved g c = record {
-  rearranged = rearranged_then c.loop-place.invariant.rearranged c.step_along.ensures.rearranged;
-  ready = c.step_along.ensures.ready;
-}
+loop-place-preserved g c = rearranged_then c.loop-place.invariant c.step_along.ensures.rearranged

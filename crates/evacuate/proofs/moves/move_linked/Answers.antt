@@ -2,7 +2,7 @@ use Rattle.std.proofs.Common.{◌≡◌, true, ◌/◌, ◌+◌, ◌<◌, ℕ, a
 use Rattle.trie_model.proofs.ExtentLaws.{linked_is}
 use Rattle.chunk_usage.specs.Rooms.{reserve_account_of}
 use Rattle.trie_space.specs.Spaces.{IsWritable}
-use Rattle.trie_space.proofs.SpaceLaws.{fenced_of, fenced_put, fenced_counts, fenced_same, ready_put, ready_counts, writable_later, seat_open}
+use Rattle.trie_space.proofs.SpaceLaws.{fenced_of, fenced_put, fenced_counts, fenced_same, ready_put, ready_counts, writable_later, slot_open}
 use Rattle.evacuate.specs.Fillings.{Paid, is_old}
 use Rattle.evacuate.proofs.BehindLaws.{goes_same}
 use Rattle.evacuate.proofs.ChainLaws.{goes_behind, goes_moved}
@@ -31,7 +31,7 @@ put-requires g c =
     let f = c.in_ok-to.ensures.frame in
     let w = subst (IsWritable g.C.CellWrite.given reserve_account_of c.next_extent-from.new.cells c.args.usage.now) (sym c.link_of.ensures)
     (subst (λ s. IsWritable g.C.CellWrite.given reserve_account_of s c.args.usage.now (c.args.at + 255)) (sym c.next_extent-from.ensures.same) c.requires.writable) in
-    record { given = f.given_stays (c.link_of.result / 1024) w.in_given; unkept = seat_open (writable_later w f.grows f.given_stays) c.in_ok-to.ensures.ready }
+    record { given = f.given_stays (c.link_of.result / 1024) w.in_given; unkept = slot_open (writable_later w f.grows f.given_stays) c.in_ok-to.ensures.ready }
 
 pub release-requires : goal.release-requires
 release-requires g c =

@@ -1,7 +1,7 @@
 use Rattle.std.proofs.Common.{◌/◌, arith, sym, ◌∙◌, ap, subst}
 use Rattle.packed_node.specs.Nodes.{IsNode, packed}
 use Rattle.trie_model.specs.Extents.{IsRow}
-use Rattle.trie_space.proofs.SpaceLaws.{fenced_of, fenced_put, fenced_counts, ready_put, ready_counts, writable_later, seat_open}
+use Rattle.trie_space.proofs.SpaceLaws.{fenced_of, fenced_put, fenced_counts, ready_put, ready_counts, writable_later, slot_open}
 use Rattle.evacuate.specs.Fillings.{Paid, is_old}
 use Rattle.evacuate.specs.Places.{first_of, width_of, put_at}
 use Rattle.evacuate.proofs.FillingLaws.{moves_paid}
@@ -22,7 +22,7 @@ pack-requires g c =
 pub put-requires : goal.put-requires
 put-requires g c =
     let f = c.in_ok-to.ensures.frame in
-    record { given = f.given_stays (c.args.at / 1024) c.requires.writable.in_given; unkept = seat_open (writable_later c.requires.writable f.grows f.given_stays) c.in_ok-to.ensures.ready }
+    record { given = f.given_stays (c.args.at / 1024) c.requires.writable.in_given; unkept = slot_open (writable_later c.requires.writable f.grows f.given_stays) c.in_ok-to.ensures.ready }
 
 pub release-requires : goal.release-requires
 release-requires g c =

@@ -6,7 +6,7 @@ use Rattle.chunk_usage.specs.Rooms.{reserve_account_of}
 use Rattle.trie_space.specs.Spaces.{Ready, Fenced, IsWritable}
 use Rattle.evacuate.specs.Fillings.{Fills, Moves}
 use Rattle.evacuate.specs.Places.{Stood, HangsIn}
-use Rattle.evacuate.proofs.along.open_on.Given as goal
+use Rattle.evacuate.proofs.along.copy_on.Given as goal
 
 abbrev pub invariant-loop-passage : goal.invariant-loop-passage
 invariant-loop-passage g l =

@@ -6,7 +6,7 @@ use Rattle.evacuate.specs.Fillings.{Moves}
 use Rattle.evacuate.proofs.AlongLaws.{is_hung, stood_in, branch_in, inside_in, further_in, says_in, hangs_further, fewer_in}
 use Rattle.evacuate.proofs.DescentLaws.{stood_same}
 use Rattle.evacuate.proofs.FillingLaws.{moves_none, moves_then}
-use Rattle.evacuate.proofs.along.open_on.Goals as goal
+use Rattle.evacuate.proofs.along.copy_on.Goals as goal
 
 pub loop-passage-init : goal.loop-passage-init
 loop-passage-init g c = record {
@@ -25,6 +25,7 @@ returns-in_err-at-clause-rearranged g c = record {
   stood = λ es t h. let u = stood_in (c.loop-passage.invariant.way es t h) in (u.0, stood_same c.in_err-at.ensures.same c.in_err-at.ensures.unchanged u.1);
   moves = λ given fills. subst (Moves given 0 c.args.usage.now) (sym c.in_err-at.ensures.unchanged) (c.loop-passage.invariant.moves given fills);
   frame = fenced_then c.loop-passage.invariant.frame c.in_err-at.ensures.frame;
+  ready = c.in_err-at.ensures.ready;
 }
 
 pub cell-requires : goal.cell-requires
@@ -61,12 +62,13 @@ loop-passage-preserved g c = record {
   ready = ready_put c.in_ok-at.ensures.ready (ap g.C.CellWrite.given c.cell.ensures.same) (ap g.C.CellWrite.kept c.cell.ensures.same);
 }
 
-pub opened_at-requires : goal.opened_at-requires
-opened_at-requires g c b is = let u = c.loop-passage.invariant.way _ _ c.requires.stood.stood in inside_in u b is
+pub copied_at-requires : goal.copied_at-requires
+copied_at-requires g c b is = let u = c.loop-passage.invariant.way _ _ c.requires.stood.stood in inside_in u b is
 
 pub returns-clause-rearranged : goal.returns-clause-rearranged
 returns-clause-rearranged g c = record {
   stood = λ es t h. stood_in (c.loop-passage.invariant.way es t h);
   moves = c.loop-passage.invariant.moves;
   frame = c.loop-passage.invariant.frame;
+  ready = c.loop-passage.invariant.ready;
 }

@@ -2,7 +2,7 @@ use Rattle.std.proofs.Common.{◌/◌, sym, ◌∙◌}
 use Rattle.trie_space.proofs.SpaceLaws.{frame_refl, fenced_of, ok_map}
 use Rattle.evacuate.proofs.BeginLaws.{new_one, root_old, root_writable}
 use Rattle.evacuate.proofs.FillingLaws.{moves_none}
-use Rattle.evacuate.proofs.beginning.open_root.Goals as goal
+use Rattle.evacuate.proofs.beginning.copy_root.Goals as goal
 
 pub returns-then-is_there-clause-elsewhere : goal.returns-then-is_there-clause-elsewhere
 returns-then-is_there-clause-elsewhere g c = new_one c.args.usage.now.given c.args.chunk (c.args.root / 1024) (sym c.is_there.ensures ∙ c.if-is_there.true)

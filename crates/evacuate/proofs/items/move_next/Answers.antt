@@ -14,7 +14,7 @@ use Rattle.evacuate.proofs.BehindLaws.{either_way, goes_same, goes_on_same}
 use Rattle.evacuate.proofs.ChainLaws.{goes_behind}
 use Rattle.evacuate.proofs.FillingLaws.{moves_none, sparse_old, settled_old, same_chunk_old}
 use Rattle.evacuate.proofs.TreeLaws.{put_itself, width_linked}
-use Rattle.evacuate.proofs.items.open_next.Goals as goal
+use Rattle.evacuate.proofs.items.move_next.Goals as goal
 
 pub next_extent-next-requires-clause-inside : goal.next_extent-next-requires-clause-inside
 next_extent-next-requires-clause-inside g c = let b = goes_behind c.requires.goes.goes refl refl in let i = b.here.inside in let k = linked_is in omega arith
@@ -63,8 +63,8 @@ returns-then-is_due-clause-moves g c = either_way c.move_linked.result
     (p _ _ _ _ _ _ (goes_same c.next_extent-next.ensures.same goes) given fills (ap (is_old given) (sym from) ∙ old_next g c given fills)).moves) c.move_linked.ensures.paid)
     (err_map c.move_linked.result (λ full same given fills. subst (Moves given 0 c.args.usage.now) (sym same) (moves_none given c.args.usage.now fills)) c.move_linked.ensures.unchanged)
 
-pub returns-then-is_due-clause-opened : goal.returns-then-is_due-clause-opened
-returns-then-is_due-clause-opened g c = ok_map c.move_linked.result (λ to p r es way e front rest goes. inl (λ given fills.
+pub returns-then-is_due-clause-if_due : goal.returns-then-is_due-clause-if_due
+returns-then-is_due-clause-if_due g c = ok_map c.move_linked.result (λ to p r es way e front rest goes. inl (λ given fills.
     let first = goes_behind goes refl refl in
     let from = c.next_extent-next.ensures.next _ first.link first.inside in
     let some = first.row.some in
@@ -97,8 +97,8 @@ returns-clause-writable g c long =
 pub returns-clause-moves : goal.returns-clause-moves
 returns-clause-moves g c given fills = moves_none given c.args.usage.now fills
 
-pub returns-clause-opened : goal.returns-clause-opened
-returns-clause-opened g c r es way e front rest goes =
+pub returns-clause-if_due : goal.returns-clause-if_due
+returns-clause-if_due g c r es way e front rest goes =
     let first = goes_behind goes refl refl in
     let from = c.next_extent-next.ensures.next _ first.link first.inside in
     inr (ap (λ (q : ℕ). is_sparse c.args.usage.now (q / 1024)) (sym from) ∙ c.is_due.ensures.sparse c.if-is_due.false, refl)

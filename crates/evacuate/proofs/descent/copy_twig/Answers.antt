@@ -6,7 +6,7 @@ use Rattle.chunk_usage.proofs.SpaceLaws.{used_given}
 use Rattle.evacuate.specs.Places.{first_of, width_of}
 use Rattle.evacuate.proofs.FillingLaws.{settled_old, same_chunk_old}
 use Rattle.evacuate.proofs.TreeLaws.{hung_cells, hung_tree, moved_row}
-use Rattle.evacuate.proofs.descent.open_twig.Goals as goal
+use Rattle.evacuate.proofs.descent.copy_twig.Goals as goal
 
 pub overflow_add-twig : goal.overflow_add-twig
 overflow_add-twig g c =

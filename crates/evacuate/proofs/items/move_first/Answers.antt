@@ -9,7 +9,7 @@ use Rattle.evacuate.specs.Places.{first_of, width_of, moved, Hung}
 use Rattle.evacuate.proofs.BehindLaws.{either_way}
 use Rattle.evacuate.proofs.FillingLaws.{moves_none, sparse_old, settled_old, same_chunk_old}
 use Rattle.evacuate.proofs.TreeLaws.{hung_cells, moved_itself, width_linked}
-use Rattle.evacuate.proofs.items.open_first.Goals as goal
+use Rattle.evacuate.proofs.items.move_first.Goals as goal
 
 pub is_due-requires : goal.is_due-requires
 is_due-requires g c long =
@@ -34,8 +34,8 @@ returns-then-is_due-clause-moves g c = either_way c.move_node.result
     (ok_map c.move_node.result (λ to p given fills. (p given fills (old_first g c given fills)).moves) c.move_node.ensures.paid)
     (err_map c.move_node.result (λ full same given fills. subst (Moves given 0 c.args.usage.now) (sym same) (moves_none given c.args.usage.now fills)) c.move_node.ensures.unchanged)
 
-pub returns-then-is_due-clause-opened : goal.returns-then-is_due-clause-opened
-returns-then-is_due-clause-opened g c = ok_map c.move_node.result (λ to p. inl (λ given fills.
+pub returns-then-is_due-clause-if_due : goal.returns-then-is_due-clause-if_due
+returns-then-is_due-clause-if_due g c = ok_map c.move_node.result (λ to p. inl (λ given fills.
     let x = hung_cells c.requires.hung.hung (ap first_of c.requires.hung.is) (ap width_of c.requires.hung.is) in
     let some = x.row.some in let less = (p given fills (old_first g c given fills)).less in omega arith)) c.move_node.ensures.paid
 
@@ -57,8 +57,8 @@ returns-clause-writable g c long =
 pub returns-clause-moves : goal.returns-clause-moves
 returns-clause-moves g c given fills = moves_none given c.args.usage.now fills
 
-pub returns-clause-opened : goal.returns-clause-opened
-returns-clause-opened g c = inr (c.is_due.ensures.sparse c.if-is_due.false, refl)
+pub returns-clause-if_due : goal.returns-clause-if_due
+returns-clause-if_due g c = inr (c.is_due.ensures.sparse c.if-is_due.false, refl)
 
 pub returns-clause-frame : goal.returns-clause-frame
 returns-clause-frame g c = fenced_of (frame_refl c.args.cells.now c.args.usage.now)
