@@ -3,8 +3,8 @@
 # which takes some minutes the first time, and runs it on 10,000, 100,000 and 500,000 names like `hq3k9x2`. KIND is `exchange` (one item by a
 # `write`), `four` (two names out, and the two before in again), `below` (a name put in below another, and the one before taken out), `update`
 # (one item by an `update`) or `thin` (nine names of ten taken out by one `write`). Each is done with nobody beside it, and then while a
-# snapshot of the first version is held. Nanoseconds are of one run; instructions (valgrind's callgrind) are the difference of 3,000 and 1,000
-# transactions. Where LMDB is installed (liblmdb-dev, and a C compiler), bench/lmdb.c does the same by it, without waiting for the disk.
+# snapshot of the first version is held. Nanoseconds are of one run; instructions (valgrind's callgrind) are the difference of 5,000 and 3,000
+# transactions, since in the first ones malloc puts what was freed in reading the names together once. Where LMDB is installed (liblmdb-dev, and a C compiler), bench/lmdb.c does the same by it, without waiting for the disk.
 # Usage: bench/commits.sh [PROGRAM [NAMES..]] >bench/results/commits.tsv: where the built program is or is to stay, and how many names. With words in KINDS
 # only these kinds, and only while nothing is held. Changes nothing but files in a temporary folder.
 set -eu
@@ -169,7 +169,7 @@ told() {
         printf '%s\t%s\t%s\t%s\t%s\t-\t-\t-\n' "$who" "$names" "$kind" "${held:-none}" $((middle / (names / 10 * 9)))
     else
         printf '%s\t%s\t%s\t%s\t%s\t%s\t%s\t%s\n' "$who" "$names" "$kind" "${held:-none}" "$middle" "$mean" "$most" \
-            $((($(counted "$names" 3000 "$kind" "${@:6}" $held) - $(counted "$names" 1000 "$kind" "${@:6}" $held)) / 2000))
+            $((($(counted "$names" 5000 "$kind" "${@:6}" $held) - $(counted "$names" 3000 "$kind" "${@:6}" $held)) / 2000))
     fi
 }
 lmdb=
