@@ -30,10 +30,10 @@ returns-in-Stopped-clause-settles g c =
     settles_many false (let n = c.sparse.ensures in let many = c.if-sparse-most.false in omega arith) e.goes_on e.seen e.works e.log (subst (Evacuates c.args.self.usage c.evacuate-draft.result.0.usage) c.in-Stopped.is e.evacuates)
 
 pub returns-in-Stopped-clause-stopped : goal.returns-in-Stopped-clause-stopped
-returns-in-Stopped-clause-stopped g c e = (c.evacuate-draft.ensures.evacuates.stopped c.in-Stopped.is).0.spent.none_free
+returns-in-Stopped-clause-stopped g c e = (c.evacuate-draft.ensures.evacuates.stopped c.in-Stopped.is).0.consumed.none_free
 
 pub returns-in-Stopped-clause-roomy : goal.returns-in-Stopped-clause-roomy
 returns-in-Stopped-clause-roomy g c room =
     let e = c.evacuate-draft.ensures in
     let asks = subst (λ (done : Done). free_count c.args.self.usage + refused done ≤ free_count c.evacuate-draft.result.0.usage + (cells (working_set c.args.self) / 769 + 1)) c.in-Stopped.is e.asks in
-    whole_where c.args.self c.evacuate-draft.result.0 _ room (e.evacuates.stopped c.in-Stopped.is).0.spent.none_free asks
+    whole_where c.args.self c.evacuate-draft.result.0 _ room (e.evacuates.stopped c.in-Stopped.is).0.consumed.none_free asks
