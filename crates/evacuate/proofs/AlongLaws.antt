@@ -1,5 +1,5 @@
 -- The way down along a path: from a branch to one of its twigs.
-use Rattle.std.proofs.Common.{◌≡◌, ℕ, ◌+◌, ◌<◌, ◌≤◌, ◌^◌, ◌++◌, List, [], ◌∷◌, count_ones, arith, refl, sym, ◌∙◌, ap, subst}
+use Rattle.std.proofs.Common.{◌≡◌, ℕ, ◌+◌, ◌<◌, ◌≤◌, ◌^◌, ◌++◌, Bool, List, [], ◌∷◌, count_ones, arith, refl, sym, ◌∙◌, ap, subst}
 use Rattle.packed_node.specs.declared.Cell.{Cell}
 use Rattle.packed_node.specs.declared.Branch.{Branch}
 use Rattle.packed_node.specs.declared.Node.{Node}
@@ -12,11 +12,17 @@ use Rattle.trie_model.specs.Trees.Tree.{branch}
 use Rattle.trie_model.proofs.NodeLaws.{BranchTold, branch_told, places_left, fewer_left}
 use Rattle.trie_read.specs.Reads.{IsTop}
 use Rattle.chunk_usage.specs.Ledger.{Ledger}
+use Rattle.chunk_usage.specs.Rooms.{reserve_account_of}
+use Rattle.trie_space.specs.Spaces.{Ready, Fenced, IsWritable}
 use Rattle.trie_space.specs.Ways.{Fork, fork, plug, end_at}
+use Rattle.trie_space.proofs.SpaceLaws.{frame_refl, fenced_of, fenced_then}
 use Rattle.trie_space.proofs.WayLaws.{plug-append, end_at-append}
+use Rattle.evacuate.specs.Fillings.{Fills, Moves}
 use Rattle.evacuate.specs.Places.{moved, Stood, Hung, HangsIn, IsHung}
+use Rattle.evacuate.specs.Rearranging.{Rearranged}
 use Rattle.evacuate.specs.Trails.{TwigsAt}
 use Rattle.evacuate.proofs.DescentLaws.{begins, hung_there, hung_says, hung_read}
+use Rattle.evacuate.proofs.FillingLaws.{moves_none, moves_then}
 use Rattle.evacuate.proofs.TrailLaws.{TwigAt, early, twig_here, row_inside, counted}
 use Rattle.evacuate.proofs.TreeLaws.{hung_hangs}
 
@@ -122,3 +128,33 @@ module _ {S : Type 0} {has : S → ℕ → Cell → Type 0} {s : S} {l : Ledger}
 
         pub read_there : {s1 : S} → s1 ≡ s → has s1 (b.twigs + i) (top_cell below)
         read_there same = subst (λ z. has z (b.twigs + i) (top_cell below)) (sym same) (further_in twigs_there)
+
+-- On the way down from a root cells were moved, and a tree with this node hangs on the cell, which may be written.
+pub record OnWay {S : Type 0} (has : S → ℕ → Cell → Type 0) (kept : S → List ℕ) (given : S → List Bool) (r : ℕ) (s : S) (l : Ledger) (s_new : S) (l_new : Ledger) (at : ℕ) (n : Node) : Type 0 where
+  pub way : (es : List Entry) (t : Tree) → Stood has s l r es t → HangsIn has s_new l_new r at es n
+  pub writable : IsWritable given reserve_account_of s_new l_new at
+  pub moves : (old : List Bool) → Fills old l → Moves old 0 l l_new
+  pub frame : Fenced has kept given reserve_account_of s l s_new l_new
+  pub ready : Ready kept given reserve_account_of s_new l_new
+
+module _ {S : Type 0} {has : S → ℕ → Cell → Type 0} {kept : S → List ℕ} {given : S → List Bool} {r : ℕ} {s : S} {l : Ledger} where
+  pub way_begins : {s1 : S} {at : ℕ} {n : Node} → s1 ≡ s → ((es : List Entry) (t : Tree) → Stood has s l r es t → HangsIn has s l r at es n) → IsWritable given reserve_account_of s l at → Ready kept given reserve_account_of s l → OnWay has kept given r s l s1 l at n
+  way_begins {at = at} {n} same way writable ready = subst (λ z. OnWay has kept given r s l z l at n) (sym same)
+      (record { way = way; writable = writable; moves = λ old fills. moves_none old l fills; frame = fenced_of (frame_refl s l); ready = ready })
+
+  module _ {s1 : S} {l1 : Ledger} {at : ℕ} {n : Node} (h : OnWay has kept given r s l s1 l1 at n) where
+    pub way_ends : Rearranged has kept given r s l s1 l1
+    way_ends = record { stood = λ es t x. stood_in (h.way es t x); moves = h.moves; frame = h.frame; ready = h.ready }
+
+    -- to a twig, once there were moves
+    pub way_goes_on : (b : Branch) (is : n ≡ node.Branch b) (i : ℕ) → i < count_ones b.bitmap → {s2 s3 : S} {l2 : Ledger} {next : ℕ} {c : Cell} {m : Node} →
+        ((q : ℕ) (es : List Entry) (way : List Fork) (t : Tree) → Hung has s1 l1 q at es way t → node.Branch b ≡ node_of t → TwigsAt has s2 l2 q at es way t i next) →
+        IsWritable given reserve_account_of s2 l2 next → ((old : List Bool) → Fills old l1 → Moves old 0 l1 l2) → Fenced has kept given reserve_account_of s1 l1 s2 l2 → Ready kept given reserve_account_of s2 l2 →
+        s3 ≡ s2 → ((d : Cell) → has s2 next d → c ≡ d) → ((k : Node) → IsNode k → packed k ≡ c → m ≡ k) → OnWay has kept given r s l s3 l2 next m
+    way_goes_on b is i inside {l2 = l2} {next} {c} {m} twigs writable moves frame ready same read back = subst (λ z. OnWay has kept given r s l z l2 next m) (sym same) (record {
+      way = λ es t x. let u = h.way es t x in let w = twigs r es u.way u.t u.hung (branch_in u b is) in hangs_further u b is i inside w refl (read _ (further_in u b is i inside w)) back;
+      writable = writable;
+      moves = λ old fills. let a = h.moves old fills in moves_then a (moves old a.fills);
+      frame = fenced_then h.frame frame;
+      ready = ready;
+    })

@@ -114,9 +114,8 @@ fn last_below<C: CellRead>(
             for i in on.first..on.end {
                 trail.take(branch.offset, i);
                 let twig = cells.cell(branch.twigs + i);
-                let low = branch.offset + 1;
                 let next = course.to(position, on.path);
-                if last_below(cells, usage, trail, twig, low, next, search) {
+                if last_below(cells, usage, trail, twig, branch.offset + 1, next, search) {
                     return true;
                 }
                 position = position_from(branch, position.saturating_add(1));

@@ -1,39 +1,23 @@
-use Rattle.std.proofs.Common.{refl, sym, ap, subst}
-use Rattle.chunk_usage.specs.Rooms.{reserve_account_of}
-use Rattle.trie_space.specs.Spaces.{Fenced, IsWritable}
-use Rattle.trie_space.proofs.SpaceLaws.{frame_refl, fenced_of, fenced_then, ready_put}
-use Rattle.evacuate.specs.Fillings.{Moves}
-use Rattle.evacuate.specs.Places.{HangsIn}
-use Rattle.evacuate.proofs.AlongLaws.{hangs_first, is_hung, stood_in, branch_in, inside_in, further_in, says_in, hangs_further, fewer_in}
-use Rattle.evacuate.proofs.DescentLaws.{begins, stood_same, hung_there, hung_says, hung_read}
-use Rattle.evacuate.proofs.FillingLaws.{moves_none, moves_then}
+use Rattle.std.proofs.Common.{refl}
+use Rattle.trie_space.proofs.SpaceLaws.{fenced_then}
+use Rattle.evacuate.proofs.AlongLaws.{hangs_first, is_hung, branch_in, inside_in, further_in, says_in, fewer_in, way_begins, way_ends, way_goes_on}
+use Rattle.evacuate.proofs.DescentLaws.{begins, hung_there, hung_says, hung_read}
+use Rattle.evacuate.proofs.FillingLaws.{moves_then}
+use Rattle.evacuate.proofs.RearrangeLaws.{rearranged_same, rearranged_then}
 use Rattle.evacuate.proofs.along.empty_along.Goals as goal
 
 pub of-node-requires : goal.of-node-requires
 of-node-requires g c = let h = begins c.requires.stands.stood in hung_says h (c.cell.ensures.value _ (hung_there h))
 
 pub loop-passage-init : goal.loop-passage-init
-loop-passage-init g c = record {
-  way = λ es t stood.
-      let h = begins stood in
-      subst (λ s. HangsIn g.C.CellRead.has s c.args.usage.now c.args.root c.args.root es c.of-node.result) (sym c.cell.ensures.same)
-      (hangs_first refl stood (hung_read h (c.cell.ensures.value _ (hung_there h)) c.of-node.ensures.back));
-  writable = subst (λ s. IsWritable g.C.CellWrite.given reserve_account_of s c.args.usage.now c.args.root) (sym c.cell.ensures.same) c.requires.writable;
-  moves = λ given fills. moves_none given c.args.usage.now fills;
-  frame = subst (λ s. Fenced g.C.CellRead.has g.C.CellWrite.kept g.C.CellWrite.given reserve_account_of c.args.cells.now c.args.usage.now s c.args.usage.now) (sym c.cell.ensures.same) (fenced_of (frame_refl c.args.cells.now c.args.usage.now));
-  ready = ready_put c.requires.ready (ap g.C.CellWrite.given c.cell.ensures.same) (ap g.C.CellWrite.kept c.cell.ensures.same);
-}
+loop-passage-init g c =
+    way_begins c.cell.ensures.same (λ es t stood. let h = begins stood in hangs_first refl stood (hung_read h (c.cell.ensures.value _ (hung_there h)) c.of-node.ensures.back)) c.requires.writable c.requires.ready
 
 pub pass-requires-clause-hung : goal.pass-requires-clause-hung
 pass-requires-clause-hung g c = is_hung (c.loop-passage.invariant.way _ _ c.requires.stands.stood) c.in-Some.ensures.branch
 
 pub returns-in_err-at-clause-rearranged : goal.returns-in_err-at-clause-rearranged
-returns-in_err-at-clause-rearranged g c = record {
-  stood = λ es t h. let u = stood_in (c.loop-passage.invariant.way es t h) in (u.0, stood_same c.in_err-at.ensures.same c.in_err-at.ensures.unchanged u.1);
-  moves = λ given fills. subst (Moves given 0 c.args.usage.now) (sym c.in_err-at.ensures.unchanged) (c.loop-passage.invariant.moves given fills);
-  frame = fenced_then c.loop-passage.invariant.frame c.in_err-at.ensures.frame;
-  ready = c.in_err-at.ensures.ready;
-}
+returns-in_err-at-clause-rearranged g c = rearranged_then (way_ends c.loop-passage.invariant) (rearranged_same c.in_err-at.ensures.same c.in_err-at.ensures.unchanged c.loop-passage.invariant.ready)
 
 pub cell-requires-in-Some : goal.cell-requires-in-Some
 cell-requires-in-Some g c =
@@ -57,17 +41,9 @@ loop-passage-smaller g c =
     fewer_in u b is i l w (c.cell-in-Some.ensures.value _ (further_in u b is i l w)) c.of-node-in-Some.ensures.back
 
 pub loop-passage-preserved : goal.loop-passage-preserved
-loop-passage-preserved g c = record {
-  way = λ es t stood.
-      let u = c.loop-passage.invariant.way es t stood in
-      let b = c.in-Some.passage.descent.branch in let is = c.in-Some.ensures.branch in let i = c.in-Some.passage.descent.index in let l = c.in-Some.ensures.index in
-      let w = c.in_ok-at.ensures.hung c.args.root es u.way u.t u.hung (branch_in u b is) in
-      hangs_further u b is i l w c.cell-in-Some.ensures.same (c.cell-in-Some.ensures.value _ (further_in u b is i l w)) c.of-node-in-Some.ensures.back;
-  writable = subst (λ s. IsWritable g.C.CellWrite.given reserve_account_of s c.pass.new.usage c.in_ok-at.at) (sym c.cell-in-Some.ensures.same) c.in_ok-at.ensures.writable;
-  moves = λ given fills. let m = c.loop-passage.invariant.moves given fills in moves_then m (c.in_ok-at.ensures.moves given m.fills);
-  frame = subst (λ s. Fenced g.C.CellRead.has g.C.CellWrite.kept g.C.CellWrite.given reserve_account_of c.args.cells.now c.args.usage.now s c.pass.new.usage) (sym c.cell-in-Some.ensures.same) (fenced_then c.loop-passage.invariant.frame c.in_ok-at.ensures.frame);
-  ready = ready_put c.in_ok-at.ensures.ready (ap g.C.CellWrite.given c.cell-in-Some.ensures.same) (ap g.C.CellWrite.kept c.cell-in-Some.ensures.same);
-}
+loop-passage-preserved g c =
+    way_goes_on c.loop-passage.invariant c.in-Some.passage.descent.branch c.in-Some.ensures.branch c.in-Some.passage.descent.index c.in-Some.ensures.index
+    c.in_ok-at.ensures.hung c.in_ok-at.ensures.writable c.in_ok-at.ensures.moves c.in_ok-at.ensures.frame c.in_ok-at.ensures.ready c.cell-in-Some.ensures.same c.cell-in-Some.ensures.value c.of-node-in-Some.ensures.back
 
 pub emptied_at-requires : goal.emptied_at-requires
 emptied_at-requires g c b is = let u = c.loop-passage.invariant.way _ _ c.requires.stands.stood in inside_in u b is

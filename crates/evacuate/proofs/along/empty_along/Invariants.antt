@@ -1,22 +1,9 @@
-use Rattle.std.proofs.Common.{Bool, List}
-use Rattle.trie_model.specs.Keys.{Entry}
-use Rattle.trie_model.specs.Trees.{Tree}
 use Rattle.trie_model.proofs.NodeLaws.{places_left}
-use Rattle.chunk_usage.specs.Rooms.{reserve_account_of}
-use Rattle.trie_space.specs.Spaces.{Ready, Fenced, IsWritable}
-use Rattle.evacuate.specs.Fillings.{Fills, Moves}
-use Rattle.evacuate.specs.Places.{Stood, HangsIn}
+use Rattle.evacuate.proofs.AlongLaws.{OnWay}
 use Rattle.evacuate.proofs.along.empty_along.Given as goal
 
 abbrev pub invariant-loop-passage : goal.invariant-loop-passage
-invariant-loop-passage g l =
-    record {
-      way : (es : List Entry) (t : Tree) → Stood g.C.CellRead.has l.fn.cells l.fn.usage l.fn.root es t → HangsIn g.C.CellRead.has l.cells l.usage l.fn.root l.at es l.node;
-      writable : IsWritable g.C.CellWrite.given reserve_account_of l.cells l.usage l.at;
-      moves : (given : List Bool) → Fills given l.fn.usage → Moves given 0 l.fn.usage l.usage;
-      frame : Fenced g.C.CellRead.has g.C.CellWrite.kept g.C.CellWrite.given reserve_account_of l.fn.cells l.fn.usage l.cells l.usage;
-      ready : Ready g.C.CellWrite.kept g.C.CellWrite.given reserve_account_of l.cells l.usage;
-    }
+invariant-loop-passage g l = OnWay g.C.CellRead.has g.C.CellWrite.kept g.C.CellWrite.given l.fn.root l.fn.cells l.fn.usage l.cells l.usage l.at l.node
 
 abbrev pub decreases-loop-passage : goal.decreases-loop-passage
 decreases-loop-passage g l = places_left l.node

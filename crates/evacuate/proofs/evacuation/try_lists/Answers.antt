@@ -1,5 +1,4 @@
-use Rattle.std.proofs.Common.{refl}
-use Rattle.evacuate.proofs.RearrangeLaws.{rearranged_same, rearranged_then, can_again}
+use Rattle.evacuate.proofs.RearrangeLaws.{rearranged_then, can_again}
 use Rattle.evacuate.proofs.evacuation.try_lists.Goals as goal
 
 pub move_listed-moved-requires : goal.move_listed-moved-requires
@@ -10,9 +9,6 @@ returns-then-not-is_any_sparse-clause-rearranged g c = rearranged_then c.loop.in
 
 pub returns-then-is_err-clause-rearranged : goal.returns-then-is_err-clause-rearranged
 returns-then-is_err-clause-rearranged g c = rearranged_then c.loop.invariant c.move_listed-moved.ensures.rearranged
-
-pub loop-init : goal.loop-init
-loop-init g c = rearranged_same refl refl c.requires.ready
 
 pub loop-preserved : goal.loop-preserved
 loop-preserved g c = rearranged_then c.loop.invariant c.move_listed-moved.ensures.rearranged

@@ -1,4 +1,4 @@
-use Rattle.std.proofs.Common.{refl, ◌∙◌}
+use Rattle.std.proofs.Common.{◌∙◌}
 use Rattle.evacuate.proofs.EndLaws.{node_top}
 use Rattle.evacuate.proofs.RearrangeLaws.{rearranged_same, rearranged_then, rearranged_found, can_again, can_read, found_there, found_on}
 use Rattle.evacuate.proofs.forks.move_forked.Goals as goal
@@ -19,9 +19,6 @@ pub returns-in_err-move_found-clause-rearranged : goal.returns-in_err-move_found
 returns-in_err-move_found-clause-rearranged g c =
     rearranged_then c.loop.invariant (rearranged_then (rearranged_same (c.last_sparse.ensures.same ∙ c.cell-top.ensures.same) c.note.ensures c.loop.invariant.ready)
     (rearranged_found (found_on c.cell-top.ensures.same c.cell-top.ensures.value c.last_sparse.ensures.same c.note.ensures (c.last_sparse.ensures.found c.if-not-last_sparse.false)) c.move_found.ensures.stood c.move_found.ensures.moves c.move_found.ensures.frame c.move_found.ensures.ready))
-
-pub loop-init : goal.loop-init
-loop-init g c = rearranged_same refl refl c.requires.ready
 
 pub loop-preserved : goal.loop-preserved
 loop-preserved g c =

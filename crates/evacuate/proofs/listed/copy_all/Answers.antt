@@ -1,5 +1,4 @@
-use Rattle.std.proofs.Common.{refl}
-use Rattle.evacuate.proofs.RearrangeLaws.{rearranged_same, rearranged_then, can_again}
+use Rattle.evacuate.proofs.RearrangeLaws.{rearranged_then, can_again}
 use Rattle.evacuate.proofs.listed.copy_all.Goals as goal
 
 pub step_in_all-requires : goal.step_in_all-requires
@@ -10,9 +9,6 @@ returns-in_err-step_in_all-clause-rearranged g c = rearranged_then c.loop.invari
 
 pub returns-then-sparse-clause-rearranged : goal.returns-then-sparse-clause-rearranged
 returns-then-sparse-clause-rearranged g c = rearranged_then c.loop.invariant c.step_in_all.ensures.rearranged
-
-pub loop-init : goal.loop-init
-loop-init g c = rearranged_same refl refl c.requires.ready
 
 pub loop-preserved : goal.loop-preserved
 loop-preserved g c = rearranged_then c.loop.invariant c.step_in_all.ensures.rearranged

@@ -1,5 +1,4 @@
-use Rattle.std.proofs.Common.{refl}
-use Rattle.evacuate.proofs.RearrangeLaws.{rearranged_same, rearranged_then, can_again}
+use Rattle.evacuate.proofs.RearrangeLaws.{rearranged_then, can_again}
 use Rattle.evacuate.proofs.listed.step_in_all.Goals as goal
 
 pub step_in_chunk-requires : goal.step_in_chunk-requires
@@ -7,9 +6,6 @@ step_in_chunk-requires g c = can_again c.loop-chunk.invariant c.requires
 
 pub returns-in_err-step_in_chunk-clause-rearranged : goal.returns-in_err-step_in_chunk-clause-rearranged
 returns-in_err-step_in_chunk-clause-rearranged g c = rearranged_then c.loop-chunk.invariant c.step_in_chunk.ensures.rearranged
-
-pub loop-chunk-init : goal.loop-chunk-init
-loop-chunk-init g c = rearranged_same refl refl c.requires.ready
 
 pub loop-chunk-preserved : goal.loop-chunk-preserved
 loop-chunk-preserved g c = rearranged_then c.loop-chunk.invariant c.step_in_chunk.ensures.rearranged
