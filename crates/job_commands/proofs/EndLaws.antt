@@ -2,6 +2,7 @@
 use Rattle.std.proofs.Common.{◌≡◌, ◌∙◌, ⊎_elim, ℕ, ◌+◌, true, List, [], ◌∷◌, ◌++◌, length, map, Option, Some, None, refl, sym, ap, subst, arith, length-append}
 use Rattle.std.specs.Prelude.{Contains}
 use Rattle.std.specs.List.{All}
+use Rattle.std.proofs.lemmas.List.{map-append}
 use Rattle.std.proofs.lemmas.List.Elements.{All-push}
 use Rattle.pin_core.proofs.Lists.{contains_cases}
 use Rattle.zone_model.specs.Versions.{Version}
@@ -92,3 +93,12 @@ module _ (s : Setup) (before : List Known) (ws : List (List Command)) (os : List
 -- what is left and main's
 pub all_handed : {A : Type 0} (whole rest : List A) (main : A) (P : A → Type 0) → whole ≡ rest ++ main ∷ [] → All P rest → P main → All P whole
 all_handed whole rest main P is all one = subst (All P) (sym is) (All-push P rest main all one)
+
+-- What is left of the passes and main's are handed in.
+pub job_ended : {A : Type 0} (rest whole : List A) (main : A) (known : A → Known) → whole ≡ rest ++ main ∷ [] → (s : Setup) (before : List Known) (ws : List (List Command)) (os : List Outcomes) (old pinned : Known) (number : ℕ) → Gathers s before ws os (map known rest) old
+    → is_told old.seen.opening ≡ true → Pinned IsLawful old pinned number → (after : Known) → known main ≡ after → after ≡ with_progress pinned progress.Idle → (count : ℕ) → length before ≡ count → AreAll count before → (zone : Version) → StandsAs s.opening zone
+    → (version names many : ℕ) (last : AllSeen) → Ends count (map known whole) version last → names ≡ length (version_seen pinned.seen) → many ≡ nodes (keys_of (version_seen pinned.seen)) → IsRun s.chunks s.passes s.origin zone ws os version names many
+job_ended rest whole main known is_whole s before ws os old pinned number g told p after same left count counted all zone opens version names many last ends names_are many_are =
+    let views : map known whole ≡ map known rest ++ known main ∷ [] = ap (map known) is_whole ∙ map-append known rest (main ∷ []) in
+    let ended : Ends count (map known rest ++ known main ∷ []) version last = subst (λ (vs : List Known). Ends count vs version last) views ends in
+    job_ends s before ws os (map known rest) old pinned (known main) number g told p (same ∙ left) zone count version names many last opens counted all ended names_are many_are

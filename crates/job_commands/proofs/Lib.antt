@@ -2,6 +2,7 @@ pub mod HistoryLaws
 pub mod ZoneLaws
 pub mod ShowLaws
 pub mod StepLaws
+pub mod StationLaws
 pub mod WorkLaws
 pub mod JobLaws
 pub mod CloseLaws
@@ -10,4 +11,5 @@ pub mod BlockLaws
 pub mod CallLaws
 pub mod CompactionLaws
 pub mod GatherLaws
+pub mod OpenLaws
 pub mod EndLaws

@@ -3,7 +3,9 @@ pub mod Weights
 pub mod Commands
 pub mod Calls
 pub mod Steps
+pub mod Stations
 pub mod Works
 pub mod Closings
 pub mod Runs
+pub mod Endings
 pub mod Prelude

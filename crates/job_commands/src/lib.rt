@@ -1,8 +1,10 @@
 //! Runs one command of a job on the index that its workers share, and says what it came to: a question to the current version, a
-//! transaction or a compaction. What workers come to by such commands is in its laws.
+//! transaction or a compaction. When all workers are done it closes the index. What workers come to by such commands is in its laws.
 #![tactic(auto)]
 
+mod alone;
 mod asking;
+mod closing;
 mod compactions;
 mod gate;
 mod law;
@@ -10,7 +12,9 @@ mod replying;
 mod room;
 mod transactions;
 
+pub use alone::run_alone;
 pub use asking::run_question;
+pub use closing::{Last, close_index};
 pub use compactions::run_compaction;
 pub use gate::{Gate, counted, tell_after, tell_before};
 pub use law::ZoneLaw;

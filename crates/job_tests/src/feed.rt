@@ -4,7 +4,7 @@ ghost use Rattle.std.specs.Prelude.{◌≤◌};
 use crate::crowd::Tally;
 use crate::gates::Open;
 use crate::runs::{ZONE, example, lone_apex, told};
-use job_threads::{FedFinished, FedRan, run_list, table_for_list};
+use feed_threads::{FedFinished, FedRan, run_list, table_for_list};
 use qp_main::list_in;
 use std::alloc::{AllocError, Global};
 use std::sync::Wait;

@@ -1,4 +1,4 @@
--- Workers with two passes that are done, one after another, and workers of one list.
+-- Workers with two passes that are done, one after another.
 use Rattle.std.proofs.Common.{true, ◌≡◌, ◌∙◌, ⊎_elim, ℕ, ◌+◌, ◌*◌, List, [], ◌∷◌, ◌++◌, length, map, Result, Ok, Err, IfOk, refl, sym, ap, subst, arith, append_assoc, length-append}
 use Rattle.std.specs.Prelude.{Contains}
 use Rattle.std.specs.List.{All}
@@ -16,8 +16,6 @@ use Rattle.job_commands.specs.Histories.{Setup}
 use Rattle.job_commands.specs.Commands.{IsIndex, IsSetup}
 use Rattle.job_commands.specs.Works.{AreNew, Begins, Numbers, WorkerRan, ended}
 use Rattle.job_commands.specs.Closings.{Worker, workers_views, views_of, numbers_in, Gathers}
-use Rattle.job_threads.specs.Feeds.{commands_served, outcomes_served}
-use Rattle.job_threads.specs.declared.ordering.Served.{Served}
 use Rattle.job_commands.proofs.HistoryLaws.{begins_more, opened_same}
 use Rattle.job_commands.proofs.JobLaws.{here, there}
 use Rattle.job_commands.proofs.WorkLaws.{all_weaker}
@@ -103,15 +101,6 @@ module _ {A : Type 0} (passes front rest : List A) (spare asks : A) (known : A �
       (ap number_of holder.is_own ∙ ap (λ (n : ℕ). n + 1) (holder.numbered ∙ sym r.holder) ∙ sym (ap number_of r.work.is_holder)) told l)
 
 -- ---- what it comes to
-
--- what one more worker of one list comes to, if there is memory for it
-pub gathers_served : {G E : Type 0} (r : Result G E) (served_of : G → List Served) (views_of' : G → List Known) (main_of : G → Known) (s : Setup) (before : List Known) (commands : List Command) (served : List Served) (views : List Known) (main seen : Known)
-    → IfOk r (λ g. served_of g ≡ served) → IfOk r (λ g. views_of' g ≡ views) → IfOk r (λ g. Learnt main (main_of g) seen.seen) → ((after : Known) → Learnt main after seen.seen → Gathers s before (commands_served commands served) (outcomes_served served) views after)
-    → IfOk r (λ g. Gathers s before (commands_served commands (served_of g)) (outcomes_served (served_of g)) (views_of' g) (main_of g))
-gathers_served (Ok g) served_of views_of' main_of s before commands served views main seen is_served is_views learnt gathers =
-    subst (λ (l : List Served). Gathers s before (commands_served commands l) (outcomes_served l) (views_of' g) (main_of g)) (sym is_served)
-    (subst (λ (l : List Known). Gathers s before (commands_served commands served) (outcomes_served served) l (main_of g)) (sym is_views) (gathers (main_of g) learnt))
-gathers_served (Err e) served_of views_of' main_of s before commands served views main seen is_served is_views learnt gathers = tt
 
 -- what one more worker comes to, if there is memory for it
 pub gathers_done : {G E : Type 0} (r : Result G E) (outcomes_of : G → List Outcomes) (views_of' : G → List Known) (main_of : G → Known) (s : Setup) (before : List Known) (ws : List (List Command)) (os : List Outcomes) (views : List Known) (main seen : Known)

@@ -2,9 +2,4 @@ pub mod SnapshotLaws
 pub mod StationLaws
 pub mod WorkerLaws
 pub mod GatherLaws
-pub mod EndLaws
-pub mod OpenLaws
-pub mod ServeLaws
-pub mod OrderLaws
-pub mod FedRunLaws
 pub mod DumpLaws

@@ -12,7 +12,7 @@ use Rattle.shared_cells.specs.Views.{is_told, with_pinned, pinned_image, pinned_
 use Rattle.shared_index.specs.declared.meaning.Operation.{Operation}
 use Rattle.shared_index.specs.Passes.{Known, first_version, version_seen, Pinned, Learnt}
 use Rattle.job_commands.specs.Histories.{Setup, Entries, StandsAs, Sighting, IsLawful}
-use Rattle.job_threads.specs.Snapshots.{IsHeld, Held, AskedHeld, Released}
+use Rattle.job_threads.specs.Snapshots.{Held, AskedHeld, Released}
 use Rattle.job_commands.specs.Steps.{Station, HoldsLast, IsSight, IsUnder, Step}
 use Rattle.job_commands.proofs.HistoryLaws.{begins_length, opened_same, part_same, part_more}
 use Rattle.job_commands.proofs.ShowLaws.{shown_some}
@@ -20,7 +20,7 @@ use Rattle.job_commands.proofs.StepLaws.{shows_at, shown_alone, stays_same, stay
 use Rattle.zone_query.specs.Standing.{ShowsSome}
 use Rattle.job_script.specs.declared.outcomes.Told.TheVariants as told
 use Rattle.shared_index.specs.Meanings.{Holds}
-use Rattle.job_threads.specs.Stations.{Pinned as PinnedSeat'}
+use Rattle.job_commands.specs.Stations.{IsHeld, Pinned as PinnedSeat'}
 
 -- ---- a pinned seat
 

@@ -1,5 +1,5 @@
 -- What commands do with a snapshot.
-use Rattle.std.specs.Prelude.{◌≡◌, List, length}
+use Rattle.std.specs.Prelude.{◌≡◌, List}
 use Rattle.zone_model.specs.Names.{Name}
 use Rattle.zone_model.specs.Versions.{Version}
 use Rattle.trie_model.specs.Keys as trie
@@ -12,17 +12,10 @@ use Rattle.job_script.specs.declared.outcomes.Outcome.{Outcome}
 use Rattle.shared_cells.specs.declared.view.Progress.TheVariants as progress
 use Rattle.shared_cells.specs.declared.pinned.PinnedSeat.{PinnedSeat}
 use Rattle.shared_cells.specs.History.{IsPartOf}
-use Rattle.shared_cells.specs.Views.{with_pinned, with_progress, pinned_image}
+use Rattle.shared_cells.specs.Views.{with_pinned, with_progress}
 use Rattle.shared_index.specs.declared.meaning.Operation.{Operation}
-use Rattle.shared_index.specs.Meanings.{Holds}
-use Rattle.shared_index.specs.Passes.{Known, first_version, version_seen}
-use Rattle.job_commands.specs.Histories.{IsLawful, StandsAs}
-
--- a pinned seat shows the version that its pass has seen last, which is one of the zone
-pub record IsHeld (seat : PinnedSeat (List trie.Entry) (List Operation)) : Type 0 where
-  pub version : seat.version ≡ length seat.place.me.0.seen.history
-  pub holds : Holds (pinned_image seat.place.me.0.progress) seat.root (version_seen seat.place.me.0.seen)
-  pub lawful : IsLawful (first_version seat.place.me.0.seen) (version_seen seat.place.me.0.seen)
+use Rattle.shared_index.specs.Passes.{Known, version_seen}
+use Rattle.job_commands.specs.Histories.{StandsAs}
 
 -- The second pass took a snapshot, when it had learnt what the first had seen, and then the first learnt what it has seen.
 pub record Held (old second new : Known) (seat : PinnedSeat (List trie.Entry) (List Operation)) (o : Outcome) : Type 0 where

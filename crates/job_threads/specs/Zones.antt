@@ -9,16 +9,8 @@ use Rattle.shared_index.specs.Openings.{room_in}
 use Rattle.job_commands.specs.Runs.{IsRun}
 use Rattle.job_threads.specs.declared.zone.Ran.{Ran}
 use Rattle.job_threads.specs.declared.zone.Ran.TheVariants.{Finished, DoesNotFit}
-use Rattle.job_threads.specs.Feeds.{IsFedRun}
-use Rattle.job_threads.specs.declared.zone.FedRan.{FedRan}
-use Rattle.job_threads.specs.declared.zone.FedRan.TheVariants as fed
 
 -- the zone fits, and the job was run; or it doesn't, and both numbers are told
 abbrev pub RanOn : ℕ → Name → Version → List (List Command) → Ran → Type 0
 RanOn chunks origin zone workers (Finished f) = (cell_count zone ≤ room_in chunks) × IsRun chunks (passes_for (length workers)) origin zone workers f.outcomes.items f.version f.names f.nodes
 RanOn chunks origin zone workers (DoesNotFit cells limit) = (cells ≡ cell_count zone) × (limit ≡ room_in chunks) × (limit < cells)
-
--- the same of one list of commands and so many workers
-abbrev pub FedRanOn : ℕ → ℕ → Name → Version → List Command → FedRan → Type 0
-FedRanOn chunks workers origin zone commands (fed.Finished f) = (cell_count zone ≤ room_in chunks) × IsFedRun chunks workers origin zone commands f.outcomes.items f.version f.names
-FedRanOn chunks workers origin zone commands (fed.DoesNotFit cells limit) = (cells ≡ cell_count zone) × (limit ≡ room_in chunks) × (limit < cells)

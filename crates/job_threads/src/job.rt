@@ -2,17 +2,16 @@
 ghost use Rattle.std.specs.Prelude.{◌≡◌, ◌+◌, ◌*◌, ◌∷◌, List, All, IsSome, IfOk, length, map, false};
 ghost use Rattle.job_threads.specs.Prelude.{AllByRecursion, IsSync, Version, InTurn, passes_for, command_view, job_view, worker_view};
 ghost use Rattle.job_threads.specs.Prelude.{workers_view, AllAsked, known_at, Learnt, AreAll, Setup, StandsAs, AreNew, Begins, Numbers};
-ghost use Rattle.job_threads.specs.Prelude.{WorkerRan, ended, AllHeard, AreHeard, IsIndex, IsSetup, OpensAt, Gathers, IsRun, EndsRun};
+ghost use Rattle.job_threads.specs.Prelude.{WorkerRan, ended, AllHeard, AreHeard, IsIndex, IsSetup, OpensAt, Gathers, IsRun};
 
 use crate::worker::{Done, Task, run_worker};
 use dns_name::Name;
-use job_commands::{Gate, ZoneLaw};
+use job_commands::{Gate, ZoneLaw, close_index};
 use job_script::{Job, Outcomes, Worker};
 use shared_index::{Index, Named, Pass};
 use std::alloc::{AllocError, Global};
 use std::sync::Wait;
 use std::thread::{Threads, join};
-use trie_read::Reading;
 
 /// What became of a job: the outcomes of each worker, the last version, and how many names and nodes that has.
 #[derive(Drop)]
@@ -153,37 +152,6 @@ fn run_workers<R: Threads + Wait + Sync, N: Named + Send + Sync, G: Gate>(
     { run_workers(rt, alloc, origin, index, others, next, passes, gate) };
     let (done, others) = join(rt, first, rest);
     with_done(index, done?, others?)
-}
-
-// How the last version is.
-#[derive(Clone, Copy)]
-pub(crate) struct Last {
-    pub version: u64,
-    pub names: u64,
-    pub nodes: u64,
-}
-
-// Asks for the last version, when all workers are done and main has learnt what they saw, and closes the index.
-pub(crate) fn close_index<N: Named>(
-    index: Index<ZoneLaw, N>,
-    mut main: Pass<N>,
-    mut passes: Vec<Pass<N>>,
-) -> Result<Last, AllocError>
-    requires main { (IsSome main.seat) × (main.place ≡ index.place) }
-    requires here { All (λ p. (IsSome p.seat) × (p.place ≡ index.place)) passes.items }
-    ensures { IfOk result (λ l. EndsRun index.shared.table.shared.key.passes (map (λ p. known_at p.seat) passes.items) (known_at main.seat) l.version l.names l.nodes) }
-{
-    let mut query = main.query(&index);
-    let names = query.count();
-    let nodes = query.nodes();
-    drop(query);
-    passes.push(main)?;
-    let version = index.close(passes);
-    Ok(Last {
-        version,
-        names,
-        nodes,
-    })
 }
 
 /// Runs a job's workers from version 0 on. The gate is told of each command.

@@ -4,10 +4,9 @@ ghost use Rattle.job_threads.specs.Prelude.{option_map, is_some, AllByRecursion,
 ghost use Rattle.job_threads.specs.Prelude.{command_view, AllAsked, known_at, Setup, AreHeard, IsSetup, OpensAt, IsUnder};
 ghost use Rattle.job_threads.specs.Prelude.{Step, IsPlaced, holder_view, station, Begins, Numbers, WorkerRan, ended};
 
-use crate::alone::run_alone;
 use crate::passes::{Passes, ask_snapshot, give_back, second_pass, take_snapshot};
 use dns_name::Name;
-use job_commands::{Gate, Room, ZoneLaw, counted, tell_after, tell_before};
+use job_commands::{Gate, Room, ZoneLaw, counted, run_alone, tell_after, tell_before};
 use job_script::{Command, Outcome, Outcomes};
 use shared_index::{Index, Named, Pass};
 use std::alloc::{AllocError, Global};

@@ -1,13 +1,12 @@
 //! A job on the index of its zone.
-ghost use Rattle.std.specs.Prelude.{◌≡◌, ◌≤◌, IfOk, List, length, map, Some, slice_get, false};
-ghost use Rattle.job_threads.specs.Prelude.{AllByRecursion, Version, entries_of_items, InTurn, NeedsNoSnapshot, passes_fed};
-ghost use Rattle.job_threads.specs.Prelude.{passes_for, command_view, job_view, AllAsked, IsZone, StandsAs, FedRanOn, RanOn};
+ghost use Rattle.std.specs.Prelude.{◌≡◌, ◌≤◌, IfOk, List, length, Some, slice_get, false};
+ghost use Rattle.job_threads.specs.Prelude.{AllByRecursion, Version, entries_of_items, InTurn, passes_for, job_view};
+ghost use Rattle.job_threads.specs.Prelude.{AllAsked, IsZone, StandsAs, RanOn};
 
-use crate::feeding::{FedFinished, run_feed};
 use crate::job::{Finished, run_job};
 use dns_name::Name;
 use job_commands::{Gate, ZoneLaw};
-use job_script::{Command, Job};
+use job_script::Job;
 use shared_index::{Blank, Index, Named, OpenRefusal};
 use std::alloc::{AllocError, Global};
 use std::marker::Brand;
@@ -19,14 +18,6 @@ use trie_write::Item;
 #[derive(Drop)]
 pub enum Ran {
     Finished(Finished),
-    /// Version 0 has so many cells, over the limit.
-    DoesNotFit { cells: u64, limit: u64 },
-}
-
-/// What became of one list of commands, if its zone fits into the chunks.
-#[derive(Drop)]
-pub enum FedRan {
-    Finished(FedFinished),
     /// Version 0 has so many cells, over the limit.
     DoesNotFit { cells: u64, limit: u64 },
 }
@@ -89,74 +80,4 @@ pub fn run_zone<R: Threads + Wait + Sync, G: Gate>(
         → IfOk result (RanOn blank.shared.table.shared.key.chunks origin.now zone (job_view job.now)) }
 {
     run_named::<R, Brand, G>(rt, alloc, blank, origin, items, job, gate)
-}
-
-// The same, on a table that is named.
-fn run_list_named<R: Threads + Wait + Sync, N: Named + Send + Sync, G: Gate>(
-    rt: &R,
-    alloc: Global,
-    blank: Blank<ZoneLaw>,
-    origin: &Name,
-    items: &[Item],
-    commands: &[Command],
-    workers: u32,
-    gate: &G,
-) -> Result<FedRan, AllocError>
-    requires named { slice_get N.tables 0 ≡ Some blank.shared.table.shared.table_id }
-    requires workers { (1 ≤ workers) × (workers ≤ 16) }
-    requires passes { blank.shared.table.shared.key.passes ≡ passes_fed workers }
-    requires zone { IsZone origin.now (entries_of_items items.now) }
-    requires count { (1 ≤ length commands.now) × (length commands.now ≤ 10000) }
-    requires no_snapshots { AllByRecursion NeedsNoSnapshot (map command_view commands.now) }
-    requires said { AllByRecursion (AllAsked origin.now) (map command_view commands.now) }
-    ensures { (zone : Version) → StandsAs (entries_of_items items.now) zone
-        → IfOk result (FedRanOn blank.shared.table.shared.key.chunks workers origin.now zone (map command_view commands.now)) }
-{
-    match Index::<ZoneLaw, N>::open(alloc, blank, 0, items) {
-        Ok((index, passes)) => {
-            let finished = run_feed(rt, alloc, origin, index, passes, commands, workers, gate)?;
-            Ok(FedRan::Finished(finished))
-        }
-        Err(OpenRefusal::Full { cells, limit }) => Ok(FedRan::DoesNotFit { cells, limit }),
-        Err(OpenRefusal::Memory) => Err(AllocError),
-    }
-}
-
-/// The table of an index of so many chunks, for so many workers that run one list.
-pub fn table_for_list(
-    alloc: Global,
-    chunks: u32,
-    workers: u32,
-) -> Result<Blank<ZoneLaw>, AllocError>
-    requires enough { 16 ≤ chunks }
-    requires few { chunks ≤ 4096 }
-    requires few_workers { workers ≤ 16 }
-    ensures chunks { IfOk result (λ blank. blank.shared.table.shared.key.chunks ≡ chunks) }
-    ensures passes { IfOk result (λ blank. blank.shared.table.shared.key.passes ≡ passes_fed workers) }
-{
-    Blank::new(alloc, chunks, workers + 1)
-}
-
-/// Opens an index on a zone of the origin that stands as these items, by a table for so many workers, and hands the commands out to
-/// these. What they ask for is as scripts of octets say it.
-pub fn run_list<R: Threads + Wait + Sync, G: Gate>(
-    rt: &R,
-    alloc: Global,
-    blank: Blank<ZoneLaw>,
-    origin: &Name,
-    items: &[Item],
-    commands: &[Command],
-    workers: u32,
-    gate: &G,
-) -> Result<FedRan, AllocError>
-    requires workers { (1 ≤ workers) × (workers ≤ 16) }
-    requires passes { blank.shared.table.shared.key.passes ≡ passes_fed workers }
-    requires zone { IsZone origin.now (entries_of_items items.now) }
-    requires count { (1 ≤ length commands.now) × (length commands.now ≤ 10000) }
-    requires no_snapshots { AllByRecursion NeedsNoSnapshot (map command_view commands.now) }
-    requires said { AllByRecursion (AllAsked origin.now) (map command_view commands.now) }
-    ensures { (zone : Version) → StandsAs (entries_of_items items.now) zone
-        → IfOk result (FedRanOn blank.shared.table.shared.key.chunks workers origin.now zone (map command_view commands.now)) }
-{
-    run_list_named::<R, Brand, G>(rt, alloc, blank, origin, items, commands, workers, gate)
 }

@@ -33,10 +33,11 @@ use Rattle.qp_main.specs.declared.run_report.Telling.TheVariants.{Report, Summar
 use Rattle.job_model.specs.Sizes.{cell_count}
 use Rattle.shared_index.specs.Openings.{room_in}
 use Rattle.job_commands.specs.Runs.{IsRun}
-use Rattle.job_threads.specs.Zones.{FedRanOn, RanOn}
-use Rattle.job_threads.specs.declared.feeding.FedFinished.{FedFinished}
+use Rattle.feed_threads.specs.Zones.{FedRanOn}
+use Rattle.job_threads.specs.Zones.{RanOn}
+use Rattle.feed_threads.specs.declared.feeding.FedFinished.{FedFinished}
 use Rattle.job_threads.specs.declared.job.Finished.{Finished}
-use Rattle.job_threads.specs.declared.zone.FedRan.TheVariants as fed
+use Rattle.feed_threads.specs.declared.zone.FedRan.TheVariants as fed
 use Rattle.job_threads.specs.declared.zone.Ran.TheVariants as ran
 use Rattle.qp_main.specs.Fits.{fits}
 use Rattle.qp_main.specs.Due.{Answers, FedAnswers, FedReported, Reported}

@@ -6,10 +6,11 @@ ghost use Rattle.qp_main.specs.Prelude.{job_view, list_view, AllAsked, IsZone, S
 use crate::refusal_lines::no_room;
 use crate::status::Status;
 use command_line::Invocation;
+use feed_threads::{FedFinished, FedRan, run_list};
 use job_commands::{Gate, ZoneLaw};
 use job_report::{Pieces, print_fed, print_outcomes};
 use job_script::{Command, Job, any_fed_refused, any_refused, print_summary};
-use job_threads::{FedFinished, FedRan, Finished, Ran, run_list, run_zone};
+use job_threads::{Finished, Ran, run_zone};
 use shared_index::Blank;
 use std::alloc::{AllocError, Global};
 use std::sync::Wait;

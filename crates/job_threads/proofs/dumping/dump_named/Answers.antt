@@ -6,7 +6,7 @@ use Rattle.shared_index.specs.Openings.{room_in}
 use Rattle.zone_dump.proofs.WritingLaws.{on_any_err}
 use Rattle.job_threads.specs.Dumps.{StopsOn}
 use Rattle.job_commands.proofs.ZoneLaws.{zone_rises, zone_lawful}
-use Rattle.job_threads.proofs.OpenLaws.{new_passes}
+use Rattle.job_commands.proofs.OpenLaws.{new_passes}
 use Rattle.job_threads.proofs.dumping.dump_named.Goals as goal
 
 pub open-requires-clause-rising : goal.open-requires-clause-rising

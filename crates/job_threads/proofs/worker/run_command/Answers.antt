@@ -4,9 +4,9 @@ use Rattle.job_model.specs.Commands.{AskHeld}
 use Rattle.shared_index.specs.Passes.{first_version, known_at}
 use Rattle.job_commands.specs.Histories.{Setup}
 use Rattle.job_commands.specs.Steps.{Step}
-use Rattle.job_threads.specs.Stations.{station}
+use Rattle.job_commands.specs.Stations.{station}
 use Rattle.job_commands.proofs.ShowLaws.{seat_told}
-use Rattle.job_threads.proofs.StationLaws.{step_is}
+use Rattle.job_commands.proofs.StationLaws.{step_is}
 use Rattle.job_commands.proofs.StepLaws.{under_itself}
 use Rattle.job_commands.proofs.ZoneLaws.{opens_still}
 use Rattle.job_threads.proofs.worker.run_command.Goals as goal

@@ -6,7 +6,7 @@ use Rattle.job_script.specs.declared.outcomes.Outcome.{Outcome}
 use Rattle.report_laws.specs.Changes.{AllAsked}
 use Rattle.shared_index.specs.Passes.{known_at}
 use Rattle.job_commands.specs.Calls.{IsHeard, next_number}
-use Rattle.job_threads.specs.Stations.{station}
+use Rattle.job_commands.specs.Stations.{station}
 use Rattle.job_commands.specs.Works.{ended}
 use Rattle.job_commands.proofs.ShowLaws.{seat_told}
 use Rattle.job_commands.proofs.CallLaws.{one_more}

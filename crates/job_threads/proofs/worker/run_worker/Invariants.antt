@@ -9,7 +9,7 @@ use Rattle.shared_index.specs.Passes.{known_at}
 use Rattle.job_commands.specs.Histories.{Setup}
 use Rattle.job_commands.specs.Calls.{IsHeard, next_number}
 use Rattle.job_commands.specs.Commands.{IsSetup, OpensAt}
-use Rattle.job_threads.specs.Stations.{IsPlaced, station}
+use Rattle.job_commands.specs.Stations.{IsPlaced, station}
 use Rattle.job_commands.specs.Works.{Begins, Numbers}
 use Rattle.job_commands.proofs.WorkLaws.{WorkerAt}
 use Rattle.job_threads.proofs.worker.run_worker.Given as goal

@@ -8,7 +8,7 @@ use Rattle.trie_model.specs.Shape.{cells}
 use Rattle.trie_write.specs.Entries.{entries_of_items}
 use Rattle.job_commands.specs.Histories.{Setup}
 use Rattle.job_commands.proofs.ZoneLaws.{zone_rises, zone_lawful}
-use Rattle.job_threads.proofs.OpenLaws.{new_passes, all_open}
+use Rattle.job_commands.proofs.OpenLaws.{new_passes, all_open}
 use Rattle.job_threads.proofs.zone.run_named.Goals as goal
 
 pub open-requires-clause-rising : goal.open-requires-clause-rising

@@ -1,8 +1,8 @@
 use Rattle.std.proofs.Common.{ℕ, rules, subst, sym}
 use Rattle.job_report.specs.Pieces.{pieces_text}
 use Rattle.job_script.specs.Views.{list_view}
-use Rattle.job_threads.specs.Zones.{FedRanOn}
-use Rattle.job_threads.specs.declared.zone.FedRan.TheVariants as fed
+use Rattle.feed_threads.specs.Zones.{FedRanOn}
+use Rattle.feed_threads.specs.declared.zone.FedRan.TheVariants as fed
 use Rattle.qp_main.proofs.ReportingLemmas.{list_told}
 use Rattle.qp_main.proofs.run_report.report_list.Goals as goal
 

@@ -1,0 +1,3 @@
+pub mod ServeLaws
+pub mod OrderLaws
+pub mod FedRunLaws

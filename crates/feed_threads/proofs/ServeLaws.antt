@@ -1,0 +1,104 @@
+-- A worker that runs commands of one list, as it gets their numbers.
+use Rattle.std.proofs.Common.{◌≡◌, ◌∙◌, ℕ, zero, suc, ◌-◌, ◌<◌, true, false, List, [], ◌∷◌, ◌++◌, length, map, get_or, Option, Some, None, Result, Ok, Err, IfOk, refl, sym, ap, subst, arith}
+use Rattle.std.proofs.lemmas.List.{get_or-map, length-map, map-append}
+use Rattle.std.specs.List.{All, Any, AllByRecursion}
+use Rattle.std.proofs.lemmas.List.Folds.{Any-from_list_any}
+use Rattle.job_model.specs.Commands.{Command, Ask, Hold, AskHeld, Release, Block, Compact, MayCome, NeedsNoSnapshot}
+use Rattle.job_script.specs.Views.{command_view}
+use Rattle.job_script.specs.declared.commands.Command.{Command as Said}
+use Rattle.job_script.specs.declared.outcomes.Outcome.{Outcome}
+use Rattle.feed_core.specs.Feeds.{Handout, Takings, lists_of}
+use Rattle.shared_cells.specs.Views.{is_told}
+use Rattle.shared_index.specs.Passes.{Known, Learnt, known_at}
+use Rattle.job_commands.specs.Histories.{Setup}
+use Rattle.job_commands.specs.Steps.{Step}
+use Rattle.job_commands.specs.Commands.{Seat}
+use Rattle.job_commands.specs.Stations.{station}
+use Rattle.job_commands.specs.Closings.{Gathers}
+use Rattle.job_commands.specs.Works.{IsNew, Numbers, only}
+use Rattle.feed_threads.specs.Feeds.{command_at, commands_at, commands_served, done_seat, numbers_served, outcomes_served, seats_served}
+use Rattle.feed_threads.specs.declared.ordering.Served.{Served}
+use Rattle.job_commands.proofs.HistoryLaws.{opened_same}
+use Rattle.job_commands.proofs.WorkLaws.{WorkerAt, worker_goes_on, worker_starts}
+
+-- ---- the command of a number
+
+pub command_here : (commands : List Said) (number : ℕ) (here : Said) → number - 1 < length commands → here ≡ get_or commands (number - 1) here → command_at (map command_view commands) number ≡ command_view here
+command_here commands number here lt is = get_or-map command_view commands (number - 1) here Compact lt ∙ ap command_view (sym is)
+
+all_at : {X : Type 0} (P : X → Type 0) (xs : List X) (i : ℕ) (d : X) → AllByRecursion P xs → i < length xs → P (get_or xs i d)
+all_at P [] i d all lt = absurd (omega arith)
+all_at P (x ∷ xs) zero d all lt = all.0
+all_at P (x ∷ xs) (suc i) d all lt = all_at P xs i d all.1 (omega arith)
+
+-- what is so of all commands
+pub so_here : (P : Command → Type 0) (commands : List Said) (number : ℕ) (here : Said) → AllByRecursion P (map command_view commands) → number - 1 < length commands → here ≡ get_or commands (number - 1) here → P (command_view here)
+so_here P commands number here all lt is =
+    subst P (command_here commands number here lt is) (all_at P (map command_view commands) (number - 1) Compact all (omega (arith, lt, length-map commands command_view)))
+
+pub plain_here : (commands : List Said) (number : ℕ) (here : Said) → AllByRecursion NeedsNoSnapshot (map command_view commands) → number - 1 < length commands → here ≡ get_or commands (number - 1) here → NeedsNoSnapshot (command_view here)
+plain_here commands number here all lt is = so_here NeedsNoSnapshot commands number here all lt is
+
+may_come : (c : Command) → NeedsNoSnapshot c → MayCome false c
+may_come (Ask question) plain = tt
+may_come Hold plain = absurd plain
+may_come (AskHeld question) plain = absurd plain
+may_come Release plain = absurd plain
+may_come (Block _ asked ending) plain = tt
+may_come Compact plain = tt
+
+-- ---- how far the worker has come
+
+pub serve_starts : (s : Setup) (number : ℕ) (seat : Option Seat) → IsNew number s.opening (known_at seat) → WorkerAt s (only number) (station seat (Some seat) None) [] [] []
+serve_starts s number seat new = worker_starts s (only number) (known_at seat) (known_at seat) [] (record { asker = new; holder = new }) tt
+
+pub serve_next : (s : Setup) (numbers : Numbers) (seat after first : Option Seat) (all : List Command) (taken more : List ℕ) (number : ℕ) (here : Command) (os most : List Outcome) (o : Outcome) → is_told (known_at seat).seen.opening ≡ true → command_at all number ≡ here → NeedsNoSnapshot here
+    → more ≡ taken ++ number ∷ [] → most ≡ os ++ o ∷ [] → WorkerAt s numbers (station seat (Some first) None) (commands_at all taken) [] os → Step s here o (station seat (Some first) None) (station after (Some first) None)
+    → WorkerAt s numbers (station after (Some first) None) (commands_at all more) [] most
+serve_next s numbers seat after first all taken more number here os most o told is plain is_more is_most w step =
+    let ahead : WorkerAt s numbers (station seat (Some first) None) (commands_at all taken) (here ∷ []) os = record {
+      alike = w.alike;
+      sight = w.sight;
+      under = w.under;
+      told = w.told;
+      work = w.work;
+      asker = w.asker;
+      holder = w.holder;
+      turn = (may_come here plain, tt);
+    } in
+    let commands : commands_at all more ≡ commands_at all taken ++ here ∷ [] = ap (commands_at all) is_more ∙ map-append (command_at all) taken (number ∷ []) ∙ ap (λ (c : Command). commands_at all taken ++ c ∷ []) is in
+    subst (λ (l : List Outcome). WorkerAt s numbers (station after (Some first) None) (commands_at all more) [] l) (sym is_most)
+    (subst (λ (l : List Command). WorkerAt s numbers (station after (Some first) None) l [] (os ++ o ∷ [])) (sym commands)
+    (worker_goes_on s numbers (station seat (Some first) None) (station after (Some first) None) (commands_at all taken) here [] os o (opened_same (known_at after).seen (known_at seat).seen told step.asks) ahead step))
+
+-- its seat is done
+pub seat_done : (old new : Takings) (feed : Handout) (numbers : List ℕ) → old.feed ≡ feed → old.taken ≡ numbers → new ≡ record old { done = true } → new ≡ done_seat feed numbers
+seat_done old new feed numbers same taken after =
+    after ∙ ap (λ (f : Handout). record { feed = f; taken = old.taken; done = true }) same ∙ ap (done_seat feed) taken
+
+-- ---- all seats are back
+
+pub seats_of_feed : (feed : Handout) (served : List Served) → All (λ seat. seat.feed ≡ feed) (seats_served feed served)
+seats_of_feed feed [] k d lt = absurd (omega arith)
+seats_of_feed feed (v ∷ served) zero d lt = refl
+seats_of_feed feed (v ∷ served) (suc k) d lt = seats_of_feed feed served k d (omega (arith, lt))
+
+pub lists_served : (feed : Handout) (served : List Served) → lists_of (seats_served feed served) ≡ numbers_served served
+lists_served feed [] = refl
+lists_served feed (v ∷ served) = ap (λ (ls : List (List ℕ)). v.numbers.items ∷ ls) (lists_served feed served)
+
+-- the seats were told that none is left
+pub some_done : (feed : Handout) (served : List Served) → 0 < length served → Any (λ seat. seat.done ≡ true) (seats_served feed served)
+some_done feed [] some = absurd (omega (arith, some))
+some_done feed (v ∷ served) some = Any-from_list_any (λ (seat : Takings). seat.done) (seats_served feed (v ∷ served)) refl
+
+-- ---- what it comes to
+
+-- what one more worker of one list comes to, if there is memory for it
+pub gathers_served : {G E : Type 0} (r : Result G E) (served_of : G → List Served) (views_of' : G → List Known) (main_of : G → Known) (s : Setup) (before : List Known) (commands : List Command) (served : List Served) (views : List Known) (main seen : Known)
+    → IfOk r (λ g. served_of g ≡ served) → IfOk r (λ g. views_of' g ≡ views) → IfOk r (λ g. Learnt main (main_of g) seen.seen) → ((after : Known) → Learnt main after seen.seen → Gathers s before (commands_served commands served) (outcomes_served served) views after)
+    → IfOk r (λ g. Gathers s before (commands_served commands (served_of g)) (outcomes_served (served_of g)) (views_of' g) (main_of g))
+gathers_served (Ok g) served_of views_of' main_of s before commands served views main seen is_served is_views learnt gathers =
+    subst (λ (l : List Served). Gathers s before (commands_served commands l) (outcomes_served l) (views_of' g) (main_of g)) (sym is_served)
+    (subst (λ (l : List Known). Gathers s before (commands_served commands served) (outcomes_served served) l (main_of g)) (sym is_views) (gathers (main_of g) learnt))
+gathers_served (Err e) served_of views_of' main_of s before commands served views main seen is_served is_views learnt gathers = tt

@@ -1,0 +1,30 @@
+use Rattle.std.proofs.Common.{◌≡◌, ℕ, [], Some, None, length, map}
+use Rattle.std.specs.Prelude.{IsSome}
+use Rattle.std.specs.List.{AllByRecursion}
+use Rattle.job_script.specs.Views.{command_view}
+use Rattle.feed_core.specs.Feeds.{remaining}
+use Rattle.shared_index.specs.Passes.{known_at}
+use Rattle.job_commands.specs.Histories.{Setup}
+use Rattle.job_commands.specs.Calls.{IsHeard}
+use Rattle.job_commands.specs.Commands.{IsSetup, OpensAt}
+use Rattle.job_commands.specs.Stations.{station}
+use Rattle.job_commands.specs.Works.{IsNew, only}
+use Rattle.feed_threads.specs.Feeds.{commands_at}
+use Rattle.job_commands.proofs.WorkLaws.{WorkerAt}
+use Rattle.feed_threads.proofs.feeding.serve.Given as goal
+
+abbrev pub invariant-loop-number : goal.invariant-loop-number
+invariant-loop-number g l = record {
+  here : IsSome l.pass.seat;
+  place : l.pass.place ≡ l.index.place;
+  feed : l.seat.feed ≡ l.feed;
+  taken : l.seat.taken ≡ l.numbers.items;
+  alike : length l.numbers.items ≡ length l.list.items;
+  heard : AllByRecursion (IsHeard (g.G.Gate.hears l.gate) l.worker) l.numbers.items;
+  opens : OpensAt l.origin (known_at l.pass.seat);
+  at : (s : Setup) (number : ℕ) → IsSetup s l.origin l.index.shared.table.shared.key (known_at l.fn.pass.seat) → IsNew number s.opening (known_at l.fn.pass.seat)
+      → WorkerAt s (only number) (station l.pass.seat (Some l.fn.pass.seat) None) (commands_at (map command_view l.commands) l.numbers.items) [] l.list.items;
+}
+
+abbrev pub decreases-loop-number : goal.decreases-loop-number
+decreases-loop-number g l = remaining l.seat

@@ -1,0 +1,28 @@
+use Rattle.std.proofs.Common.{◌≡◌, ◌≤◌, refl, sym, ap, subst}
+use Rattle.shared_index.specs.Openings.{room_in}
+use Rattle.trie_model.specs.Shape.{cells}
+use Rattle.trie_write.specs.Entries.{entries_of_items}
+use Rattle.job_commands.specs.Histories.{Setup}
+use Rattle.job_commands.proofs.ZoneLaws.{zone_rises, zone_lawful}
+use Rattle.job_commands.proofs.OpenLaws.{new_passes, all_open}
+use Rattle.feed_threads.proofs.zone.run_list_named.Goals as goal
+
+pub open-requires-clause-rising : goal.open-requires-clause-rising
+open-requires-clause-rising g c = zone_rises c.args.origin.now (entries_of_items c.args.items.now) c.requires.zone
+
+pub open-requires-clause-lawful : goal.open-requires-clause-lawful
+open-requires-clause-lawful g c = zone_lawful c.args.origin.now (entries_of_items c.args.items.now) c.requires.zone
+
+pub run_feed-requires-clause-opens : goal.run_feed-requires-clause-opens
+run_feed-requires-clause-opens g c = λ κs bounds. all_open c.in-Ok.passes.items (λ p. p.seat) (entries_of_items c.args.items.now) c.args.origin.now (λ p. p.place ≡ 0) c.requires.zone c.in-Ok.ensures.passes
+
+pub returns-in_ok-finished-in-Ok : goal.returns-in_ok-finished-in-Ok
+returns-in_ok-finished-in-Ok g c = λ zone stands.
+    let es = entries_of_items c.args.items.now in
+    let size = c.args.blank.shared.table.shared.key in
+    let s : Setup = record { chunks = size.chunks; passes = size.passes; origin = c.args.origin.now; opening = es } in
+    let same = c.in-Ok.ensures.size in (
+      subst (λ es. cells es ≤ room_in size.chunks) (sym stands.entries) c.in-Ok.ensures.fits,
+      c.in_ok-finished-in-Ok.ensures.ran s zone (record { origin_is = refl; chunks = ap (λ k. k.chunks) (sym same); passes = ap (λ k. k.passes) (sym same) }) stands
+          (new_passes c.in-Ok.passes.items (λ p. p.seat) es (λ p. p.place ≡ 0) c.in-Ok.ensures.passes c.in-Ok.ensures.unused),
+    )

@@ -1,0 +1,3 @@
+pub mod Feeds
+pub mod Zones
+pub mod Prelude

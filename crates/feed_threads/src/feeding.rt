@@ -1,0 +1,262 @@
+//! One list of commands, of which each worker takes the next one when it comes free.
+ghost use Rattle.std.specs.Prelude.{◌≡◌, ◌+◌, ◌<◌, ◌≤◌, ◌∷◌, ℕ, List, All, IsSome, IfOk, length, map, Some, None};
+ghost use Rattle.feed_threads.specs.Prelude.{AllByRecursion, IsSync, Version, NeedsNoSnapshot, passes_fed, command_view, new_seat};
+ghost use Rattle.feed_threads.specs.Prelude.{AllAsked, known_at, Learnt, AreAll, Setup, StandsAs, AreNew, IsNew, WorkerRan};
+ghost use Rattle.feed_threads.specs.Prelude.{ended, only, IsHeard, IsIndex, IsSetup, OpensAt, Gathers, FedHeard, IsFedRun};
+ghost use Rattle.feed_threads.specs.Prelude.{IsServed, commands_at, commands_served, done_seat, outcomes_served, seats_served};
+
+use crate::ordering::{Served, in_order};
+use dns_name::Name;
+use feed_core::{Feed, FeedSeat};
+use job_commands::{Gate, Room, ZoneLaw, close_index, run_alone, tell_after, tell_before};
+use job_script::{Command, FedOutcome, Outcomes};
+use shared_index::{Index, Named, Pass};
+use std::alloc::{AllocError, Global};
+use std::sync::Wait;
+use std::thread::{Threads, join};
+
+/// What became of one list: an outcome of each command, in order, the last version, and how many names that has.
+#[derive(Drop)]
+pub struct FedFinished {
+    pub outcomes: Vec<FedOutcome>,
+    pub version: u64,
+    pub names: u64,
+}
+
+// What a worker did. Its pass and its seat are back.
+#[derive(Drop)]
+struct FedDone<N: Named> {
+    served: Served,
+    pass: Pass<N>,
+    seat: FeedSeat,
+}
+
+// What workers did. All passes and seats are back; main's pass has learnt what they have seen.
+#[derive(Drop)]
+struct FedGathered<N: Named> {
+    served: Vec<Served>,
+    seats: Vec<FeedSeat>,
+    passes: Vec<Pass<N>>,
+    main: Pass<N>,
+}
+
+// Runs commands as a worker of this number until none is left, each between the gate's two calls.
+fn serve<R: Wait, N: Named, G: Gate>(
+    rt: &R,
+    alloc: Global,
+    origin: &Name,
+    index: &Index<ZoneLaw, N>,
+    commands: &[Command],
+    feed: &Feed,
+    worker: u32,
+    mut pass: Pass<N>,
+    mut seat: FeedSeat,
+    gate: &G,
+) -> Result<FedDone<N>, AllocError>
+    requires here { IsSome pass.seat }
+    requires place { pass.place ≡ index.now.place }
+    requires seat { seat ≡ new_seat feed.now }
+    requires count { feed.now.count ≡ length commands.now }
+    requires no_snapshots { AllByRecursion NeedsNoSnapshot (map command_view commands.now) }
+    requires opens { OpensAt origin.now (known_at pass.seat) }
+    requires said { AllByRecursion (AllAsked origin.now) (map command_view commands.now) }
+    ensures here { IfOk result (λ d. IsSome d.pass.seat) }
+    ensures place { IfOk result (λ d. d.pass.place ≡ index.now.place) }
+    ensures seat { IfOk result (λ d. d.seat ≡ done_seat feed.now d.served.numbers.items) }
+    ensures alike { IfOk result (λ d. IsServed d.served) }
+    ensures ran { (s : Setup) (number : ℕ) → IsSetup s origin.now index.now.shared.table.shared.key (known_at pass.seat) → IsNew number s.opening (known_at pass.seat)
+        → IfOk result (λ d. WorkerRan s (only number) (ended (known_at d.pass.seat) (known_at pass.seat)) (commands_at (map command_view commands.now) d.served.numbers.items) d.served.outcomes.list.items) }
+    ensures heard { IfOk result (λ d. AllByRecursion (IsHeard (G.hears gate.now) worker) d.served.numbers.items) }
+{
+    let mut room = Room::new(alloc)?;
+    let mut numbers = Vec::new(alloc);
+    let mut list = Vec::new(alloc);
+    while let Some(number) = seat.take(rt, feed) {
+        let command = &commands[number as usize - 1];
+        let place = list.len();
+        tell_before(gate, worker, number, place, &list);
+        let outcome = run_alone(rt, alloc, origin, index, &mut pass, command, &mut room)?;
+        numbers.push(number)?;
+        list.push(outcome)?;
+        tell_after(gate, worker, number, place, &list);
+    }
+    let outcomes = Outcomes { list };
+    Ok(FedDone {
+        served: Served { numbers, outcomes },
+        pass,
+        seat,
+    })
+}
+
+// A worker is done beside others.
+fn with_served<N: Named>(
+    index: &Index<ZoneLaw, N>,
+    done: FedDone<N>,
+    others: FedGathered<N>,
+) -> Result<FedGathered<N>, AllocError>
+    requires here { (IsSome done.pass.seat) × (IsSome others.main.seat) }
+    requires places { (done.pass.place ≡ index.now.place) × (others.main.place ≡ index.now.place) }
+    requires others { All (λ p. (IsSome p.seat) × (p.place ≡ index.now.place)) others.passes.items }
+    ensures main { IfOk result (λ g. (IsSome g.main.seat) × (g.main.place ≡ index.now.place)) }
+    ensures here { IfOk result (λ g. All (λ p. (IsSome p.seat) × (p.place ≡ index.now.place)) g.passes.items) }
+    ensures served { IfOk result (λ g. g.served.items ≡ done.served ∷ others.served.items) }
+    ensures seats { IfOk result (λ g. g.seats.items ≡ done.seat ∷ others.seats.items) }
+    ensures passes { IfOk result (λ g. map (λ p. known_at p.seat) g.passes.items ≡ known_at done.pass.seat ∷ map (λ p. known_at p.seat) others.passes.items) }
+    ensures learnt { IfOk result (λ g. Learnt (known_at others.main.seat) (known_at g.main.seat) (known_at done.pass.seat).seen) }
+{
+    let FedDone {
+        served: one,
+        mut pass,
+        seat,
+    } = done;
+    let FedGathered {
+        mut served,
+        mut seats,
+        mut passes,
+        mut main,
+    } = others;
+    let seen = pass.note(index);
+    main.learn(index, seen);
+    passes.insert(0, pass)?;
+    seats.insert(0, seat)?;
+    served.insert(0, one)?;
+    Ok(FedGathered {
+        served,
+        seats,
+        passes,
+        main,
+    })
+}
+
+// Runs the workers beside each other, from the one of a number on, one for each seat. Each has one of the passes, from the end on, and
+// main the first. The first of them runs in the thread that calls.
+#[cycle(serving)]
+fn serve_all<R: Threads + Wait + Sync, N: Named + Send + Sync, G: Gate>(
+    rt: &R,
+    alloc: Global,
+    origin: &Name,
+    index: &Index<ZoneLaw, N>,
+    commands: &[Command],
+    feed: &Feed,
+    worker: u32,
+    mut passes: Vec<Pass<N>>,
+    mut seats: Vec<FeedSeat>,
+    gate: &G,
+) -> Result<FedGathered<N>, AllocError>
+    requires passes { length passes.items ≡ length seats.items + 1 }
+    requires here { All (λ p. (IsSome p.seat) × (p.place ≡ index.now.place)) passes.items }
+    requires seats { All (λ seat. seat ≡ new_seat feed.now) seats.items }
+    requires count { feed.now.count ≡ length commands.now }
+    requires no_snapshots { AllByRecursion NeedsNoSnapshot (map command_view commands.now) }
+    requires opens { All (λ p. OpensAt origin.now (known_at p.seat)) passes.items }
+    requires said { AllByRecursion (AllAsked origin.now) (map command_view commands.now) }
+    ensures main { IfOk result (λ g. (IsSome g.main.seat) × (g.main.place ≡ index.now.place)) }
+    ensures here { IfOk result (λ g. All (λ p. (IsSome p.seat) × (p.place ≡ index.now.place)) g.passes.items) }
+    ensures many { IfOk result (λ g. length g.served.items ≡ length seats.items) }
+    ensures seats { IfOk result (λ g. g.seats.items ≡ seats_served feed.now g.served.items) }
+    ensures alike { IfOk result (λ g. AllByRecursion IsServed g.served.items) }
+    ensures ran { (s : Setup) → IsIndex s origin.now index.now.shared.table.shared.key → AreNew s.opening (map (λ p. known_at p.seat) passes.items)
+        → IfOk result (λ g. Gathers s (map (λ p. known_at p.seat) passes.items) (commands_served (map command_view commands.now) g.served.items) (outcomes_served g.served.items)
+        (map (λ p. known_at p.seat) g.passes.items) (known_at g.main.seat)) }
+    ensures heard { IfOk result (λ g. FedHeard (G.hears gate.now) worker g.served.items) }
+{
+    let Some(pass) = passes.pop() else {
+        // There is one for each seat, and one.
+        unreachable!();
+    };
+    let Some(seat) = seats.pop() else {
+        return Ok(FedGathered {
+            served: Vec::new(alloc),
+            seats,
+            passes,
+            main: pass,
+        });
+    };
+    let next = worker.saturating_add(1);
+    let first = move || -> Result<FedDone<N>, AllocError>
+        requires here { IsSome pass.seat }
+        requires place { pass.place ≡ index.now.place }
+        requires seat { seat ≡ new_seat feed.now }
+        requires count { feed.now.count ≡ length commands.now }
+        requires no_snapshots { AllByRecursion NeedsNoSnapshot (map command_view commands.now) }
+        requires opens { OpensAt origin.now (known_at pass.seat) }
+        requires said { AllByRecursion (AllAsked origin.now) (map command_view commands.now) }
+        ensures here { IfOk result (λ d. IsSome d.pass.seat) }
+        ensures place { IfOk result (λ d. d.pass.place ≡ index.entry.now.place) }
+        ensures seat { IfOk result (λ d. d.seat ≡ done_seat feed.entry.now d.served.numbers.items) }
+        ensures alike { IfOk result (λ d. IsServed d.served) }
+        ensures ran { (s : Setup) (number : ℕ) → IsSetup s origin.entry.now index.entry.now.shared.table.shared.key (known_at pass.seat) → IsNew number s.opening (known_at pass.seat)
+            → IfOk result (λ d. WorkerRan s (only number) (ended (known_at d.pass.seat) (known_at pass.seat)) (commands_at (map command_view commands.entry.now) d.served.numbers.items) d.served.outcomes.list.items) }
+        ensures heard { IfOk result (λ d. AllByRecursion (IsHeard (G.hears gate.entry.now) worker) d.served.numbers.items) }
+    {
+        serve(
+            rt, alloc, origin, index, commands, feed, worker, pass, seat, gate,
+        )
+    };
+    let rest = move || -> Result<FedGathered<N>, AllocError>
+        requires sync { IsSync R.row }
+        requires passes { length passes.items ≡ length seats.items + 1 }
+        requires here { All (λ p. (IsSome p.seat) × (p.place ≡ index.now.place)) passes.items }
+        requires seats { All (λ seat. seat ≡ new_seat feed.now) seats.items }
+        requires count { feed.now.count ≡ length commands.now }
+        requires no_snapshots { AllByRecursion NeedsNoSnapshot (map command_view commands.now) }
+        requires opens { All (λ p. OpensAt origin.now (known_at p.seat)) passes.items }
+        requires said { AllByRecursion (AllAsked origin.now) (map command_view commands.now) }
+        ensures main { IfOk result (λ g. (IsSome g.main.seat) × (g.main.place ≡ index.entry.now.place)) }
+        ensures here { IfOk result (λ g. All (λ p. (IsSome p.seat) × (p.place ≡ index.entry.now.place)) g.passes.items) }
+        ensures many { IfOk result (λ g. length g.served.items ≡ length seats.items) }
+        ensures seats { IfOk result (λ g. g.seats.items ≡ seats_served feed.entry.now g.served.items) }
+        ensures alike { IfOk result (λ g. AllByRecursion IsServed g.served.items) }
+        ensures ran { (s : Setup) → IsIndex s origin.entry.now index.entry.now.shared.table.shared.key → AreNew s.opening (map (λ p. known_at p.seat) passes.items)
+            → IfOk result (λ g. Gathers s (map (λ p. known_at p.seat) passes.items) (commands_served (map command_view commands.entry.now) g.served.items) (outcomes_served g.served.items)
+            (map (λ p. known_at p.seat) g.passes.items) (known_at g.main.seat)) }
+        ensures heard { IfOk result (λ g. FedHeard (G.hears gate.entry.now) next g.served.items) }
+    {
+        serve_all(
+            rt, alloc, origin, index, commands, feed, next, passes, seats, gate,
+        )
+    };
+    let (done, others) = join(rt, first, rest);
+    with_served(index, done?, others?)
+}
+
+/// Runs one list of commands from version 0 on, by a worker for each pass but main's. The gate is told of each command.
+pub fn run_feed<R: Threads + Wait + Sync, N: Named + Send + Sync, G: Gate>(
+    rt: &R,
+    alloc: Global,
+    origin: &Name,
+    index: Index<ZoneLaw, N>,
+    passes: Vec<Pass<N>>,
+    commands: &[Command],
+    workers: u32,
+    gate: &G,
+) -> Result<FedFinished, AllocError>
+    requires workers { (1 ≤ workers) × (workers ≤ 16) }
+    requires passes { length passes.items ≡ passes_fed workers }
+    requires size { index.shared.table.shared.key.passes ≡ length passes.items }
+    requires all { AreAll (length passes.items) (map (λ p. known_at p.seat) passes.items) }
+    requires here { All (λ p. (IsSome p.seat) × (p.place ≡ index.place)) passes.items }
+    requires count { (1 ≤ length commands.now) × (length commands.now ≤ 10000) }
+    requires no_snapshots { AllByRecursion NeedsNoSnapshot (map command_view commands.now) }
+    requires opens { All (λ p. OpensAt origin.now (known_at p.seat)) passes.items }
+    requires said { AllByRecursion (AllAsked origin.now) (map command_view commands.now) }
+    ensures ran { (s : Setup) (zone : Version) → IsIndex s origin.now index.shared.table.shared.key → StandsAs s.opening zone → AreNew s.opening (map (λ p. known_at p.seat) passes.items)
+        → IfOk result (λ f. IsFedRun s.chunks workers origin.now zone (map command_view commands.now) f.outcomes.items f.version f.names) }
+{
+    let (feed, seats) = Feed::of(rt, alloc, commands.len() as u32, workers)?;
+    let FedGathered {
+        served,
+        seats,
+        passes,
+        main,
+    } = serve_all(
+        rt, alloc, origin, &index, commands, &feed, 1, passes, seats, gate,
+    )?;
+    let end = feed.close(rt, seats);
+    let last = close_index(index, main, passes)?;
+    Ok(FedFinished {
+        outcomes: in_order(alloc, end, served)?,
+        version: last.version,
+        names: last.names,
+    })
+}

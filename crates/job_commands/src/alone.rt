@@ -1,0 +1,45 @@
+//! Commands that need no snapshot. One pass of the index is enough for them.
+ghost use Rattle.std.specs.Prelude.{◌≡◌, IsSome, IfOk, Option};
+ghost use Rattle.job_commands.specs.Prelude.{NeedsNoSnapshot, command_view, AllAsked, known_at, Setup, IsSetup};
+ghost use Rattle.job_commands.specs.Prelude.{OpensAt, Seat, IsUnder, Step, Pinned, IsPlaced, holder_view, station};
+
+use crate::asking::run_question;
+use crate::compactions::run_compaction;
+use crate::law::ZoneLaw;
+use crate::room::Room;
+use crate::transactions::run_block;
+use dns_name::Name;
+use job_script::{Command, Outcome};
+use shared_index::{Index, Named, Pass};
+use std::alloc::{AllocError, Global};
+use std::sync::Wait;
+
+/// Runs a question to the current version, a transaction or a compaction. What a second pass knows stays the same, wherever that is.
+pub fn run_alone<R: Wait, N: Named>(
+    rt: &R,
+    alloc: Global,
+    origin: &Name,
+    index: &Index<ZoneLaw, N>,
+    pass: &mut Pass<N>,
+    command: &Command,
+    room: &mut Room,
+) -> Result<Outcome, AllocError>
+    requires here { IsSome pass.old.seat }
+    requires place { pass.old.place ≡ index.now.place }
+    requires no_snapshot { NeedsNoSnapshot (command_view command.now) }
+    requires opens { OpensAt origin.now (known_at pass.old.seat) }
+    requires said { AllAsked origin.now (command_view command.now) }
+    ensures here { IsSome pass.new.seat }
+    ensures place { pass.new.place ≡ pass.old.place }
+    ensures steps { (s : Setup) → IsSetup s origin.now index.now.shared.table.shared.key (known_at pass.old.seat)
+        → (spare : Option (Option Seat)) (held : Option Pinned) → IsPlaced spare held → IsUnder (known_at pass.old.seat) (holder_view spare held)
+        → IfOk result (λ o. Step s (command_view command.now) o (station pass.old.seat spare held) (station pass.new.seat spare held)) }
+{
+    match command {
+        Command::Ask(question) => run_question(alloc, origin, index, pass, question, room),
+        Command::Block(block) => run_block(rt, alloc, origin, index, pass, block, &mut room.items),
+        Command::Compact => Ok(run_compaction(rt, index, pass)),
+        // They need a snapshot.
+        Command::Hold | Command::AskHeld(_) | Command::Release => unreachable!(),
+    }
+}

@@ -1,0 +1,39 @@
+//! The end of an index whose workers are done.
+ghost use Rattle.std.specs.Prelude.{◌≡◌, All, IsSome, IfOk, map};
+ghost use Rattle.job_commands.specs.Prelude.{known_at, EndsRun};
+
+use crate::law::ZoneLaw;
+use shared_index::{Index, Named, Pass};
+use std::alloc::AllocError;
+use trie_read::Reading;
+
+/// How the last version is.
+#[derive(Clone, Copy)]
+pub struct Last {
+    pub version: u64,
+    pub names: u64,
+    pub nodes: u64,
+}
+
+/// Asks for the last version, when all workers are done and main has learnt what they saw, and closes the index.
+pub fn close_index<N: Named>(
+    index: Index<ZoneLaw, N>,
+    mut main: Pass<N>,
+    mut passes: Vec<Pass<N>>,
+) -> Result<Last, AllocError>
+    requires main { (IsSome main.seat) × (main.place ≡ index.place) }
+    requires here { All (λ p. (IsSome p.seat) × (p.place ≡ index.place)) passes.items }
+    ensures { IfOk result (λ l. EndsRun index.shared.table.shared.key.passes (map (λ p. known_at p.seat) passes.items) (known_at main.seat) l.version l.names l.nodes) }
+{
+    let mut query = main.query(&index);
+    let names = query.count();
+    let nodes = query.nodes();
+    drop(query);
+    passes.push(main)?;
+    let version = index.close(passes);
+    Ok(Last {
+        version,
+        names,
+        nodes,
+    })
+}
