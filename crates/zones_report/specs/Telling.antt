@@ -8,7 +8,6 @@ use Rattle.job_model.specs.Replies.{reply_of}
 use Rattle.job_script.specs.Outcomes.{EndsBlock, Replies}
 use Rattle.zones_model.specs.Commands as model
 use Rattle.zones_model.specs.Commands.{origins_of}
-use Rattle.zones_model.specs.Outcomes as outcomes
 use Rattle.zones_model.specs.Outcomes.{Last, all_done, attached_at}
 use Rattle.zones_model.specs.Reports.{no_zone, set_of}
 use Rattle.zones_model.specs.Tables.{attached_count}

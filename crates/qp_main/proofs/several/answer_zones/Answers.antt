@@ -2,6 +2,7 @@ use Rattle.std.proofs.Common.{rules, ◌≡◌, ◌∙◌, List, sym, ap, subst}
 use Rattle.std.specs.List.{AllByRecursion}
 use Rattle.zone_model.specs.Names.{Name}
 use Rattle.job_model.specs.Jobs.{script_lines, script_start}
+use Rattle.job_report.specs.Pieces.{pieces_text}
 use Rattle.zones_model.specs.Commands.{origins_of}
 use Rattle.zones_script.specs.Scripts.{script_of}
 use Rattle.zones_script.specs.Views.{workers_view}
@@ -29,7 +30,7 @@ returns-clause-told g c =
     let zones = c.in_ok-zones.zones.items in
     let origins : c.deref-2.result.now ≡ origins_of zones = c.deref-2.ensures.value ∙ c.in_ok-origins.ensures ∙ ap origins_of c.deref.ensures.value in
     zones_answers c.args.invocation.now.chunks bytes zones (workers_view c.in_ok-script.script) c.in_ok-zones.ensures.zones
-    (ap (λ (os : List Name). script_of os (script_start bytes) (script_lines bytes)) (sym origins) ∙ c.in_ok-script.ensures.reads) c.in_ok-answer.answer.0 c.in_ok-answer.answer.1.items c.in_ok-answer.ensures
+    (ap (λ (os : List Name). script_of os (script_start bytes) (script_lines bytes)) (sym origins) ∙ c.in_ok-script.ensures.reads) c.in_ok-answer.answer.0 (pieces_text c.in_ok-answer.answer.1) c.in_ok-answer.ensures
 
 pub returns-in_err-zones-clause-stops : goal.returns-in_err-zones-clause-stops
 returns-in_err-zones-clause-stops g c =
