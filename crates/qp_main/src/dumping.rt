@@ -5,8 +5,8 @@ ghost use Rattle.qp_main.specs.Prelude.{StandsAs, CutShort, Dumps, IsWritten, Ma
 
 use crate::input::Input;
 use crate::items::zone_items;
-use crate::refusing::Stop;
 use crate::refusal_lines::no_room;
+use crate::refusing::Stop;
 use crate::status::Status;
 use crate::writing::{write_answer, write_due};
 use command_line::Invocation;

@@ -6,8 +6,8 @@ ghost use Rattle.qp_main.specs.Prelude.{AreListed, workers_view, IsSaid, Refuses
 ghost use Rattle.zones_script.specs.Scripts as over_zones;
 
 use crate::reading::{job_in, list_in, zone_in, zones_in, zones_script_in};
-use crate::refusing::{Stop, list_stop, script_stop, zone_stop};
 use crate::refusal_lines::script_refused;
+use crate::refusing::{Stop, list_stop, script_stop, zone_stop};
 use crate::status::Status;
 use dns_name::Name;
 use job_model::ScriptKind;

@@ -5,8 +5,8 @@ ghost use Rattle.qp_main.specs.Prelude.{ZonesAnswers, AreAllItems, IsRead, IsSai
 
 use crate::input::Input;
 use crate::items::zone_items;
-use crate::refusing::Stop;
 use crate::refusal_lines::no_room;
+use crate::refusing::Stop;
 use crate::run_report::status_of;
 use crate::sizing::MANY_NAMES;
 use crate::status::Status;
