@@ -160,15 +160,17 @@ counted() {
 }
 # NAMES KIND HELD, and a name with what runs it, and the program with its words: a line of the table
 told() {
-    local names=$1 kind=$2 held=$3 who=$4 middle mean most count
+    local names=$1 kind=$2 held=$3 who=$4 middle mean most late rest
     input "$names" 20000 "$kind" >"$folder/input"
-    read -r middle mean most count <<<"$("$5" $held <"$folder/input")"
+    read -r middle mean most late rest <<<"$("$5" $held <"$folder/input")"
+    # LMDB's program tells no number of late ones
+    [ -n "$rest" ] || late=-
     if [ -z "$middle" ]; then
         printf '%s\t%s\t%s\t%s\tno room\n' "$who" "$names" "$kind" "${held:-none}"
     elif [ "$kind" = thin ]; then
-        printf '%s\t%s\t%s\t%s\t%s\t-\t-\t-\n' "$who" "$names" "$kind" "${held:-none}" $((middle / (names / 10 * 9)))
+        printf '%s\t%s\t%s\t%s\t%s\t-\t-\t-\t-\n' "$who" "$names" "$kind" "${held:-none}" $((middle / (names / 10 * 9)))
     else
-        printf '%s\t%s\t%s\t%s\t%s\t%s\t%s\t%s\n' "$who" "$names" "$kind" "${held:-none}" "$middle" "$mean" "$most" \
+        printf '%s\t%s\t%s\t%s\t%s\t%s\t%s\t%s\t%s\n' "$who" "$names" "$kind" "${held:-none}" "$middle" "$mean" "$most" "$late" \
             $((($(counted "$names" 5000 "$kind" "${@:6}" $held) - $(counted "$names" 3000 "$kind" "${@:6}" $held)) / 2000))
     fi
 }
@@ -177,7 +179,7 @@ if printf '#include <lmdb.h>\n' | cc -E - >/dev/null 2>&1; then
     cc -O2 -o "$folder/lmdb" "$here/lmdb.c" -llmdb && lmdb=yes
 fi
 # (of `thin`, nanoseconds for each name that is taken out)
-printf 'index\tnames\tkind\tsnapshot\tmiddle ns\tmean ns\tslowest ns\tinstructions\n'
+printf 'index\tnames\tkind\tsnapshot\tmiddle ns\tmean ns\tslowest ns\tover 1 ms\tinstructions\n'
 [ $# -gt 1 ] && shift || set -- 10000 100000 500000
 for names in "$@"; do
     for kind in ${KINDS:-exchange four below update thin}; do
