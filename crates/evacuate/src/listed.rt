@@ -133,14 +133,19 @@ fn step_in_chunk<C: CellWrite>(
     ensures rearranged { Rearranged C.has C.kept C.given root cells.old usage.old cells.new usage.new }
     ensures full { IfErr result (λ _. IsFull usage.new) }
 {
-    if step == Step::Copy && !marks.begin(chunk) {
+    if step == Step::Copy && !marks.begin(chunk, usage.listed(chunk)) {
         return Ok(());
     }
+    let first = marks.first_of(chunk);
     for place in 0..usage.listed(chunk) {
         if usage.live(chunk) == 0 {
             return Ok(());
         }
-        let listing = Listing { chunk, place };
+        let listing = Listing {
+            chunk,
+            place,
+            number: first.wrapping_add(place),
+        };
         step_along(cells, usage, root, step, marks, listing)?;
     }
     Ok(())

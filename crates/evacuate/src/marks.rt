@@ -1,16 +1,20 @@
 //! What was found along listed paths.
 
-/// So many words have four bits for each path that is marked; paths may share theirs.
-const PATH_WORDS: usize = 128;
+/// So many words have four bits for each path that may be marked.
+const PATH_WORDS: usize = 248;
 
 /// So many words have a bit for each chunk.
 const CHUNK_WORDS: usize = 64;
 
-/// Where a path is listed.
+/// The paths of so many chunks have numbers of their own.
+const MOST_CHUNKS: usize = 64;
+
+/// A path that a chunk lists, and its number among all that may be marked.
 #[derive(Clone, Copy)]
 pub struct Listing {
     pub chunk: u32,
     pub place: usize,
+    pub number: usize,
 }
 
 /// What a path leads to that is left in a sparse chunk.
@@ -29,15 +33,13 @@ const FORKED: u64 = 2;
 
 const TO_ITEM: u64 = 4;
 
-const NOTED: u64 = 8;
-
-const ALL: u64 = 15;
+const UNNOTED: u64 = 8;
 
 impl Mark {
     fn bits(self) -> u64 {
         match self {
             Mark::Straight { to_item, noted } => {
-                MARKED | bit_if(to_item, TO_ITEM) | bit_if(noted, NOTED)
+                MARKED | bit_if(to_item, TO_ITEM) | bit_if(!noted, UNNOTED)
             }
             Mark::Forked => MARKED | FORKED,
         }
@@ -52,7 +54,7 @@ impl Mark {
         }
         Some(Mark::Straight {
             to_item: bits & TO_ITEM != 0,
-            noted: bits & NOTED != 0,
+            noted: bits & UNNOTED == 0,
         })
     }
 }
@@ -62,14 +64,18 @@ fn bit_if(value: bool, bit: u64) -> u64 {
     if value { bit } else { 0 }
 }
 
-/// Marks of paths, by where they are listed. Nothing is proved of them: one that seems to be marked may not be.
+/// Marks of paths, by their numbers. Nothing is proved of them: paths beyond the last number share those of others, and have what either has.
 #[derive(Clone, Copy)]
 pub struct Marks {
     paths: [u64; PATH_WORDS],
-    // Of which chunks the paths were gone along.
-    chunks: [u64; CHUNK_WORDS],
     /// How many chunks were free before the first was marked. As long as it is so many, the bump chunk is the same.
     pub free: u32,
+    // Of which chunks the paths were gone along.
+    chunks: [u64; CHUNK_WORDS],
+    // The first of them, each with the number of its first path; how many these are, and the next number.
+    begun: [(u32, u32); MOST_CHUNKS],
+    count: usize,
+    next: u32,
 }
 
 impl Marks {
@@ -77,43 +83,49 @@ impl Marks {
     pub fn new(free: u32) -> Marks {
         Marks {
             paths: [0; PATH_WORDS],
-            chunks: [0; CHUNK_WORDS],
             free,
+            chunks: [0; CHUNK_WORDS],
+            begun: [(0, 0); MOST_CHUNKS],
+            count: 0,
+            next: 0,
         }
     }
 
-    /// The paths of a chunk are gone along. Tells whether they weren't before.
-    pub fn begin(&mut self, chunk: u32) -> bool {
+    /// The paths of a chunk, which are so many, are gone along. Tells whether they weren't before.
+    pub fn begin(&mut self, chunk: u32, paths: usize) -> bool {
         let word = &mut self.chunks[chunk as usize / 64 % CHUNK_WORDS];
         let bit = 1 << (chunk % 64);
-        let is_new = *word & bit == 0;
+        if *word & bit != 0 {
+            return false;
+        }
         *word |= bit;
-        is_new
+        if let Some(slot) = self.begun.get_mut(self.count) {
+            *slot = (chunk, self.next);
+            self.count = self.count.wrapping_add(1);
+            self.next = self.next.wrapping_add((paths & 1023) as u32);
+        }
+        true
+    }
+
+    /// The number of a chunk's first path.
+    pub fn first_of(&self, chunk: u32) -> usize {
+        for (begun, number) in self.begun.iter().take(self.count) {
+            if *begun == chunk {
+                return *number as usize;
+            }
+        }
+        0
     }
 
     /// Marks a path.
     pub fn put(&mut self, listing: Listing, mark: Mark) {
-        let number = number_of(listing);
-        let word = &mut self.paths[number / 16 % PATH_WORDS];
-        let shift = number % 16 * 4;
-        *word = *word & !(ALL << shift) | mark.bits() << shift;
+        let number = listing.number;
+        self.paths[number / 16 % PATH_WORDS] |= mark.bits() << (number % 16 * 4);
     }
 
     /// A path's mark, as it seems. It has none where nothing is left.
     pub fn of(&self, listing: Listing) -> Option<Mark> {
-        let number = number_of(listing);
-        Mark::of_bits(self.paths[number / 16 % PATH_WORDS] >> (number % 16 * 4) & ALL)
+        let number = listing.number;
+        Mark::of_bits(self.paths[number / 16 % PATH_WORDS] >> (number % 16 * 4))
     }
-}
-
-/// The numbers of a chunk's paths begin so far behind those of the one before, which mostly lists fewer than 148: so a dozen chunks side by
-/// side have theirs apart.
-const APART: usize = 549;
-
-/// The number of a path.
-#[inline]
-fn number_of(listing: Listing) -> usize {
-    (listing.chunk as usize)
-        .wrapping_mul(APART)
-        .wrapping_add(listing.place)
 }
