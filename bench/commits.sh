@@ -3,8 +3,9 @@
 # which takes some minutes the first time, and runs it on 10,000, 100,000 and 500,000 names like `hq3k9x2`. KIND is `exchange` (one item by a
 # `write`), `four` (two names out, and the two before in again), `below` (a name put in below another, and the one before taken out), `update`
 # (one item by an `update`) or `thin` (nine names of ten taken out by one `write`). Each is done with nobody beside it, and then while a
-# snapshot of the first version is held. Nanoseconds are of one run; instructions (valgrind's callgrind) are the difference of 5,000 and 3,000
-# transactions, since in the first ones malloc puts what was freed in reading the names together once. Where LMDB is installed (liblmdb-dev, and a C compiler), bench/lmdb.c does the same by it, without waiting for the disk.
+# snapshot of the first version is held. Nanoseconds are of one run; instructions (valgrind's callgrind) are those of the transactions alone,
+# without reading the input, as the difference of 5,000 and 3,000 of them, since in the first ones malloc puts together once what was freed in reading
+# the names. Where LMDB is installed (liblmdb-dev, and a C compiler), bench/lmdb.c does the same by it, without waiting for the disk.
 # Usage: bench/commits.sh [PROGRAM [NAMES..]] >bench/results/commits.tsv: where the built program is or is to stay, and how many names. With words in KINDS
 # only these kinds, and only while nothing is held. Changes nothing but files in a temporary folder.
 set -eu
@@ -156,15 +157,13 @@ theirs() {
 counted() {
     input "$1" "$2" "$3" >"$folder/input"
     rm -rf "$folder/db" && mkdir "$folder/db"
-    valgrind --tool=callgrind --callgrind-out-file=/dev/null "${@:4}" <"$folder/input" 2>&1 >/dev/null | sed -n 's/.*Collected : //p'
+    valgrind --tool=callgrind --callgrind-out-file=/dev/null --toggle-collect='*commits::commit::*' --toggle-collect=transaction "${@:4}" <"$folder/input" 2>&1 >/dev/null | sed -n 's/.*Collected : //p'
 }
 # NAMES KIND HELD, and a name with what runs it, and the program with its words: a line of the table
 told() {
-    local names=$1 kind=$2 held=$3 who=$4 middle mean most late rest
+    local names=$1 kind=$2 held=$3 who=$4 middle mean most late count
     input "$names" 20000 "$kind" >"$folder/input"
-    read -r middle mean most late rest <<<"$("$5" $held <"$folder/input")"
-    # LMDB's program tells no number of late ones
-    [ -n "$rest" ] || late=-
+    read -r middle mean most late count <<<"$("$5" $held <"$folder/input")"
     if [ -z "$middle" ]; then
         printf '%s\t%s\t%s\t%s\tno room\n' "$who" "$names" "$kind" "${held:-none}"
     elif [ "$kind" = thin ]; then
