@@ -1,6 +1,6 @@
 #!/usr/bin/env bash
-# Prints a table of what a commit of the shared index takes by how many came before: the instructions (valgrind's callgrind) of one, as the
-# difference between so many transactions and 2,000 fewer, at names drawn at random from NAMES like `hq3k9x2`. `four` is two names out and the two
+# Prints a table of what a commit of the shared index takes by how many came before: the instructions (valgrind's callgrind) of one,
+# without reading the input, as the difference between so many transactions and 2,000 fewer, at names drawn at random from NAMES like `hq3k9x2`. `four` is two names out and the two
 # before in again by a `write`, `update` one item exchanged by an `update`.
 # Usage: bench/ages.sh PROGRAM [NAMES..] >bench/results/ages.tsv (100,000 names): PROGRAM is where bench/commits.sh left its own. It takes
 # minutes, and changes nothing but files of its own in a temporary folder.
@@ -14,7 +14,7 @@ trap 'rm -rf "$folder"' EXIT
 # NAMES COUNT KIND
 instructions() {
     python3 "$here/commits.py" "$@" >"$folder/input"
-    valgrind --tool=callgrind --callgrind-out-file=/dev/null "$program" <"$folder/input" 2>&1 >/dev/null | sed -n 's/.*Collected : //p'
+    valgrind --tool=callgrind --callgrind-out-file=/dev/null --toggle-collect='*commits::commit::*' "$program" <"$folder/input" 2>&1 >/dev/null | sed -n 's/.*Collected : //p'
 }
 printf 'names\tkind\ttransactions\tinstructions\n'
 for names in "$@"; do
