@@ -18,8 +18,8 @@ use Rattle.trie_space.specs.Ways.{Fork, fork, plug, end_at}
 use Rattle.trie_space.proofs.SpaceLaws.{frame_refl, fenced_of, fenced_then}
 use Rattle.trie_space.proofs.WayLaws.{plug-append, end_at-append}
 use Rattle.evacuate.specs.Fillings.{Fills, Moves}
-use Rattle.evacuate.specs.Places.{moved, Stood, Hung, HangsIn, IsHung}
-use Rattle.evacuate.specs.Rearranging.{Rearranged}
+use Rattle.evacuate.specs.Places.{moved, Stood, Hung, HangsIn, IsStood, IsHung}
+use Rattle.evacuate.specs.Rearranging.{CanMove, OnWay, Rearranged}
 use Rattle.evacuate.specs.Trails.{TwigsAt}
 use Rattle.evacuate.proofs.DescentLaws.{begins, hung_there, hung_says, hung_read}
 use Rattle.evacuate.proofs.FillingLaws.{moves_none, moves_then}
@@ -129,14 +129,6 @@ module _ {S : Type 0} {has : S → ℕ → Cell → Type 0} {s : S} {l : Ledger}
         pub read_there : {s1 : S} → s1 ≡ s → has s1 (b.twigs + i) (top_cell below)
         read_there same = subst (λ z. has z (b.twigs + i) (top_cell below)) (sym same) (further_in twigs_there)
 
--- On the way down from a root cells were moved, and a tree with this node hangs on the cell, which may be written.
-pub record OnWay {S : Type 0} (has : S → ℕ → Cell → Type 0) (kept : S → List ℕ) (given : S → List Bool) (r : ℕ) (s : S) (l : Ledger) (s_new : S) (l_new : Ledger) (at : ℕ) (n : Node) : Type 0 where
-  pub way : (es : List Entry) (t : Tree) → Stood has s l r es t → HangsIn has s_new l_new r at es n
-  pub writable : IsWritable given reserve_account_of s_new l_new at
-  pub moves : (old : List Bool) → Fills old l → Moves old 0 l l_new
-  pub frame : Fenced has kept given reserve_account_of s l s_new l_new
-  pub ready : Ready kept given reserve_account_of s_new l_new
-
 module _ {S : Type 0} {has : S → ℕ → Cell → Type 0} {kept : S → List ℕ} {given : S → List Bool} {r : ℕ} {s : S} {l : Ledger} where
   pub way_begins : {s1 : S} {at : ℕ} {n : Node} → s1 ≡ s → ((es : List Entry) (t : Tree) → Stood has s l r es t → HangsIn has s l r at es n) → IsWritable given reserve_account_of s l at → Ready kept given reserve_account_of s l → OnWay has kept given r s l s1 l at n
   way_begins {at = at} {n} same way writable ready = subst (λ z. OnWay has kept given r s l z l at n) (sym same)
@@ -145,6 +137,23 @@ module _ {S : Type 0} {has : S → ℕ → Cell → Type 0} {kept : S → List �
   module _ {s1 : S} {l1 : Ledger} {at : ℕ} {n : Node} (h : OnWay has kept given r s l s1 l1 at n) where
     pub way_ends : Rearranged has kept given r s l s1 l1
     way_ends = record { stood = λ es t x. stood_in (h.way es t x); moves = h.moves; frame = h.frame; ready = h.ready }
+
+    pub way_can : IsStood has s l r → {m : Node} → n ≡ m → CanMove has kept given at m s1 l1
+    way_can can is = record { hung = is_hung (h.way _ _ can.stood) is; writable = h.writable; ready = h.ready }
+
+    -- cells were read, and a path was noted
+    pub way_read : {s2 : S} {l2 : Ledger} → s2 ≡ s1 → l2 ≡ l1 → OnWay has kept given r s l s2 l2 at n
+    way_read {s2} e f = subst (λ z. OnWay has kept given r s l s2 z at n) (sym f) (subst (λ z. OnWay has kept given r s l z l1 at n) (sym e) h)
+
+    -- at its end what hangs on the node is moved
+    pub way_moves : {s2 : S} {l2 : Ledger} {m : Node} → n ≡ m → ((q : ℕ) (es : List Entry) (way : List Fork) (t : Tree) → Hung has s1 l1 q at es way t → m ≡ node_of t → (u : Tree) × Stood has s2 l2 q es u) →
+        ((old : List Bool) → Fills old l1 → Moves old 0 l1 l2) → Fenced has kept given reserve_account_of s1 l1 s2 l2 → Ready kept given reserve_account_of s2 l2 → Rearranged has kept given r s l s2 l2
+    way_moves is stood moves frame ready = record {
+      stood = λ es t x. let u = h.way es t x in stood r es u.way u.t u.hung (sym is ∙ u.is);
+      moves = λ old fills. let a = h.moves old fills in moves_then a (moves old a.fills);
+      frame = fenced_then h.frame frame;
+      ready = ready;
+    }
 
     -- to a twig, once there were moves
     pub way_goes_on : (b : Branch) (is : n ≡ node.Branch b) (i : ℕ) → i < count_ones b.bitmap → {s2 s3 : S} {l2 : Ledger} {next : ℕ} {c : Cell} {m : Node} →
@@ -158,3 +167,7 @@ module _ {S : Type 0} {has : S → ℕ → Cell → Type 0} {kept : S → List �
       frame = fenced_then h.frame frame;
       ready = ready;
     })
+
+-- the way began once cells were read
+pub way_from : {S : Type 0} {has : S → ℕ → Cell → Type 0} {kept : S → List ℕ} {given : S → List Bool} {r : ℕ} {s s1 s2 : S} {l l2 : Ledger} {at : ℕ} {n : Node} → s1 ≡ s → OnWay has kept given r s1 l s2 l2 at n → OnWay has kept given r s l s2 l2 at n
+way_from {has = has} {kept} {given} {r} {s2 = s2} {l} {l2} {at} {n} same h = subst (λ z. OnWay has kept given r z l s2 l2 at n) same h

@@ -7,8 +7,6 @@ use Rattle.std.proofs.lemmas.List.{length-set, get_or-set_other}
 use Rattle.packed_node.specs.declared.Cell.{Cell}
 use Rattle.trie_model.specs.Keys.{Entry}
 use Rattle.trie_model.specs.Trees.{Tree}
-use Rattle.chunk_cells.specs.Chunks.{IsGiven}
-use Rattle.chunk_sets.proofs.FlagLemmas.{get_set}
 use Rattle.chunk_usage.specs.declared.bump.Bump.{Bump}
 use Rattle.chunk_usage.specs.Counting.{is_unmixed}
 use Rattle.chunk_usage.specs.Handing.{consumed}
@@ -22,8 +20,8 @@ use Rattle.trie_space.proofs.WeightLaws.{mark_grows}
 use Rattle.evacuate.specs.Evacuations.{FillsNew, HasSparse}
 use Rattle.evacuate.specs.Fillings.{Fills, Moves, begun, filled_on, filled_on_of, is_filled_on, is_old, old_chunks, old_live}
 use Rattle.evacuate.specs.Places.{Stood}
-use Rattle.evacuate.proofs.FillingLaws.{moves_none, moves_then, open_same, sparse_closed}
-use Rattle.evacuate.proofs.TreeLaws.{root_used}
+use Rattle.evacuate.proofs.FillingLaws.{moves_none, open_same, sparse_closed}
+use Rattle.evacuate.proofs.TreeLaws.{root_used, used_writable}
 
 -- ---- which chunks are old: those that were given, but the one that is filled on
 
@@ -222,14 +220,9 @@ root_old {l = l} {r} filled_on h stood other = old_one l.given filled_on (r / 10
 -- there it may be written
 pub root_writable : {S : Type 0} {has : S → ℕ → Cell → Type 0} {kept : S → List ℕ} {given : S → List Bool} {s : S} {l : Ledger} {r : ℕ} {es : List Entry} {t : Tree} (filled_on : Option ℕ) → IsLedger l → Fills (old_chunks l.given filled_on) l → Ready kept given reserve_account_of s l →
     Stood has s l r es t → is_filled_on filled_on (r / 1024) ≡ true → IsWritable given reserve_account_of s l r
-root_writable {given = given} {s} {l = l} {r} filled_on h fills ready stood there =
+root_writable {l = l} {r} filled_on h fills ready stood there =
     let used = root_used stood in
-    let is = used_given l h r used in
-    record {
-      in_use = used;
-      mutable = either (slice_index_or l.since (r / 1024) false) _ (fills.recent (r / 1024) is (new_one l.given filled_on (r / 1024) there));
-      in_given = subst (λ (flags : List Bool). IsGiven flags (r / 1024)) (sym ready.same) (get_set l.given (r / 1024) is);
-    }
+    used_writable h ready used (either (slice_index_or l.since (r / 1024) false) _ (fills.recent (r / 1024) (used_given l h r used) (new_one l.given filled_on (r / 1024) there)))
   where
     either : (a b : Bool) → a ≡ true → (a || b) ≡ true
     either true b e = refl
@@ -254,9 +247,6 @@ root_copied l l1 new filled_on at e m far = record {
   moves = subst (λ (flags : List Bool). Moves (old_chunks flags filled_on) 0 (begun l filled_on) new) (begun_given l filled_on) (subst (λ (z : Ledger). Moves (old_chunks z.given filled_on) 0 z new) e m);
   elsewhere = subst (λ (flags : List Bool). is_old (old_chunks flags filled_on) at ≡ false) (ap (λ (z : Ledger). z.given) e ∙ begun_given l filled_on) far;
 }
-
-pub copied_then : {l l1 l2 : Ledger} {filled_on : Option ℕ} {at : ℕ} → RootCopied l l1 filled_on at → ((given : List Bool) → Fills given l1 → Moves given 0 l1 l2) → Moves (old_chunks l.given filled_on) 0 (begun l filled_on) l2
-copied_then o m = moves_then o.moves (m _ o.moves.fills)
 
 -- there was no room for the root's cell
 pub nothing_moved : (l l1 new : Ledger) (filled_on : Option ℕ) → IsLedger l → IfSome filled_on (λ c. is_unmixed l c ≡ true) → l1 ≡ begun l filled_on → new ≡ l1 → Moves (old_chunks l.given filled_on) 0 (begun l filled_on) new

@@ -11,3 +11,4 @@ pub mod DescentLaws
 pub mod EndLaws
 pub mod RearrangeLaws
 pub mod AlongLaws
+pub mod EmptyLaws

@@ -1,10 +1,11 @@
 -- The walk to what lies in sparse chunks.
-use Rattle.std.proofs.Common.{◌≡◌, ℕ, zero, suc, ◌+◌, ◌/◌, ◌<◌, ◌≤◌, true, false, List, length, [], ◌∷◌, slice_index, count_ones, arith, refl, sym, ◌∙◌, ap, subst}
+use Rattle.std.proofs.Common.{◌≡◌, ◌≢◌, ℕ, zero, suc, ◌+◌, ◌-◌, ◌/◌, ◌<◌, ◌≤◌, true, false, List, length, [], ◌∷◌, slice_index, count_ones, arith, refl, sym, ◌∙◌, ap, subst}
 use Rattle.std.proofs.lemmas.Bool.{true≢false}
 use Rattle.packed_node.specs.declared.Cell.{Cell}
 use Rattle.packed_node.specs.declared.Branch.{Branch}
 use Rattle.packed_node.specs.declared.Leaf.{Leaf}
 use Rattle.packed_node.specs.declared.Node.{Node}
+use Rattle.packed_node.specs.declared.Node.TheVariants as node
 use Rattle.packed_node.specs.Nodes.{IsNode, packed}
 use Rattle.trie_model.specs.Extents.{Extents, AreExtents, HasItem, IsRow, ItemLies, LiesAt, row}
 use Rattle.trie_model.specs.Memory.{top_cell, node_of, Beneath, Lie}
@@ -14,7 +15,7 @@ use Rattle.trie_model.specs.Trees.Tree.{leaf, branch}
 use Rattle.trie_model.specs.Trees.Twigs.{none, twig}
 use Rattle.trie_model.proofs.BitmapLaws.{ones_of}
 use Rattle.trie_model.proofs.CountLaws.{weigh_is, under}
-use Rattle.trie_model.proofs.NodeLaws.{BranchTold, LeafSaid, node_read, says_node}
+use Rattle.trie_model.proofs.NodeLaws.{BranchTold, LeafSaid, branch_told, leaf_said, node_read, says_node}
 use Rattle.trie_model.proofs.SplitLaws.{rising_of}
 use Rattle.chunk_usage.specs.Counting.{is_sparse}
 use Rattle.chunk_usage.specs.Ledger.{Ledger}
@@ -23,7 +24,7 @@ use Rattle.trie_read.specs.Reads.{IsTop}
 use Rattle.trie_space.specs.Ways.{NotBefore}
 use Rattle.evacuate.specs.declared.trail.Trail.{Trail}
 use Rattle.evacuate.specs.Sparse.{SparseExtents, LiesSparse}
-use Rattle.evacuate.specs.Trails.{Found}
+use Rattle.evacuate.specs.Trails.{Found, TrailKept}
 use Rattle.evacuate.proofs.SparseLaws.{clear_extents}
 
 -- the twigs from the i-th on
@@ -70,6 +71,12 @@ module _ {has : ℕ → Cell → Type 0} {low : ℕ} {c : Cell} {t : Tree} (top 
   pub read_is : {n : Node} → ((m : Node) → IsNode m → packed m ≡ c → n ≡ m) → n ≡ node_of t
   read_is {n} back = node_read low t c n top.tree top.is back
 
+  pub told_of : {n : Node} {b : Branch} → ((m : Node) → IsNode m → packed m ≡ c → n ≡ m) → n ≡ node.Branch b → BranchTold t b
+  told_of {b = b} back is = branch_told t b (sym (read_is back) ∙ is)
+
+  pub item_of : {n : Node} {x : Leaf} → ((m : Node) → IsNode m → packed m ≡ c → n ≡ m) → n ≡ node.Leaf x → LeafSaid t x
+  item_of {x = x} back is = leaf_said t x (sym (read_is back) ∙ is)
+
   module _ {b : Branch} (x : BranchTold t b) where
     branch_tree : IsTree low (branch b.offset b.twigs x.below)
     branch_tree = subst (IsTree low) x.is top.tree
@@ -98,6 +105,21 @@ twig_top H {o = o} {r} {i} x e f read =
       is = read (top_cell x.t) (subst (λ s. H s (r + i) (top_cell x.t)) (sym e) x.there);
       beneath = subst (λ s. Beneath (H s) x.t) (sym (f ∙ e)) x.beneath;
     }
+
+-- at a turn of the walk: its cell is there, and below it there are fewer places
+module _ {S : Type 0} (H : S → ℕ → Cell → Type 0) {s0 s1 : S} (same : s1 ≡ s0) {low : ℕ} {c : Cell} {t : Tree} (top : IsTop (H s0) low c t) {b : Branch} (x : BranchTold t b) where
+  pub cell_there : (i : ℕ) → i < count_ones b.bitmap → (d : Cell) × H s1 (b.twigs + i) d
+  cell_there i l = let n = twig_here top x i l in (top_cell n.t, subst (λ s. H s (b.twigs + i) (top_cell n.t)) (sym same) n.there)
+
+  pub turn : (i : ℕ) (l : i < count_ones b.bitmap) {s2 : S} {cell : Cell} → s2 ≡ s1 → ((d : Cell) → H s1 (b.twigs + i) d → cell ≡ d) → (u : Tree) × IsTop (H s2) (b.offset + 1) cell u
+  turn i l f read = let n = twig_here top x i l in (n.t, twig_top H n same f read)
+
+pub falls : {has : ℕ → Cell → Type 0} {low : ℕ} {c : Cell} {t : Tree} {b : Branch} → IsTop has low c t → BranchTold t b → 504 - (b.offset + 1) < 504 - low
+falls top x = let a = late top x in let d = early top x in omega arith
+
+-- the trail takes a twig, and is kept below it
+pub kept_on : {S : Type 0} {s0 s1 s2 s3 : S} {low o : ℕ} {a b d e : Trail} → low ≤ o → TrailKept s0 s1 low a b → ((i : ℕ) → i ≢ o → slice_index d.indices i ≡ slice_index b.indices i) → s2 ≡ s1 → TrailKept s2 s3 (o + 1) d e → TrailKept s0 s3 low a e
+kept_on late k others read below = record { same = below.same ∙ read ∙ k.same; above = λ i l. below.above i (omega arith) ∙ others i (λ z. omega arith) ∙ k.above i l }
 
 -- ---- what lies in no sparse chunk
 
@@ -146,11 +168,12 @@ found_branch {l} {trail} t b x end sparse = record {
   sparse = subst (LiesSparse l) (sym x.is) sparse;
 }
 
-pub found_below : {has : ℕ → Cell → Type 0} {l : Ledger} {trail : Trail} (t : Tree) (b : Branch) (x : BranchTold t b) (i : ℕ) (n : TwigAt has b.offset b.twigs i x.below) → Found l trail n.t → b.offset < trail.end → slice_index trail.indices b.offset ≡ i → Found l trail t
-found_below t b x i n f before index = record {
+pub found_below : {S : Type 0} {has : ℕ → Cell → Type 0} {l : Ledger} {s s1 : S} {taken trail : Trail} (t : Tree) (b : Branch) (x : BranchTold t b) (i : ℕ) (n : TwigAt has b.offset b.twigs i x.below) →
+    Found l trail n.t → b.offset + 1 ≤ trail.end → TrailKept s s1 (b.offset + 1) taken trail → slice_index taken.indices b.offset ≡ i → Found l trail t
+found_below t b x i n f late kept index = record {
   way = record { offset = b.offset; first = b.twigs; left = n.left; position = n.position; right = n.right } ∷ f.way;
   end = f.end;
   is = x.is ∙ ap (branch b.offset b.twigs) n.is ∙ ap (λ (u : Tree). branch b.offset b.twigs (beside n.left (twig n.position u n.right))) f.is;
-  leads = record { steps = (before, index ∙ sym n.place, f.leads.steps); ends = f.leads.ends };
+  leads = record { steps = (omega arith, kept.above b.offset (omega arith) ∙ index ∙ sym n.place, f.leads.steps); ends = f.leads.ends };
   sparse = f.sparse;
 }

@@ -20,12 +20,14 @@ use Rattle.trie_model.proofs.DropLaws.{higher}
 use Rattle.trie_model.proofs.MoveLaws.{Keeps, beneath_kept, lie_moved, lie_cell, within_cell}
 use Rattle.trie_model.proofs.SplitLaws.{rising_of}
 use Rattle.trie_model.proofs.TopLaws.{is_node}
-use Rattle.chunk_usage.specs.Ledger.{Ledger, is_used}
+use Rattle.chunk_usage.specs.Ledger.{Ledger, IsLedger, is_mutable, is_used}
 use Rattle.chunk_usage.specs.Handing.{released}
 use Rattle.chunk_usage.specs.Rooms.{Handed, reserve_account_of}
+use Rattle.chunk_sets.proofs.FlagLemmas.{get_set}
 use Rattle.chunk_usage.proofs.RowLemmas.{row_here, counts_fewer}
+use Rattle.chunk_usage.proofs.SpaceLaws.{used_given}
 use Rattle.trie_space.specs.Rooted.{Hangs}
-use Rattle.trie_space.specs.Spaces.{Frame, IsWritable}
+use Rattle.trie_space.specs.Spaces.{Frame, IsWritable, Ready}
 use Rattle.chunk_cells.specs.Chunks.{IsGiven}
 use Rattle.trie_space.specs.Ways.{Fork}
 use Rattle.trie_space.specs.Weights.{at_place, mark}
@@ -219,6 +221,10 @@ handed_writable {given = given} {s} l l1 {to = to} at m handed same e i lt = sub
   mutable = handed.writable i lt;
   in_given = subst (λ (x : List Bool). IsGiven x ((to + i) / 1024)) (sym same) (subst (IsGiven l1.given) (let t = handed.twigs.together in omega arith) handed.in_given);
 })
+
+-- a cell in use may be written if it is mutable
+pub used_writable : {S : Type 0} {kept : S → List ℕ} {given : S → List Bool} {s : S} {l : Ledger} {q : ℕ} → IsLedger l → Ready kept given reserve_account_of s l → is_used l q ≡ true → is_mutable l q ≡ true → IsWritable given reserve_account_of s l q
+used_writable {l = l} {q} is ready used mutable = record { in_use = used; mutable = mutable; in_given = subst (λ (flags : List Bool). IsGiven flags (q / 1024)) (sym ready.same) (get_set l.given (q / 1024) (used_given l is q used)) }
 
 pub released_rest : (l1 : Ledger) {l2 : Ledger} (at m : ℕ) → l2 ≡ released l1 at m → reserve_account_of l2 ≡ record (reserve_account_of l1) { live = slice_index l2.live }
 released_rest l1 at m e = subst (λ z. reserve_account_of z ≡ record (reserve_account_of l1) { live = slice_index z.live }) (sym e) refl

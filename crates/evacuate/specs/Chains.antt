@@ -1,7 +1,7 @@
 -- The extents of an item, one behind the other.
 use Rattle.std.specs.Prelude.{◌≡◌, ℕ, ◌-◌, List, [], ◌∷◌, length}
 use Rattle.packed_node.specs.declared.Cell.{Cell}
-use Rattle.trie_model.specs.Extents.{Extents}
+use Rattle.trie_model.specs.Extents.{Extents, LiesAt}
 use Rattle.trie_model.specs.Extents.Extents.{linked}
 use Rattle.trie_model.specs.Keys.{Entry}
 use Rattle.trie_model.specs.Trees.Tree.{leaf}
@@ -39,3 +39,10 @@ pub record GoesOn {S : Type 0} (has : S → ℕ → Cell → Type 0) (s : S) (l 
 pub record GoesSparse {S : Type 0} (has : S → ℕ → Cell → Type 0) (s : S) (l : Ledger) (at n : ℕ) : Type 0 where
   pub on : GoesOn has s l at n
   pub sparse : SparseExtents l on.rest
+
+-- behind an item's first extent lie others
+pub record LiesBehind (has : ℕ → Cell → Type 0) (at : ℕ) (x : Extents) (next n : ℕ) : Type 0 where
+  pub item : List ℕ
+  pub rest : Extents
+  pub is : x ≡ linked at rest
+  pub lies : LiesAt has next n item rest

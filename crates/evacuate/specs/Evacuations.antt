@@ -1,10 +1,11 @@
 -- What an evacuation promises.
-use Rattle.std.specs.Prelude.{◌≡◌, ℕ, ◌<◌, ◌≤◌, true, false, slice_index}
+use Rattle.std.specs.Prelude.{◌≡◌, ℕ, ◌<◌, ◌≤◌, true, false, Bool, List, Option, Some, slice_index}
 use Rattle.trie_model.specs.Capacity.{filled_cells}
 use Rattle.chunk_usage.specs.Counting.{is_sparse}
 use Rattle.chunk_usage.specs.Ledger.{Ledger, filled, is_given, is_bump}
 use Rattle.evacuate.specs.declared.evacuation.Done.{Done}
 use Rattle.evacuate.specs.declared.evacuation.Done.TheVariants.{Whole, Stopped}
+use Rattle.evacuate.specs.Fillings.{Fills, IsFull}
 
 -- each chunk with a cell that counts, but the bump chunk, has over 256
 abbrev pub IsDense : Ledger → Type 0
@@ -30,3 +31,9 @@ pub record FillsNew (old new : Ledger) : Type 0 where
 abbrev pub refused : Done → ℕ
 refused Whole = 0
 refused Stopped = 1
+
+-- how what lists led to was moved, unless some is left
+pub record ListsEnd (l new : Ledger) (done : Option Done) : Type 0 where
+  pub whole : done ≡ Some Whole → IsCleared new
+  pub full : done ≡ Some Stopped → IsFull new
+  pub left : done ≡ Some Stopped → (given : List Bool) → Fills given l → HasSparse new

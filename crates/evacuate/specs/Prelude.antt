@@ -17,10 +17,10 @@ pub use Rattle.chunk_usage.specs.Rooms.{Grows, Handed, account_of, reserve_accou
 pub use Rattle.trie_space.specs.Spaces.{Fenced, Frame, IsWritable, MayWrite, Ready}
 pub use Rattle.trie_space.specs.Standing.{HasTrie}
 pub use Rattle.trie_space.specs.Ways.{Fork, NotBefore}
-pub use Rattle.evacuate.specs.Chains.{Goes, GoesOn, GoesSparse}
-pub use Rattle.evacuate.specs.Evacuations.{FillsNew, HasSparse, IsCleared, IsDense, refused}
+pub use Rattle.evacuate.specs.Chains.{Goes, GoesOn, GoesSparse, LiesBehind}
+pub use Rattle.evacuate.specs.Evacuations.{FillsNew, HasSparse, IsCleared, IsDense, ListsEnd, refused}
 pub use Rattle.evacuate.specs.Fillings.{Fewer, Fills, IsFull, Moves, MovedIfDue, Paid, begun, filled_on, is_filled_on, is_old, old_chunks, old_live}
 pub use Rattle.evacuate.specs.Places.{Hangs, Hung, IsHung, IsStood, Stood, first_of, first_width, moved, put_first, width_of}
-pub use Rattle.evacuate.specs.Rearranging.{CanRearrange, Rearranged}
+pub use Rattle.evacuate.specs.Rearranging.{CanMove, CanRearrange, Emptied, OnWay, Rearranged, Unmoved}
 pub use Rattle.evacuate.specs.Sparse.{SparseExtents}
-pub use Rattle.evacuate.specs.Trails.{Found, HasFound, IsDue, Reached, TwigsAt}
+pub use Rattle.evacuate.specs.Trails.{Finds, Found, IsDue, MayPass, Reached, TrailKept, TwigsAt}

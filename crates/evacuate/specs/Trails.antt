@@ -1,12 +1,14 @@
 -- The way to a row of twigs, or an item, that lies in a sparse chunk.
-use Rattle.std.specs.Prelude.{◌≡◌, ℕ, ◌+◌, ◌<◌, List, [], ◌∷◌, slice_index}
+use Rattle.std.specs.Prelude.{◌≡◌, ◌⊎◌, ℕ, ◌+◌, ◌/◌, ◌<◌, List, [], ◌∷◌, true, false, count_ones, slice_index}
 use Rattle.packed_node.specs.declared.Cell.{Cell}
 use Rattle.packed_node.specs.declared.Node.{Node}
 use Rattle.trie_model.specs.Keys.{Entry}
 use Rattle.trie_model.specs.Memory.{node_of}
 use Rattle.trie_model.specs.Trees.{Tree, count}
-use Rattle.chunk_usage.specs.Ledger.{Ledger}
+use Rattle.chunk_usage.specs.Counting.{is_sparse}
+use Rattle.chunk_usage.specs.Ledger.{Ledger, is_mutable}
 use Rattle.trie_space.specs.Ways.{NotBefore, Fork, plug}
+use Rattle.evacuate.specs.declared.along.Passage.{Passage}
 use Rattle.evacuate.specs.declared.trail.Trail.{Trail}
 use Rattle.evacuate.specs.Places.{moved, Stood, Hung, IsHung}
 use Rattle.evacuate.specs.Sparse.{LiesSparse}
@@ -28,12 +30,14 @@ pub record Found (l : Ledger) (trail : Trail) (t : Tree) : Type 0 where
   pub leads : LeadsTo trail way end
   pub sparse : LiesSparse l end
 
--- in a trie that stands the trail leads there
-pub record HasFound {S : Type 0} (has : S → ℕ → Cell → Type 0) (s : S) (l : Ledger) (r : ℕ) (trail : Trail) : Type 0 where
-  pub es : List Entry
-  pub t : Tree
-  pub stood : Stood has s l r es t
-  pub found : Found l trail t
+-- however a trie stands at a root, the trail leads there
+abbrev pub Finds : {S : Type 0} → (S → ℕ → Cell → Type 0) → S → Ledger → ℕ → Trail → Type 0
+Finds has s l r trail = (es : List Entry) (t : Tree) → Stood has s l r es t → Found l trail t
+
+-- a walk below an offset only read, and left the trail above it
+pub record TrailKept {S : Type 0} (s s_new : S) (low : ℕ) (trail new : Trail) : Type 0 where
+  pub same : s_new ≡ s
+  pub above : (i : ℕ) → i < low → slice_index new.indices i ≡ slice_index trail.indices i
 
 -- on the way along the trail, as the trie then stands: a tree hangs on the cell, and the trail leads on to what is to be moved
 pub record Underway {S : Type 0} (has : S → ℕ → Cell → Type 0) (l0 : Ledger) (trail : Trail) (s : S) (l : Ledger) (r at : ℕ) (es : List Entry) (n : Node) : Type 0 where
@@ -63,3 +67,9 @@ pub record TwigsAt {S : Type 0} (has : S → ℕ → Cell → Type 0) (s : S) (l
   pub to : ℕ
   pub hung : Hung has s l r at es way (moved t to)
   pub twig_is : twig ≡ to + index
+
+-- A branch's twigs may stay if the one that is passed to may be written. Else they lie in a sparse chunk, or it may not be.
+pub record MayPass (l : Ledger) (p : Passage) : Type 0 where
+  pub index : p.descent.index < count_ones p.descent.branch.bitmap
+  pub stays : p.stays ≡ true → is_mutable l (p.descent.branch.twigs + p.descent.index) ≡ true
+  pub due : p.stays ≡ false → (is_sparse l (p.descent.branch.twigs / 1024) ≡ true) ⊎ (is_mutable l (p.descent.branch.twigs + p.descent.index) ≡ false)

@@ -2,7 +2,7 @@
 
 ghost use Rattle.std.specs.Prelude.{◌≡◌, ◌/◌, false, true, List, Option, IfOk, IfErr, IfSome};
 ghost use Rattle.evacuate.specs.Prelude.{Entry, Tree, is_unmixed, is_used, is_mutable, Grows, reserve_account_of, Ready, Fenced, IsWritable};
-ghost use Rattle.evacuate.specs.Prelude.{Fills, Moves, IsFull, begun, filled_on, is_filled_on, is_old, old_chunks, Stood, IsStood};
+ghost use Rattle.evacuate.specs.Prelude.{Fills, Moves, Unmoved, begun, filled_on, is_filled_on, is_old, old_chunks, Stood, IsStood};
 
 use super::moves::move_root;
 use chunk_cells::CellWrite;
@@ -45,9 +45,7 @@ pub fn copy_root<C: CellWrite>(
     ensures elsewhere { IfOk result (λ at. is_old (old_chunks usage.old.given chunk) at ≡ false) }
     ensures writable { IfOk result (λ at. IsWritable C.given reserve_account_of cells.new usage.new at) }
     ensures moves { IfOk result (λ _. Moves (old_chunks usage.old.given chunk) 0 usage.old usage.new) }
-    ensures full { IfErr result (λ _. IsFull usage.new) }
-    ensures same { IfErr result (λ _. cells.new ≡ cells.old) }
-    ensures unchanged { IfErr result (λ _. usage.new ≡ usage.old) }
+    ensures unmoved { IfErr result (λ _. Unmoved cells.old usage.old cells.new usage.new) }
     ensures frame { Fenced C.has C.kept C.given reserve_account_of cells.old usage.old cells.new usage.new }
     ensures ready { Ready C.kept C.given reserve_account_of cells.new usage.new }
 {

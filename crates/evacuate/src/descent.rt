@@ -1,14 +1,15 @@
 //! The way down to what is to be moved. On the way each row of twigs that may not be written is moved first, so that a cell above what
 //! was moved can say where it is.
 
-ghost use Rattle.std.specs.Prelude.{◌≡◌, ◌+◌, ◌^◌, ◌<◌, ◌≤◌, ◌/◌, ℕ, List, Bool, true, false, IfOk, IfErr, IfSome, None, [], count_ones, slice_index};
-ghost use Rattle.evacuate.specs.Prelude.{Cell, branch_node, Entry, node_of, Tree, reserve_account_of, Ready, Fenced};
-ghost use Rattle.evacuate.specs.Prelude.{IsWritable, NotBefore, Fork, HasSparse, Fills, Moves, Fewer, IsFull, is_old};
-ghost use Rattle.evacuate.specs.Prelude.{old_live, moved, Stood, Hung, IsHung, Found, HasFound, IsDue, Reached, TwigsAt};
+ghost use Rattle.std.specs.Prelude.{◌≡◌, ◌^◌, ◌<◌, ◌≤◌, ℕ, List, Bool, IfOk, IfErr, IfSome, None};
+ghost use Rattle.evacuate.specs.Prelude.{branch_node, Entry, node_of, Tree, reserve_account_of, Ready, Fenced, IsWritable, NotBefore, Fork, HasSparse};
+ghost use Rattle.evacuate.specs.Prelude.{Fills, Moves, Fewer, IsFull, old_live, Stood, Hung, CanMove, CanRearrange, Rearranged, Finds, IsDue, Reached};
 
+use super::along::{Passage, pass};
 use super::items::move_item;
 use super::moves::move_node;
 use super::node_cells::first_cell;
+use super::path_walk::Descent;
 use super::trail::Trail;
 use chunk_cells::CellWrite;
 use chunk_usage::{Full, Usage};
@@ -31,37 +32,6 @@ fn branch_before(node: Node, place: u16) -> Option<Branch>
     }
 }
 
-/// A twig of a branch that the cell at a place says: it may be written, since the twigs were moved if they might not.
-fn copy_twig<C: CellWrite>(
-    cells: &mut C,
-    usage: &mut Usage,
-    at: Ref,
-    branch: Branch,
-    index: u32,
-) -> Result<Ref, Full>
-    requires hung { IsHung C.has cells.old usage.old at (branch_node branch) }
-    requires index { index < count_ones branch.bitmap }
-    requires writable { IsWritable C.given reserve_account_of cells.old usage.old at }
-    requires ready { Ready C.kept C.given reserve_account_of cells.old usage.old }
-    ensures hung { IfOk result (λ twig. (r : ℕ) (es : List Entry) (way : List Fork) (t : Tree) → Hung C.has cells.old usage.old r at es way t → branch_node branch ≡ node_of t
-        → TwigsAt C.has cells.new usage.new r at es way t index twig) }
-    ensures writable { IfOk result (λ twig. IsWritable C.given reserve_account_of cells.new usage.new twig) }
-    ensures moves { IfOk result (λ _. (given : List Bool) → Fills given usage.old → Moves given 0 usage.old usage.new) }
-    ensures full { IfErr result (λ _. IsFull usage.new) }
-    ensures same { IfErr result (λ _. cells.new ≡ cells.old) }
-    ensures unchanged { IfErr result (λ _. usage.new ≡ usage.old) }
-    ensures frame { Fenced C.has C.kept C.given reserve_account_of cells.old usage.old cells.new usage.new }
-    ensures ready { Ready C.kept C.given reserve_account_of cells.new usage.new }
-{
-    usage.known(); // for the proof
-    let twig = branch.twigs + index;
-    if usage.is_mutable(twig) {
-        return Ok(twig);
-    }
-    let to = move_node(cells, usage, at, Node::Branch(branch))?;
-    Ok(to + index)
-}
-
 /// A cell below the root that may be written, and the node that it says.
 #[derive(Clone, Copy)]
 pub struct Spot {
@@ -77,24 +47,21 @@ pub fn reach<C: CellWrite>(
     root: Ref,
     trail: &Trail,
 ) -> Result<Spot, Full>
-    requires found { HasFound C.has cells.old usage.old root trail.now }
-    requires writable { IsWritable C.given reserve_account_of cells.old usage.old root }
-    requires ready { Ready C.kept C.given reserve_account_of cells.old usage.old }
-    ensures reached { IfOk result (λ spot. (es : List Entry) (t : Tree) → Stood C.has cells.old usage.old root es t → Found usage.old trail.now t
-        → Reached C.has usage.old cells.new usage.new root spot.at es spot.node) }
-    ensures stood { (es : List Entry) (t : Tree) → Stood C.has cells.old usage.old root es t → Found usage.old trail.now t → (u : Tree) × Stood C.has cells.new usage.new root es u }
+    requires can { CanRearrange C.has C.kept C.given root cells.old usage.old }
+    requires found { Finds C.has cells.old usage.old root trail.now }
+    ensures reached { IfOk result (λ spot. (es : List Entry) (t : Tree) → Stood C.has cells.old usage.old root es t → Reached C.has usage.old cells.new usage.new root spot.at es spot.node) }
     ensures writable { IfOk result (λ spot. IsWritable C.given reserve_account_of cells.new usage.new spot.at) }
-    ensures moves { (given : List Bool) → Fills given usage.old → Moves given 0 usage.old usage.new }
+    ensures rearranged { Rearranged C.has C.kept C.given root cells.old usage.old cells.new usage.new }
     ensures full { IfErr result (λ _. IsFull usage.new) }
     ensures left { IfErr result (λ _. (given : List Bool) → Fills given usage.old → HasSparse usage.new) }
-    ensures frame { Fenced C.has C.kept C.given reserve_account_of cells.old usage.old cells.new usage.new }
-    ensures ready { Ready C.kept C.given reserve_account_of cells.new usage.new }
 {
     let mut at = root;
     let mut node = Node::of(cells.cell(root));
     while let Some(branch) = branch_before(node, trail.end) {
         let index = trail.index_at(branch.offset);
-        at = copy_twig(cells, usage, at, branch, index)?;
+        let stays = usage.is_mutable(branch.twigs + index);
+        let descent = Descent { branch, index };
+        at = pass(cells, usage, at, Passage { descent, stays })?;
         node = Node::of(cells.cell(at));
     }
     Ok(Spot { at, node })
@@ -103,9 +70,7 @@ pub fn reach<C: CellWrite>(
 /// Moves what hangs on a spot's node: the twigs of a branch, or the extents of an item as far as some lie in sparse chunks. Where there is
 /// no room, what was moved before stays so.
 fn move_spot<C: CellWrite>(cells: &mut C, usage: &mut Usage, spot: Spot) -> Result<(), Full>
-    requires hung { IsHung C.has cells.old usage.old spot.at spot.node }
-    requires writable { IsWritable C.given reserve_account_of cells.old usage.old spot.at }
-    requires ready { Ready C.kept C.given reserve_account_of cells.old usage.old }
+    requires { CanMove C.has C.kept C.given spot.at spot.node cells.old usage.old }
     ensures stood { (r : ℕ) (es : List Entry) (way : List Fork) (t : Tree) → Hung C.has cells.old usage.old r spot.at es way t → spot.node ≡ node_of t → (u : Tree) × Stood C.has cells.new usage.new r es u }
     ensures moves { IsDue C.has cells.old usage.old spot.at spot.node → (given : List Bool) → Fills given usage.old → Moves given 0 usage.old usage.new }
     ensures less { IfOk result (λ _. IsDue C.has cells.old usage.old spot.at spot.node → Fewer usage.old usage.new) }
@@ -131,16 +96,12 @@ pub fn move_found<C: CellWrite>(
     root: Ref,
     trail: &Trail,
 ) -> Result<Ref, Full>
-    requires found { HasFound C.has cells.old usage.old root trail.now }
-    requires writable { IsWritable C.given reserve_account_of cells.old usage.old root }
-    requires ready { Ready C.kept C.given reserve_account_of cells.old usage.old }
-    ensures stood { (es : List Entry) (t : Tree) → Stood C.has cells.old usage.old root es t → Found usage.old trail.now t → (u : Tree) × Stood C.has cells.new usage.new root es u }
-    ensures moves { (given : List Bool) → Fills given usage.old → Moves given 0 usage.old usage.new }
+    requires can { CanRearrange C.has C.kept C.given root cells.old usage.old }
+    requires found { Finds C.has cells.old usage.old root trail.now }
+    ensures rearranged { Rearranged C.has C.kept C.given root cells.old usage.old cells.new usage.new }
     ensures less { IfOk result (λ _. (given : List Bool) → Fills given usage.old → old_live given usage.new.live < old_live given usage.old.live) }
     ensures full { IfErr result (λ _. IsFull usage.new) }
     ensures left { IfErr result (λ _. (given : List Bool) → Fills given usage.old → HasSparse usage.new) }
-    ensures frame { Fenced C.has C.kept C.given reserve_account_of cells.old usage.old cells.new usage.new }
-    ensures ready { Ready C.kept C.given reserve_account_of cells.new usage.new }
 {
     let spot = reach(cells, usage, root, trail)?;
     let from = first_cell(spot.node);

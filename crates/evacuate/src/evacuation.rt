@@ -1,9 +1,8 @@
 //! Evacuation: sparse chunks are emptied.
 
-ghost use Rattle.std.specs.Prelude.{◌≡◌, ◌+◌, ◌*◌, ◌-◌, ◌/◌, ◌<◌, ◌≤◌, ℕ, List, Bool, true, false, Some, length, slice_index};
-ghost use Rattle.evacuate.specs.Prelude.{filled_cells, Entry, cells_of, Tree, free_count, consumed, account_of};
-ghost use Rattle.evacuate.specs.Prelude.{reserve_account_of, Ready, Fenced, HasTrie, FillsNew, IsDense, IsCleared};
-ghost use Rattle.evacuate.specs.Prelude.{HasSparse, refused, Fills, IsFull, old_live, Stood, IsStood, CanRearrange, Rearranged};
+ghost use Rattle.std.specs.Prelude.{◌≡◌, ◌+◌, ◌/◌, ◌≤◌, List, true, false};
+ghost use Rattle.evacuate.specs.Prelude.{filled_cells, Entry, cells_of, free_count, account_of, reserve_account_of, Ready, Fenced, HasTrie, FillsNew};
+ghost use Rattle.evacuate.specs.Prelude.{IsDense, IsCleared, HasSparse, ListsEnd, refused, IsFull, IsStood, CanRearrange, Emptied, Rearranged};
 
 use super::beginning::{begin, copy_root};
 use super::descent::move_found;
@@ -67,15 +66,10 @@ fn empty_sparse<C: CellWrite>(cells: &mut C, usage: &mut Usage, root: Ref) -> (R
     requires stood { IsStood C.has cells.old usage.old root }
     requires sparse { HasSparse usage.old }
     requires ready { Ready C.kept C.given reserve_account_of cells.old usage.old }
-    ensures stood { (es : List Entry) (t : Tree) → Stood C.has cells.old usage.old root es t → (u : Tree) × Stood C.has cells.new usage.new result.0 es u }
+    ensures emptied { Emptied C.has C.kept C.given root cells.old usage.old result.0 cells.new usage.new }
     ensures whole { result.1 ≡ Done.Whole → IsCleared usage.new }
     ensures stopped { result.1 ≡ Done.Stopped → IsFull usage.new }
     ensures left { result.1 ≡ Done.Stopped → HasSparse usage.new }
-    ensures fills { FillsNew usage.old usage.new }
-    ensures count { length usage.new.given ≡ length usage.old.given }
-    ensures paid { consumed usage.new ≤ filled_cells * (length usage.old.given - free_count usage.old) + old_live usage.old.given usage.old.live }
-    ensures frame { Fenced C.has C.kept C.given reserve_account_of cells.old usage.old cells.new usage.new }
-    ensures ready { Ready C.kept C.given reserve_account_of cells.new usage.new }
 {
     usage.known(); // for the proof
     let chunk = begin(usage);
@@ -111,9 +105,7 @@ fn empty_sparse<C: CellWrite>(cells: &mut C, usage: &mut Usage, root: Ref) -> (R
 fn empty_listed<C: CellWrite>(cells: &mut C, usage: &mut Usage, root: Ref) -> Option<Done>
     requires { CanRearrange C.has C.kept C.given root cells.old usage.old }
     ensures rearranged { Rearranged C.has C.kept C.given root cells.old usage.old cells.new usage.new }
-    ensures whole { result ≡ Some Done.Whole → IsCleared usage.new }
-    ensures full { result ≡ Some Done.Stopped → IsFull usage.new }
-    ensures left { result ≡ Some Done.Stopped → (given : List Bool) → Fills given usage.old → HasSparse usage.new }
+    ensures ended { ListsEnd usage.old usage.new result }
 {
     match known_lists(cells, usage, root) {
         None => {
@@ -128,9 +120,7 @@ fn empty_listed<C: CellWrite>(cells: &mut C, usage: &mut Usage, root: Ref) -> Op
 fn known_lists<C: CellWrite>(cells: &mut C, usage: &mut Usage, root: Ref) -> Option<Done>
     requires { CanRearrange C.has C.kept C.given root cells.old usage.old }
     ensures rearranged { Rearranged C.has C.kept C.given root cells.old usage.old cells.new usage.new }
-    ensures whole { result ≡ Some Done.Whole → IsCleared usage.new }
-    ensures full { result ≡ Some Done.Stopped → IsFull usage.new }
-    ensures left { result ≡ Some Done.Stopped → (given : List Bool) → Fills given usage.old → HasSparse usage.new }
+    ensures ended { ListsEnd usage.old usage.new result }
 {
     if usage.is_any_lacking() {
         return None;
@@ -142,9 +132,7 @@ fn known_lists<C: CellWrite>(cells: &mut C, usage: &mut Usage, root: Ref) -> Opt
 fn try_lists<C: CellWrite>(cells: &mut C, usage: &mut Usage, root: Ref) -> Option<Done>
     requires { CanRearrange C.has C.kept C.given root cells.old usage.old }
     ensures rearranged { Rearranged C.has C.kept C.given root cells.old usage.old cells.new usage.new }
-    ensures whole { result ≡ Some Done.Whole → IsCleared usage.new }
-    ensures full { result ≡ Some Done.Stopped → IsFull usage.new }
-    ensures left { result ≡ Some Done.Stopped → (given : List Bool) → Fills given usage.old → HasSparse usage.new }
+    ensures ended { ListsEnd usage.old usage.new result }
 {
     for _ in 0..ROUNDS {
         let moved = move_listed(cells, usage, root);

@@ -1,7 +1,7 @@
 //! What lies in sparse chunks along a path that forks: at a branch of which it says no twig it goes on to all.
 
-ghost use Rattle.std.specs.Prelude.{◌≡◌, ◌<◌, ◌≤◌, ℕ, true, IfErr, count_ones, slice_index};
-ghost use Rattle.evacuate.specs.Prelude.{Tree, IsTop, IsFull, CanRearrange, Rearranged, Found};
+ghost use Rattle.std.specs.Prelude.{◌≡◌, ◌≤◌, true, IfErr, count_ones};
+ghost use Rattle.evacuate.specs.Prelude.{Tree, IsTop, IsFull, CanRearrange, Rearranged, Found, TrailKept};
 
 use super::descent::{move_found, reach};
 use super::path_walk::{descent_on, position_from};
@@ -94,10 +94,9 @@ fn last_below<C: CellRead>(
 ) -> bool
     requires top { (t : Tree) × IsTop (C.has cells.old) low node t }
     requires low { low ≤ 504 }
-    ensures same { cells.new ≡ cells.old }
+    ensures kept { TrailKept cells.old cells.new low trail.old trail.new }
     ensures found { result ≡ true → (t : Tree) → IsTop (C.has cells.old) low node t → Found usage.now trail.new t }
     ensures late { result ≡ true → low ≤ trail.new.end }
-    ensures above { (i : ℕ) → i < low → slice_index trail.new.indices i ≡ slice_index trail.old.indices i }
 {
     if search.nodes == 0 {
         return false;

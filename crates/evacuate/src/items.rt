@@ -4,7 +4,7 @@
 ghost use Rattle.std.specs.Prelude.{◌≡◌, ◌⊎◌, ◌+◌, ◌-◌, ◌/◌, ◌^◌, ◌<◌, ◌≤◌, ℕ, List, Bool, true, false, IfOk, IfErr};
 ghost use Rattle.evacuate.specs.Prelude.{leaf_node, Extents, first_of_extents, Entry, node_of, Tree, is_sparse, is_mutable};
 ghost use Rattle.evacuate.specs.Prelude.{reserve_account_of, Ready, Fenced, IsWritable, Fork, Goes, GoesOn, GoesSparse, HasSparse};
-ghost use Rattle.evacuate.specs.Prelude.{Fills, Moves, Fewer, MovedIfDue, IsFull, moved, put_first, Stood, Hung, IsHung, IsDue};
+ghost use Rattle.evacuate.specs.Prelude.{Fills, Moves, Fewer, MovedIfDue, IsFull, moved, put_first, Stood, Hung, IsDue, CanMove, Unmoved};
 
 use super::moves::{move_linked, move_node};
 use super::sparse::is_item_sparse;
@@ -37,17 +37,13 @@ fn move_first<C: CellWrite>(
     at: Ref,
     leaf: Leaf,
 ) -> Result<Ref, Full>
-    requires hung { IsHung C.has cells.old usage.old at (leaf_node leaf) }
-    requires writable { IsWritable C.given reserve_account_of cells.old usage.old at }
-    requires ready { Ready C.kept C.given reserve_account_of cells.old usage.old }
+    requires { CanMove C.has C.kept C.given at (leaf_node leaf) cells.old usage.old }
     ensures hung { IfOk result (λ to. (r : ℕ) (es : List Entry) (way : List Fork) (t : Tree) → Hung C.has cells.old usage.old r at es way t → leaf_node leaf ≡ node_of t
         → Hung C.has cells.new usage.new r at es way (moved t to)) }
     ensures writable { IfOk result (λ to. 4096 < leaf.len → IsWritable C.given reserve_account_of cells.new usage.new (to + 255)) }
     ensures moves { (given : List Bool) → Fills given usage.old → Moves given 0 usage.old usage.new }
     ensures if_due { IfOk result (λ _. MovedIfDue usage.old usage.new leaf.at) }
-    ensures full { IfErr result (λ _. IsFull usage.new) }
-    ensures same { IfErr result (λ _. cells.new ≡ cells.old) }
-    ensures unchanged { IfErr result (λ _. usage.new ≡ usage.old) }
+    ensures unmoved { IfErr result (λ _. Unmoved cells.old usage.old cells.new usage.new) }
     ensures frame { Fenced C.has C.kept C.given reserve_account_of cells.old usage.old cells.new usage.new }
     ensures ready { Ready C.kept C.given reserve_account_of cells.new usage.new }
 {
@@ -69,9 +65,7 @@ fn move_next<C: CellWrite>(cells: &mut C, usage: &mut Usage, at: Ref, len: u16) 
     ensures moves { (given : List Bool) → Fills given usage.old → Moves given 0 usage.old usage.new }
     ensures if_due { IfOk result (λ _. (r : ℕ) (es : List Entry) (way : List Fork) (e : Entry) (front : List ℕ) (rest : Extents) → Goes C.has cells.old usage.old r at len es way e front rest
         → MovedIfDue usage.old usage.new (first_of_extents rest)) }
-    ensures full { IfErr result (λ _. IsFull usage.new) }
-    ensures same { IfErr result (λ _. cells.new ≡ cells.old) }
-    ensures unchanged { IfErr result (λ _. usage.new ≡ usage.old) }
+    ensures unmoved { IfErr result (λ _. Unmoved cells.old usage.old cells.new usage.new) }
     ensures frame { Fenced C.has C.kept C.given reserve_account_of cells.old usage.old cells.new usage.new }
     ensures ready { Ready C.kept C.given reserve_account_of cells.new usage.new }
 {
@@ -123,9 +117,7 @@ pub fn move_item<C: CellWrite>(
     at: Ref,
     leaf: Leaf,
 ) -> Result<(), Full>
-    requires hung { IsHung C.has cells.old usage.old at (leaf_node leaf) }
-    requires writable { IsWritable C.given reserve_account_of cells.old usage.old at }
-    requires ready { Ready C.kept C.given reserve_account_of cells.old usage.old }
+    requires { CanMove C.has C.kept C.given at (leaf_node leaf) cells.old usage.old }
     ensures stood { (r : ℕ) (es : List Entry) (way : List Fork) (t : Tree) → Hung C.has cells.old usage.old r at es way t → leaf_node leaf ≡ node_of t → (u : Tree) × Stood C.has cells.new usage.new r es u }
     ensures moves { (given : List Bool) → Fills given usage.old → Moves given 0 usage.old usage.new }
     ensures less { IfOk result (λ _. IsDue C.has cells.old usage.old at (leaf_node leaf) → Fewer usage.old usage.new) }

@@ -3,6 +3,7 @@
 
 mod along;
 mod beginning;
+mod behind;
 mod descent;
 mod evacuation;
 mod foothold;

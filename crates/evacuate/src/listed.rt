@@ -3,7 +3,7 @@
 ghost use Rattle.std.specs.Prelude.{◌≡◌, IfErr};
 ghost use Rattle.evacuate.specs.Prelude.{IsFull, CanRearrange, Rearranged};
 
-use super::along::{copy_on, empty_along};
+use super::along::{empty_along, go_on};
 use super::foothold::descend;
 use super::forks::{copy_forked, move_forked};
 use super::marks::{Listing, Mark, Marks};
@@ -74,11 +74,11 @@ fn copy_along<C: CellWrite>(
     match last_along(cells, chunk, from.node, from.on) {
         Last::None => Ok(None),
         Last::Below { end, rest } => {
-            let noted = copy_on(cells, usage, root, from, chunk, end)?;
-            if noted {
+            let way = go_on(cells, usage, root, from, chunk, end, true)?;
+            if way.moved {
                 usage.note(path);
             }
-            Ok(mark_of(noted, rest))
+            Ok(mark_of(way.moved, rest))
         }
         Last::Forks => {
             let found = copy_forked(cells, usage, root, path)?;

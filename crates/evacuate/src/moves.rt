@@ -2,8 +2,8 @@
 
 ghost use Rattle.std.specs.Prelude.{◌≡◌, ◌≢◌, ◌+◌, ◌-◌, ◌*◌, ◌^◌, ◌/◌, ◌<◌, ◌≤◌, ℕ, List, Bool, true, false, IfOk, IfErr, [], slice_index};
 ghost use Rattle.evacuate.specs.Prelude.{Cell, Extents, IsRow, first_of_extents, Entry, node_of, Tree, Handed, reserve_account_of};
-ghost use Rattle.evacuate.specs.Prelude.{Ready, Frame, Fenced, MayWrite, IsWritable, Fork, Goes, GoesOn, Fills, Moves, Paid, IsFull};
-ghost use Rattle.evacuate.specs.Prelude.{is_old, first_of, first_width, width_of, put_first, moved, Stood, Hung, IsStood, IsHung};
+ghost use Rattle.evacuate.specs.Prelude.{Ready, Frame, Fenced, MayWrite, IsWritable, Fork, Goes, GoesOn, Fills, Moves, Paid};
+ghost use Rattle.evacuate.specs.Prelude.{is_old, first_of, first_width, width_of, put_first, moved, Stood, Hung, IsStood, CanMove, Unmoved};
 
 use super::node_cells::{cell_count, first_cell, first_extent_for, with_cells_at};
 use super::room::room_for;
@@ -26,9 +26,7 @@ fn copy_out<C: CellWrite>(cells: &mut C, usage: &mut Usage, from: Ref, n: u32) -
     ensures copied { IfOk result (λ to. (i : ℕ) (c : Cell) → i < n → C.has cells.old (from + i) c → C.has cells.new (to + i) c) }
     ensures elsewhere { IfOk result (λ to. (given : List Bool) → Fills given usage.old → is_old given to ≡ false) }
     ensures moves { (given : List Bool) → Fills given usage.old → Moves given n usage.old usage.new }
-    ensures full { IfErr result (λ _. IsFull usage.new) }
-    ensures same { IfErr result (λ _. cells.new ≡ cells.old) }
-    ensures unchanged { IfErr result (λ _. usage.new ≡ usage.old) }
+    ensures unmoved { IfErr result (λ _. Unmoved cells.old usage.old cells.new usage.new) }
     ensures frame { Frame C.has C.kept C.given reserve_account_of cells.old usage.old cells.new usage.new }
     ensures ready { Ready C.kept C.given reserve_account_of cells.new usage.new }
 {
@@ -44,16 +42,12 @@ pub fn move_node<C: CellWrite>(
     at: Ref,
     node: Node,
 ) -> Result<Ref, Full>
-    requires hung { IsHung C.has cells.old usage.old at node }
-    requires writable { IsWritable C.given reserve_account_of cells.old usage.old at }
-    requires ready { Ready C.kept C.given reserve_account_of cells.old usage.old }
+    requires { CanMove C.has C.kept C.given at node cells.old usage.old }
     ensures hung { IfOk result (λ to. (r : ℕ) (es : List Entry) (way : List Fork) (t : Tree) → Hung C.has cells.old usage.old r at es way t → node ≡ node_of t
         → Hung C.has cells.new usage.new r at es way (moved t to)) }
     ensures writable { IfOk result (λ to. (i : ℕ) → i < width_of node → IsWritable C.given reserve_account_of cells.new usage.new (to + i)) }
     ensures paid { IfOk result (λ _. (given : List Bool) → Fills given usage.old → is_old given (first_of node) ≡ true → Paid given (width_of node) usage.old usage.new) }
-    ensures full { IfErr result (λ _. IsFull usage.new) }
-    ensures same { IfErr result (λ _. cells.new ≡ cells.old) }
-    ensures unchanged { IfErr result (λ _. usage.new ≡ usage.old) }
+    ensures unmoved { IfErr result (λ _. Unmoved cells.old usage.old cells.new usage.new) }
     ensures frame { Fenced C.has C.kept C.given reserve_account_of cells.old usage.old cells.new usage.new }
     ensures ready { Ready C.kept C.given reserve_account_of cells.new usage.new }
 {
@@ -81,9 +75,7 @@ pub fn move_linked<C: CellWrite>(
     ensures writable { IfOk result (λ to. (i : ℕ) → i < first_width (len - 4080) → IsWritable C.given reserve_account_of cells.new usage.new (to + i)) }
     ensures paid { IfOk result (λ _. (r : ℕ) (es : List Entry) (way : List Fork) (e : Entry) (front : List ℕ) (rest : Extents) → Goes C.has cells.old usage.old r at len es way e front rest
         → (given : List Bool) → Fills given usage.old → is_old given (first_of_extents rest) ≡ true → Paid given (first_width (len - 4080)) usage.old usage.new) }
-    ensures full { IfErr result (λ _. IsFull usage.new) }
-    ensures same { IfErr result (λ _. cells.new ≡ cells.old) }
-    ensures unchanged { IfErr result (λ _. usage.new ≡ usage.old) }
+    ensures unmoved { IfErr result (λ _. Unmoved cells.old usage.old cells.new usage.new) }
     ensures frame { Fenced C.has C.kept C.given reserve_account_of cells.old usage.old cells.new usage.new }
     ensures ready { Ready C.kept C.given reserve_account_of cells.new usage.new }
 {
@@ -103,9 +95,7 @@ pub fn move_root<C: CellWrite>(cells: &mut C, usage: &mut Usage, root: Ref) -> R
     ensures writable { IfOk result (λ to. IsWritable C.given reserve_account_of cells.new usage.new to) }
     ensures elsewhere { IfOk result (λ to. (given : List Bool) → Fills given usage.old → is_old given to ≡ false) }
     ensures paid { IfOk result (λ _. (given : List Bool) → Fills given usage.old → is_old given root ≡ true → Paid given 1 usage.old usage.new) }
-    ensures full { IfErr result (λ _. IsFull usage.new) }
-    ensures same { IfErr result (λ _. cells.new ≡ cells.old) }
-    ensures unchanged { IfErr result (λ _. usage.new ≡ usage.old) }
+    ensures unmoved { IfErr result (λ _. Unmoved cells.old usage.old cells.new usage.new) }
     ensures frame { Fenced C.has C.kept C.given reserve_account_of cells.old usage.old cells.new usage.new }
     ensures ready { Ready C.kept C.given reserve_account_of cells.new usage.new }
 {

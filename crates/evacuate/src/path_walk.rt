@@ -3,8 +3,8 @@
 ghost use Rattle.std.specs.Prelude.{◌≡◌, ◌<◌, ℕ, List, IfSome, count_ones};
 ghost use Rattle.evacuate.specs.Prelude.{branch_node, HasItem, node_of, top_cell, Tree, IsTop};
 
+use super::behind::extent_behind;
 use chunk_cells::CellRead;
-use chunk_cells::extents::{LAST_OCTETS, LINKED_OCTETS, next_extent};
 use chunk_usage::Path;
 use packed_node::{Branch, Node, Ref, chunk_of};
 
@@ -97,11 +97,10 @@ fn is_item_in<C: CellRead>(cells: &mut C, chunk: u32, at: Ref, len: u16) -> bool
     if chunk_of(at) == chunk {
         return true;
     }
-    if len as usize <= LAST_OCTETS {
-        return false;
+    match extent_behind(cells, at, len) {
+        None => false,
+        Some(next) => is_item_in(cells, chunk, next.at, next.len),
     }
-    let next = next_extent(cells, at);
-    is_item_in(cells, chunk, next, len - LINKED_OCTETS as u16)
 }
 
 /// Goes down from a node along a path, to find the last on it whose twigs, or some extent of whose item, lie in a chunk. Above an item the

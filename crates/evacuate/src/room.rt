@@ -1,7 +1,7 @@
 //! Cells for what is moved. The reserve is handed out too.
 
 ghost use Rattle.std.specs.Prelude.{◌≡◌, ◌≢◌, ◌+◌, ◌^◌, ◌/◌, ◌<◌, ◌≤◌, ℕ, List, Bool, false, IfOk, IfErr, slice_index_or};
-ghost use Rattle.evacuate.specs.Prelude.{Cell, reserve_allocated, Handed, reserve_account_of, Ready, Frame, MayWrite, Fills, Moves, IsFull, is_old};
+ghost use Rattle.evacuate.specs.Prelude.{Cell, reserve_allocated, Handed, reserve_account_of, Ready, Frame, MayWrite, Fills, Moves, Unmoved, is_old};
 
 use chunk_cells::CellWrite;
 use chunk_usage::{Full, Usage};
@@ -19,9 +19,7 @@ pub fn room_for<C: CellWrite>(cells: &mut C, usage: &mut Usage, n: u32) -> Resul
     ensures after { usage.new ≡ reserve_allocated usage.old n }
     ensures elsewhere { IfOk result (λ at. (given : List Bool) → Fills given usage.old → is_old given at ≡ false) }
     ensures moves { (given : List Bool) → Fills given usage.old → Moves given n usage.old usage.new }
-    ensures full { IfErr result (λ _. IsFull usage.new) }
-    ensures same { IfErr result (λ _. cells.new ≡ cells.old) }
-    ensures unchanged { IfErr result (λ _. usage.new ≡ usage.old) }
+    ensures unmoved { IfErr result (λ _. Unmoved cells.old usage.old cells.new usage.new) }
     ensures frame { Frame C.has C.kept C.given reserve_account_of cells.old usage.old cells.new usage.new }
     ensures ready { Ready C.kept C.given reserve_account_of cells.new usage.new }
 {

@@ -3,8 +3,8 @@
 ghost use Rattle.std.specs.Prelude.{◌≡◌, true, false, ℕ, List};
 ghost use Rattle.evacuate.specs.Prelude.{Extents, HasItem, LiesAt, is_sparse, IsCleared, HasSparse, SparseExtents};
 
+use super::behind::extent_behind;
 use chunk_cells::CellRead;
-use chunk_cells::extents::{LAST_OCTETS, LINKED_OCTETS, next_extent};
 use chunk_usage::Usage;
 use packed_node::{Ref, chunk_of};
 
@@ -40,9 +40,8 @@ pub fn is_item_sparse<C: CellRead>(cells: &mut C, usage: &Usage, at: Ref, len: u
     if is_chunk_sparse(usage, chunk_of(at)) {
         return true;
     }
-    if len as usize <= LAST_OCTETS {
-        return false;
+    match extent_behind(cells, at, len) {
+        None => false,
+        Some(next) => is_item_sparse(cells, usage, next.at, next.len),
     }
-    let next = next_extent(cells, at);
-    is_item_sparse(cells, usage, next, len - LINKED_OCTETS as u16)
 }

@@ -3,9 +3,9 @@
 ghost use Rattle.std.specs.Prelude.{◌≡◌, ◌≤◌, ℕ, List};
 ghost use Rattle.evacuate.specs.Prelude.{HasItem, Tree, IsTop, IsStood};
 
+use super::behind::extent_behind;
 use super::path_walk::position_from;
 use chunk_cells::CellRead;
-use chunk_cells::extents::{LAST_OCTETS, LINKED_OCTETS, next_extent};
 use chunk_usage::{Path, Usage};
 use packed_node::{Branch, Cell, Node, Ref, chunk_of};
 
@@ -16,9 +16,8 @@ fn pass_item<C: CellRead>(cells: &mut C, usage: &mut Usage, at: Ref, len: u16, p
     ensures usage { usage.new ≡ usage.old }
 {
     usage.pass(chunk_of(at), path);
-    if len as usize > LAST_OCTETS {
-        let next = next_extent(cells, at);
-        pass_item(cells, usage, next, len - LINKED_OCTETS as u16, path);
+    if let Some(next) = extent_behind(cells, at, len) {
+        pass_item(cells, usage, next.at, next.len, path);
     }
 }
 

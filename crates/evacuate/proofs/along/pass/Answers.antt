@@ -1,37 +1,28 @@
-use Rattle.std.proofs.Common.{◌≡◌, ◌+◌, ◌/◌, true, Bool, List, inl, inr, Fits-lit, arith, refl, sym, ap, subst, ℕ}
+use Rattle.std.proofs.Common.{◌≡◌, ◌+◌, ◌/◌, true, inl, inr, Fits-lit, arith, refl, ap, ℕ}
 use Rattle.std.proofs.Math.Facts.{Fits-lt}
-use Rattle.chunk_cells.specs.Chunks.{IsGiven}
-use Rattle.chunk_sets.proofs.FlagLemmas.{get_set}
-use Rattle.chunk_usage.proofs.SpaceLaws.{used_given}
 use Rattle.evacuate.specs.Fillings.{is_old}
 use Rattle.evacuate.specs.Places.{first_of, width_of}
 use Rattle.evacuate.proofs.FillingLaws.{sparse_old, settled_old, same_chunk_old}
-use Rattle.evacuate.proofs.TreeLaws.{hung_cells, hung_tree, moved_row}
+use Rattle.evacuate.proofs.TreeLaws.{hung_cells, hung_tree, moved_row, used_writable}
 use Rattle.evacuate.proofs.along.pass.Goals as goal
 
 pub overflow_add-result : goal.overflow_add-result
 overflow_add-result g c =
-    let x = hung_cells c.requires.hung.hung (ap first_of c.requires.hung.is) (ap width_of c.requires.hung.is) in
-    let i = x.row.row.inside in let l = c.requires.index in
+    let x = hung_cells c.requires.can.hung.hung (ap first_of c.requires.can.hung.is) (ap width_of c.requires.can.hung.is) in
+    let i = x.row.row.inside in let l = c.requires.may_pass.index in
     Fits-lt {n = 4194304} (omega arith) (Fits-lit tt)
 
 pub returns-then-passage-clause-writable : goal.returns-then-passage-clause-writable
 returns-then-passage-clause-writable g c =
-    let x = hung_cells c.requires.hung.hung (ap first_of c.requires.hung.is) (ap width_of c.requires.hung.is) in
-    let q = c.args.passage.descent.branch.twigs + c.args.passage.descent.index in
-    let used = x.in_use c.args.passage.descent.index c.requires.index in
-    record {
-      in_use = used;
-      mutable = c.requires.stays c.if-passage.true;
-      in_given = subst (λ (flags : List Bool). IsGiven flags (q / 1024)) (sym c.requires.ready.same) (get_set c.args.usage.now.given (q / 1024) (used_given c.args.usage.now c.known.ensures q used));
-    }
+    let x = hung_cells c.requires.can.hung.hung (ap first_of c.requires.can.hung.is) (ap width_of c.requires.can.hung.is) in
+    used_writable c.known.ensures c.requires.can.ready (x.in_use c.args.passage.descent.index c.requires.may_pass.index) (c.requires.may_pass.stays c.if-passage.true)
 
 pub overflow_add-result-2 : goal.overflow_add-result-2
 overflow_add-result-2 g c =
-    let h = c.requires.hung in
+    let h = c.requires.can.hung in
     let r = moved_row h.t c.in_ok-to.to (hung_tree (c.in_ok-to.ensures.hung h.r h.es h.way h.t h.hung h.is)) in
     let n = ap width_of h.is in
-    let i = r.inside in let l = c.requires.index in
+    let i = r.inside in let l = c.requires.may_pass.index in
     Fits-lt {n = 4194304} (omega arith) (Fits-lit tt)
 
 pub returns-clause-hung : goal.returns-clause-hung
@@ -44,12 +35,12 @@ returns-clause-moves g c given fills = (c.in_ok-to.ensures.paid given fills old)
     twigs = c.args.passage.descent.branch.twigs
 
     old : is_old given twigs ≡ true
-    old = elim (c.requires.due c.if-passage.false) [
+    old = elim (c.requires.may_pass.due c.if-passage.false) [
       | inl sparse ↦ sparse_old given c.args.usage.now fills (twigs / 1024) sparse
       | inr settled ↦ (
-          let x = hung_cells c.requires.hung.hung (ap first_of c.requires.hung.is) (ap width_of c.requires.hung.is) in
-          let together = x.row.row.together in let l = c.requires.index in
+          let x = hung_cells c.requires.can.hung.hung (ap first_of c.requires.can.hung.is) (ap width_of c.requires.can.hung.is) in
+          let together = x.row.row.together in let l = c.requires.may_pass.index in
           same_chunk_old given twigs (twigs + c.args.passage.descent.index) (omega arith)
-          (settled_old given c.args.usage.now fills c.known.ensures (twigs + c.args.passage.descent.index) (x.in_use c.args.passage.descent.index c.requires.index) settled)
+          (settled_old given c.args.usage.now fills c.known.ensures (twigs + c.args.passage.descent.index) (x.in_use c.args.passage.descent.index c.requires.may_pass.index) settled)
           )
     ]

@@ -1,93 +1,109 @@
-use Rattle.std.proofs.Common.{arith, sym, ap, subst}
+use Rattle.std.proofs.Common.{inr, Fits-lit, arith, sym, ◌∙◌, ap, subst}
+use Rattle.std.proofs.Math.Facts.{Fits-lt}
 use Rattle.chunk_usage.specs.Rooms.{reserve_account_of}
 use Rattle.trie_space.specs.Spaces.{Fenced, IsWritable}
 use Rattle.trie_space.specs.Ways.{plug}
 use Rattle.trie_space.proofs.SpaceLaws.{frame_refl, fenced_of, fenced_then, ready_put}
 use Rattle.evacuate.specs.Evacuations.{HasSparse}
-use Rattle.evacuate.specs.Fillings.{Moves}
+use Rattle.evacuate.specs.Places.{first_of, width_of}
 use Rattle.evacuate.specs.Trails.{Underway}
 use Rattle.evacuate.proofs.FillingLaws.{moves_none, moves_then}
-use Rattle.evacuate.proofs.DescentLaws.{begins, by_err, stood_same, hung_there, hung_says, hung_read, underway_first, underway_hung, branch_node_is, early, index_inside, further_there, further_says, underway_further, underway_left, fewer_places, reached_here}
+use Rattle.evacuate.proofs.DescentLaws.{begins, by_err, hung_there, hung_says, hung_read, underway_first, underway_hung, branch_node_is, early, index_inside, further_there, further_says, underway_further, underway_left, fewer_places, reached_here}
+use Rattle.evacuate.proofs.RearrangeLaws.{rearranged_same, rearranged_then, underway_ends}
+use Rattle.evacuate.proofs.TreeLaws.{hung_cells}
 use Rattle.evacuate.proofs.descent.reach.Goals as goal
 
 pub of-node-requires : goal.of-node-requires
-of-node-requires g c = let h = begins c.requires.found.stood in hung_says h (c.cell.ensures.value _ (hung_there h))
+of-node-requires g c = let h = begins c.requires.can.stands.stood in hung_says h (c.cell.ensures.value _ (hung_there h))
 
 pub loop-branch-init : goal.loop-branch-init
 loop-branch-init g c = record {
-  way = λ es t stood found.
+  way = λ es t stood.
       let h = begins stood in
       subst (λ s. Underway g.C.CellRead.has c.args.usage.now c.args.trail.now s c.args.usage.now c.args.root c.args.root es c.of-node.result) (sym c.cell.ensures.same)
-      (underway_first stood found (hung_read h (c.cell.ensures.value _ (hung_there h)) c.of-node.ensures.back));
-  writable = subst (λ s. IsWritable g.C.CellWrite.given reserve_account_of s c.args.usage.now c.args.root) (sym c.cell.ensures.same) c.requires.writable;
+      (underway_first stood (c.requires.found es t stood) (hung_read h (c.cell.ensures.value _ (hung_there h)) c.of-node.ensures.back));
+  writable = subst (λ s. IsWritable g.C.CellWrite.given reserve_account_of s c.args.usage.now c.args.root) (sym c.cell.ensures.same) c.requires.can.writable;
   moves = λ given fills. moves_none given c.args.usage.now fills;
   frame = subst (λ s. Fenced g.C.CellRead.has g.C.CellWrite.kept g.C.CellWrite.given reserve_account_of c.args.cells.now c.args.usage.now s c.args.usage.now) (sym c.cell.ensures.same) (fenced_of (frame_refl c.args.cells.now c.args.usage.now));
-  ready = ready_put c.requires.ready (ap g.C.CellWrite.given c.cell.ensures.same) (ap g.C.CellWrite.kept c.cell.ensures.same);
+  ready = ready_put c.requires.can.ready (ap g.C.CellWrite.given c.cell.ensures.same) (ap g.C.CellWrite.kept c.cell.ensures.same);
 }
 
 pub index_at-index-requires : goal.index_at-index-requires
 index_at-index-requires g c =
-    let u = c.loop-branch.invariant.way _ _ c.requires.found.stood c.requires.found.found in
+    let u = c.loop-branch.invariant.way _ _ c.requires.can.stands.stood in
     early u c.in-Some.branch c.in-Some.ensures.branch c.in-Some.ensures.before
 
-pub copy_twig-requires-clause-hung : goal.copy_twig-requires-clause-hung
-copy_twig-requires-clause-hung g c = underway_hung (c.loop-branch.invariant.way _ _ c.requires.found.stood c.requires.found.found) c.in-Some.ensures.branch
-
-pub copy_twig-requires-clause-index : goal.copy_twig-requires-clause-index
-copy_twig-requires-clause-index g c =
-    let u = c.loop-branch.invariant.way _ _ c.requires.found.stood c.requires.found.found in
+pub overflow_add-branch : goal.overflow_add-branch
+overflow_add-branch g c =
+    let u = c.loop-branch.invariant.way _ _ c.requires.can.stands.stood in
+    let h = underway_hung u c.in-Some.ensures.branch in
+    let i = (hung_cells h.hung (ap first_of h.is) (ap width_of h.is)).row.row.inside in
     let l = index_inside u c.in-Some.branch c.in-Some.ensures.branch c.in-Some.ensures.before in
-    let e = c.index_at-index.ensures in omega arith
+    let e = c.index_at-index.ensures in
+    Fits-lt {n = 4194304} (omega arith) (Fits-lit tt)
 
-pub returns-in_err-at-clause-stood : goal.returns-in_err-at-clause-stood
-returns-in_err-at-clause-stood g c es t stood found =
-    let u = c.loop-branch.invariant.way es t stood found in (plug u.upper (plug u.rest u.end), stood_same c.in_err-at.ensures.same c.in_err-at.ensures.unchanged u.hung.stood)
+pub pass-requires-clause-may_pass : goal.pass-requires-clause-may_pass
+pass-requires-clause-may_pass g c = record {
+  index = (
+      let u = c.loop-branch.invariant.way _ _ c.requires.can.stands.stood in
+      let l = index_inside u c.in-Some.branch c.in-Some.ensures.branch c.in-Some.ensures.before in
+      let e = c.index_at-index.ensures in omega arith
+      );
+  stays = λ e. sym c.is_mutable-stays.ensures ∙ e;
+  due = λ e. inr (sym c.is_mutable-stays.ensures ∙ e);
+}
 
-pub returns-in_err-at-clause-moves : goal.returns-in_err-at-clause-moves
-returns-in_err-at-clause-moves g c given fills = subst (Moves given 0 c.args.usage.now) (sym c.in_err-at.ensures.unchanged) (c.loop-branch.invariant.moves given fills)
+pub pass-requires-clause-can : goal.pass-requires-clause-can
+pass-requires-clause-can g c =
+    let i = c.loop-branch.invariant in
+    record { hung = underway_hung (i.way _ _ c.requires.can.stands.stood) c.in-Some.ensures.branch; writable = i.writable; ready = i.ready }
+
+pub returns-in_err-at-clause-rearranged : goal.returns-in_err-at-clause-rearranged
+returns-in_err-at-clause-rearranged g c =
+    let i = c.loop-branch.invariant in
+    rearranged_then (underway_ends i.way i.moves i.frame i.ready) (rearranged_same c.in_err-at.ensures.unmoved.same c.in_err-at.ensures.unmoved.unchanged i.ready)
 
 pub returns-in_err-at-clause-left : goal.returns-in_err-at-clause-left
 returns-in_err-at-clause-left g c = by_err c.from_residual.result (λ given fills.
-    let u = c.loop-branch.invariant.way _ _ c.requires.found.stood c.requires.found.found in
-    subst HasSparse (sym c.in_err-at.ensures.unchanged) (underway_left u (c.loop-branch.invariant.moves given fills)))
+    let u = c.loop-branch.invariant.way _ _ c.requires.can.stands.stood in
+    subst HasSparse (sym c.in_err-at.ensures.unmoved.unchanged) (underway_left u (c.loop-branch.invariant.moves given fills)))
 
 pub cell-requires-in-Some : goal.cell-requires-in-Some
 cell-requires-in-Some g c =
-    let u = c.loop-branch.invariant.way _ _ c.requires.found.stood c.requires.found.found in
+    let u = c.loop-branch.invariant.way _ _ c.requires.can.stands.stood in
     let b = c.in-Some.branch in
-    let w = c.in_ok-at.ensures.hung c.args.root c.requires.found.es u.upper (plug u.rest u.end) u.hung (branch_node_is u b c.in-Some.ensures.branch c.in-Some.ensures.before) in
+    let w = c.in_ok-at.ensures.hung c.args.root c.requires.can.stands.es u.upper (plug u.rest u.end) u.hung (branch_node_is u b c.in-Some.ensures.branch c.in-Some.ensures.before) in
     record { there = (_, further_there u b c.in-Some.ensures.branch c.in-Some.ensures.before c.index_at-index.ensures w) }
 
 pub of-node-requires-in-Some : goal.of-node-requires-in-Some
 of-node-requires-in-Some g c =
-    let u = c.loop-branch.invariant.way _ _ c.requires.found.stood c.requires.found.found in
+    let u = c.loop-branch.invariant.way _ _ c.requires.can.stands.stood in
     let b = c.in-Some.branch in
-    let w = c.in_ok-at.ensures.hung c.args.root c.requires.found.es u.upper (plug u.rest u.end) u.hung (branch_node_is u b c.in-Some.ensures.branch c.in-Some.ensures.before) in
+    let w = c.in_ok-at.ensures.hung c.args.root c.requires.can.stands.es u.upper (plug u.rest u.end) u.hung (branch_node_is u b c.in-Some.ensures.branch c.in-Some.ensures.before) in
     further_says u b c.in-Some.ensures.branch c.in-Some.ensures.before c.index_at-index.ensures w (c.cell-in-Some.ensures.value _ (further_there u b c.in-Some.ensures.branch c.in-Some.ensures.before c.index_at-index.ensures w))
 
 pub loop-branch-smaller : goal.loop-branch-smaller
 loop-branch-smaller g c =
-    let u = c.loop-branch.invariant.way _ _ c.requires.found.stood c.requires.found.found in
+    let u = c.loop-branch.invariant.way _ _ c.requires.can.stands.stood in
     let b = c.in-Some.branch in
-    let w = c.in_ok-at.ensures.hung c.args.root c.requires.found.es u.upper (plug u.rest u.end) u.hung (branch_node_is u b c.in-Some.ensures.branch c.in-Some.ensures.before) in
+    let w = c.in_ok-at.ensures.hung c.args.root c.requires.can.stands.es u.upper (plug u.rest u.end) u.hung (branch_node_is u b c.in-Some.ensures.branch c.in-Some.ensures.before) in
     fewer_places u b c.in-Some.ensures.branch c.in-Some.ensures.before c.index_at-index.ensures w (c.cell-in-Some.ensures.value _ (further_there u b c.in-Some.ensures.branch c.in-Some.ensures.before c.index_at-index.ensures w)) c.of-node-in-Some.ensures.back
 
 pub loop-branch-preserved : goal.loop-branch-preserved
 loop-branch-preserved g c = record {
-  way = λ es t stood found.
-      let u = c.loop-branch.invariant.way es t stood found in
+  way = λ es t stood.
+      let u = c.loop-branch.invariant.way es t stood in
       let b = c.in-Some.branch in
       let w = c.in_ok-at.ensures.hung c.args.root es u.upper (plug u.rest u.end) u.hung (branch_node_is u b c.in-Some.ensures.branch c.in-Some.ensures.before) in
       underway_further u b c.in-Some.ensures.branch c.in-Some.ensures.before c.index_at-index.ensures w c.cell-in-Some.ensures.same (c.cell-in-Some.ensures.value _ (further_there u b c.in-Some.ensures.branch c.in-Some.ensures.before c.index_at-index.ensures w)) c.of-node-in-Some.ensures.back;
-  writable = subst (λ s. IsWritable g.C.CellWrite.given reserve_account_of s c.copy_twig.new.usage c.in_ok-at.at) (sym c.cell-in-Some.ensures.same) c.in_ok-at.ensures.writable;
+  writable = subst (λ s. IsWritable g.C.CellWrite.given reserve_account_of s c.pass.new.usage c.in_ok-at.at) (sym c.cell-in-Some.ensures.same) c.in_ok-at.ensures.writable;
   moves = λ given fills. let m = c.loop-branch.invariant.moves given fills in moves_then m (c.in_ok-at.ensures.moves given m.fills);
-  frame = subst (λ s. Fenced g.C.CellRead.has g.C.CellWrite.kept g.C.CellWrite.given reserve_account_of c.args.cells.now c.args.usage.now s c.copy_twig.new.usage) (sym c.cell-in-Some.ensures.same) (fenced_then c.loop-branch.invariant.frame c.in_ok-at.ensures.frame);
+  frame = subst (λ s. Fenced g.C.CellRead.has g.C.CellWrite.kept g.C.CellWrite.given reserve_account_of c.args.cells.now c.args.usage.now s c.pass.new.usage) (sym c.cell-in-Some.ensures.same) (fenced_then c.loop-branch.invariant.frame c.in_ok-at.ensures.frame);
   ready = ready_put c.in_ok-at.ensures.ready (ap g.C.CellWrite.given c.cell-in-Some.ensures.same) (ap g.C.CellWrite.kept c.cell-in-Some.ensures.same);
 }
 
 pub returns-clause-reached : goal.returns-clause-reached
-returns-clause-reached g c es t stood found = reached_here (c.loop-branch.invariant.way es t stood found) (c.branch_before.ensures.none c.in_default.is)
+returns-clause-reached g c es t stood = reached_here (c.loop-branch.invariant.way es t stood) (c.branch_before.ensures.none c.in_default.is)
 
-pub returns-clause-stood : goal.returns-clause-stood
-returns-clause-stood g c es t stood found =
-    let u = c.loop-branch.invariant.way es t stood found in (plug u.upper (plug u.rest u.end), u.hung.stood)
+pub returns-clause-rearranged : goal.returns-clause-rearranged
+returns-clause-rearranged g c = let i = c.loop-branch.invariant in underway_ends i.way i.moves i.frame i.ready

@@ -6,13 +6,13 @@ use Rattle.chunk_usage.specs.Rooms.{reserve_account_of}
 use Rattle.trie_space.specs.Spaces.{Ready, Fenced, IsWritable}
 use Rattle.evacuate.specs.Fillings.{Fills, Moves}
 use Rattle.evacuate.specs.Places.{Stood}
-use Rattle.evacuate.specs.Trails.{Found, Underway}
+use Rattle.evacuate.specs.Trails.{Underway}
 use Rattle.evacuate.proofs.descent.reach.Given as goal
 
 abbrev pub invariant-loop-branch : goal.invariant-loop-branch
 invariant-loop-branch g l =
     record {
-      way : (es : List Entry) (t : Tree) → Stood g.C.CellRead.has l.fn.cells l.fn.usage l.fn.root es t → Found l.fn.usage l.trail t → Underway g.C.CellRead.has l.fn.usage l.trail l.cells l.usage l.fn.root l.at es l.node;
+      way : (es : List Entry) (t : Tree) → Stood g.C.CellRead.has l.fn.cells l.fn.usage l.fn.root es t → Underway g.C.CellRead.has l.fn.usage l.trail l.cells l.usage l.fn.root l.at es l.node;
       writable : IsWritable g.C.CellWrite.given reserve_account_of l.cells l.usage l.at;
       moves : (given : List Bool) → Fills given l.fn.usage → Moves given 0 l.fn.usage l.usage;
       frame : Fenced g.C.CellRead.has g.C.CellWrite.kept g.C.CellWrite.given reserve_account_of l.fn.cells l.fn.usage l.cells l.usage;

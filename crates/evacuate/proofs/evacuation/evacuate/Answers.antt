@@ -12,7 +12,7 @@ pub empty_sparse-new-requires-clause-ready : goal.empty_sparse-new-requires-clau
 empty_sparse-new-requires-clause-ready g c = ready_for_reserve c.requires.ready
 
 pub returns-then-is_any_sparse-clause-ready : goal.returns-then-is_any_sparse-clause-ready
-returns-then-is_any_sparse-clause-ready g c = ready_after_reserve c.empty_sparse-new.ensures.ready
+returns-then-is_any_sparse-clause-ready g c = ready_after_reserve c.empty_sparse-new.ensures.emptied.ready
 
 pub returns-then-is_any_sparse-clause-none : goal.returns-then-is_any_sparse-clause-none
 returns-then-is_any_sparse-clause-none g c cleared =
@@ -34,11 +34,11 @@ empty_sparse-new-requires-clause-stood g c =
 pub returns-then-is_any_sparse-clause-stands : goal.returns-then-is_any_sparse-clause-stands
 returns-then-is_any_sparse-clause-stands g c version stands =
     let h = subst (λ (r : Option ℕ). Standing (g.C.CellRead.has c.args.cells.now) (is_used c.args.usage.now) (slice_index c.args.usage.now.live) r version) c.in-Some.is stands in
-    let n = c.empty_sparse-new.ensures.stood version h.0 (stood_of h.1) in (n.0, stands_again n.1)
+    let n = c.empty_sparse-new.ensures.emptied.stood version h.0 (stood_of h.1) in (n.0, stands_again n.1)
 
 pub returns-then-is_any_sparse-clause-asks : goal.returns-then-is_any_sparse-clause-asks
 returns-then-is_any_sparse-clause-asks g c version stands =
     let h = subst (λ (r : Option ℕ). Standing (g.C.CellRead.has c.args.cells.now) (is_used c.args.usage.now) (slice_index c.args.usage.now.live) r version) c.in-Some.is stands in
     let most = old_cells {has = g.C.CellRead.has} {s = c.args.cells.now} {l = c.args.usage.now} (stood_of h.1) in
-    let paid : consumed c.empty_sparse-new.new.usage ≤ 769 * (length c.args.usage.now.given - free_count c.args.usage.now) + cells version = let p = c.empty_sparse-new.ensures.paid in omega arith in
-    asked_by c.args.usage.now c.empty_sparse-new.new.usage c.empty_sparse-new.ensures.count (cells version) paid c.empty_sparse-new.result.1 c.empty_sparse-new.ensures.stopped
+    let paid : consumed c.empty_sparse-new.new.usage ≤ 769 * (length c.args.usage.now.given - free_count c.args.usage.now) + cells version = let p = c.empty_sparse-new.ensures.emptied.paid in omega arith in
+    asked_by c.args.usage.now c.empty_sparse-new.new.usage c.empty_sparse-new.ensures.emptied.count (cells version) paid c.empty_sparse-new.result.1 c.empty_sparse-new.ensures.stopped

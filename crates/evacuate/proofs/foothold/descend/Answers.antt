@@ -1,12 +1,9 @@
-use Rattle.std.proofs.Common.{◌+◌, ◌/◌, List, Bool, Fits-lit, arith, refl, sym, ◌∙◌, ap, subst}
+use Rattle.std.proofs.Common.{Fits-lit, arith, refl, ◌∙◌, ap}
 use Rattle.std.proofs.Math.Facts.{Fits-lt}
-use Rattle.chunk_cells.specs.Chunks.{IsGiven}
-use Rattle.chunk_sets.proofs.FlagLemmas.{get_set}
-use Rattle.chunk_usage.proofs.SpaceLaws.{used_given}
 use Rattle.evacuate.specs.Places.{first_of, width_of}
 use Rattle.evacuate.proofs.AlongLaws.{hangs_first, is_hung, inside_in, read_there, says_in, hangs_further, fewer_in, twigs_there}
 use Rattle.evacuate.proofs.DescentLaws.{begins, hung_there, hung_says, hung_read}
-use Rattle.evacuate.proofs.TreeLaws.{hung_cells}
+use Rattle.evacuate.proofs.TreeLaws.{hung_cells, used_writable}
 use Rattle.evacuate.proofs.foothold.descend.Goals as goal
 
 pub of-node-requires : goal.of-node-requires
@@ -60,10 +57,5 @@ loop-descent-preserved g c =
           let u = c.loop-descent.invariant.hangs _ _ c.requires.stands.stood in
           let h = is_hung u is in
           let x = hung_cells h.hung (ap first_of h.is) (ap width_of h.is) in
-          let used = x.in_use i l in
-          record {
-            in_use = used;
-            mutable = c.in-Some.ensures.mutable;
-            in_given = subst (λ (flags : List Bool). IsGiven flags ((b.twigs + i) / 1024)) (sym c.requires.ready.same) (get_set c.args.usage.now.given ((b.twigs + i) / 1024) (used_given c.args.usage.now c.known.ensures (b.twigs + i) used));
-          };
+          used_writable c.known.ensures c.requires.ready (x.in_use i l) c.in-Some.ensures.mutable;
     }

@@ -1,8 +1,6 @@
-use Rattle.std.proofs.Common.{◌+◌, ◌-◌, ◌<◌, count_ones, arith, refl, sym, ◌∙◌, ap, subst, rules}
-use Rattle.trie_model.specs.Memory.{top_cell}
-use Rattle.trie_model.proofs.NodeLaws.{branch_told, leaf_said}
+use Rattle.std.proofs.Common.{arith, refl, sym, ◌∙◌, ap, rules}
 use Rattle.chunk_usage.specs.Counting.{is_sparse}
-use Rattle.evacuate.proofs.TrailLaws.{says, read_is, early, late, twig_here, twig_top, leaf_item, found_leaf, found_branch, found_below}
+use Rattle.evacuate.proofs.TrailLaws.{says, told_of, item_of, early, late, twig_here, twig_top, cell_there, turn, falls, kept_on, leaf_item, found_leaf, found_branch, found_below}
 use Rattle.evacuate.proofs.forks.+last_below.Goals as goal
 
 pub of-requires : goal.of-requires
@@ -10,54 +8,35 @@ of-requires g t c = says c.requires.top.1
 
 pub cell-twig-requires : goal.cell-twig-requires
 cell-twig-requires g t c =
-    let top = c.requires.top.1 in
-    let b = branch_told c.requires.top.0 (c.in-Branch.branch) (sym (read_is top c.of.ensures.back) ∙ c.in-Branch.is) in
-    let inside : c.loop-i.i < count_ones c.in-Branch.branch.bitmap = let e = c.twigs_on-on.ensures in let l = c.loop-i-test.true in omega arith in
-    let x = twig_here top b c.loop-i.i inside in
-    record { there = (top_cell x.t, subst (λ s. g.C.CellRead.has s (c.in-Branch.branch.twigs + c.loop-i.i) (top_cell x.t)) (sym c.loop-i.invariant.same) x.there) }
+    let b = told_of c.requires.top.1 c.of.ensures.back c.in-Branch.is in
+    record { there = cell_there g.C.CellRead.has c.loop-i.invariant.same c.requires.top.1 b c.loop-i.i (let e = c.twigs_on-on.ensures in let l = c.loop-i-test.true in omega arith) }
 
 pub take-requires-clause-early : goal.take-requires-clause-early
-take-requires-clause-early g t c =
-    let b = branch_told c.requires.top.0 (c.in-Branch.branch) (sym (read_is c.requires.top.1 c.of.ensures.back) ∙ c.in-Branch.is) in
-    early c.requires.top.1 b
+take-requires-clause-early g t c = early c.requires.top.1 (told_of c.requires.top.1 c.of.ensures.back c.in-Branch.is)
 
 pub last_below-requires : goal.last_below-requires
 last_below-requires g t c κs within =
-    let top = c.requires.top.1 in
-    let b = branch_told c.requires.top.0 (c.in-Branch.branch) (sym (read_is top c.of.ensures.back) ∙ c.in-Branch.is) in
-    let inside : c.loop-i.i < count_ones c.in-Branch.branch.bitmap = let e = c.twigs_on-on.ensures in let l = c.loop-i-test.true in omega arith in
-    let x = twig_here top b c.loop-i.i inside in
-    let n = twig_top g.C.CellRead.has x c.loop-i.invariant.same c.cell-twig.ensures.same c.cell-twig.ensures.value in
-    let f : 504 - (c.in-Branch.branch.offset + 1) < 504 - c.args.low = let a = late top b in let d = early top b in omega arith in
-    (search (rules, f), (within, ((x.t, n), (let d = early top b in omega arith))))
+    let b = told_of c.requires.top.1 c.of.ensures.back c.in-Branch.is in
+    let n = turn g.C.CellRead.has c.loop-i.invariant.same c.requires.top.1 b c.loop-i.i (let e = c.twigs_on-on.ensures in let l = c.loop-i-test.true in omega arith) c.cell-twig.ensures.same c.cell-twig.ensures.value in
+    let f = falls c.requires.top.1 b in let d = early c.requires.top.1 b in
+    (search (rules, f), (within, (n, omega arith)))
 
 pub returns-then-last_below-clause-found : goal.returns-then-last_below-clause-found
 returns-then-last_below-clause-found g t c e u top =
-    let b = branch_told u (c.in-Branch.branch) (sym (read_is top c.of.ensures.back) ∙ c.in-Branch.is) in
-    let inside : c.loop-i.i < count_ones c.in-Branch.branch.bitmap = let e = c.twigs_on-on.ensures in let l = c.loop-i-test.true in omega arith in
-    let x = twig_here top b c.loop-i.i inside in
+    let b = told_of top c.of.ensures.back c.in-Branch.is in
+    let x = twig_here top b c.loop-i.i (let e = c.twigs_on-on.ensures in let l = c.loop-i-test.true in omega arith) in
     let n = twig_top g.C.CellRead.has x c.loop-i.invariant.same c.cell-twig.ensures.same c.cell-twig.ensures.value in
-    found_below u c.in-Branch.branch b c.loop-i.i x (c.last_below.ensures.found c.if-last_below.true x.t n) (let l = c.last_below.ensures.late c.if-last_below.true in omega arith)
-    (c.last_below.ensures.above c.in-Branch.branch.offset (omega arith) ∙ c.take.ensures.taken)
+    found_below u c.in-Branch.branch b c.loop-i.i x (c.last_below.ensures.found c.if-last_below.true x.t n) (c.last_below.ensures.late c.if-last_below.true) c.last_below.ensures.kept c.take.ensures.taken
 
 pub loop-i-preserved : goal.loop-i-preserved
-loop-i-preserved g t c =
-    record {
-      same = c.last_below.ensures.same ∙ c.cell-twig.ensures.same ∙ c.loop-i.invariant.same;
-      above = λ j l.
-          let top = c.requires.top.1 in
-          let b = branch_told c.requires.top.0 (c.in-Branch.branch) (sym (read_is top c.of.ensures.back) ∙ c.in-Branch.is) in
-          let a = late top b in
-          c.last_below.ensures.above j (omega arith) ∙ c.take.ensures.others j (λ e. omega arith) ∙ c.loop-i.invariant.above j l;
-    }
+loop-i-preserved g t c = kept_on (late c.requires.top.1 (told_of c.requires.top.1 c.of.ensures.back c.in-Branch.is)) c.loop-i.invariant c.take.ensures.others c.cell-twig.ensures.same c.last_below.ensures.kept
 
 pub returns-then-sparse-clause-found : goal.returns-then-sparse-clause-found
 returns-then-sparse-clause-found g t c e u top =
-    let b = branch_told u (c.in-Branch.branch) (sym (read_is top c.of.ensures.back) ∙ c.in-Branch.is) in
-    found_branch u c.in-Branch.branch b refl (ap (is_sparse c.args.usage.now) (sym c.chunk_of.ensures) ∙ sym c.is_chunk_sparse-sparse.ensures ∙ c.if-sparse.true)
+    found_branch u c.in-Branch.branch (told_of top c.of.ensures.back c.in-Branch.is) refl (ap (is_sparse c.args.usage.now) (sym c.chunk_of.ensures) ∙ sym c.is_chunk_sparse-sparse.ensures ∙ c.if-sparse.true)
 
 pub ends_at_leaf-requires : goal.ends_at_leaf-requires
-ends_at_leaf-requires g t c = record { there = leaf_item c.requires.top.1 (leaf_said c.requires.top.0 c.in-Leaf.leaf (sym (read_is c.requires.top.1 c.of.ensures.back) ∙ c.in-Leaf.is)) }
+ends_at_leaf-requires g t c = record { there = leaf_item c.requires.top.1 (item_of c.requires.top.1 c.of.ensures.back c.in-Leaf.is) }
 
 pub returns-in-Leaf-clause-found : goal.returns-in-Leaf-clause-found
-returns-in-Leaf-clause-found g t c e u top = found_leaf u c.in-Leaf.leaf top (leaf_said u c.in-Leaf.leaf (sym (read_is top c.of.ensures.back) ∙ c.in-Leaf.is)) (c.ends_at_leaf.ensures.some e)
+returns-in-Leaf-clause-found g t c e u top = found_leaf u c.in-Leaf.leaf top (item_of top c.of.ensures.back c.in-Leaf.is) (c.ends_at_leaf.ensures.some e)

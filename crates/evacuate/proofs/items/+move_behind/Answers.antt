@@ -62,14 +62,14 @@ move_next-requires-clause-ready g t c =
 
 pub returns-in_err-to-clause-stood : goal.returns-in_err-to-clause-stood
 returns-in_err-to-clause-stood g t c r es way e front rest goes =
-    (plug way (leaf e (chain front (linked c.args.at rest))), stood_same (c.in_err-to.ensures.same ∙ c.is_item_sparse.ensures.same ∙ c.next_extent-next.ensures.same) c.in_err-to.ensures.unchanged goes.stood)
+    (plug way (leaf e (chain front (linked c.args.at rest))), stood_same (c.in_err-to.ensures.unmoved.same ∙ c.is_item_sparse.ensures.same ∙ c.next_extent-next.ensures.same) c.in_err-to.ensures.unmoved.unchanged goes.stood)
 
 pub returns-in_err-to-clause-left : goal.returns-in_err-to-clause-left
 returns-in_err-to-clause-left g t c =
     let b = goes_behind c.requires.goes.goes refl refl in
     let there = left_read c.requires.goes.goes c.next_extent-next.ensures.same (c.next_extent-next.ensures.next _ b.link b.inside) in
     let sparse = c.is_item_sparse.ensures.some c.if-not-is_item_sparse.false _ c.requires.goes.rest there in
-    by_err c.from_residual.result (subst HasSparse (sym c.in_err-to.ensures.unchanged) (goes_left c.requires.goes.goes sparse))
+    by_err c.from_residual.result (subst HasSparse (sym c.in_err-to.ensures.unmoved.unchanged) (goes_left c.requires.goes.goes sparse))
 
 pub returns-in_err-to-clause-frame : goal.returns-in_err-to-clause-frame
 returns-in_err-to-clause-frame g t c = fenced_same (c.is_item_sparse.ensures.same ∙ c.next_extent-next.ensures.same) c.move_next.ensures.frame

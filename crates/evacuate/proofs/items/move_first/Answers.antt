@@ -1,14 +1,11 @@
 use Rattle.std.proofs.Common.{◌≡◌, true, inl, inr, ℕ, ◌+◌, ◌/◌, Bool, List, arith, refl, sym, ap, subst}
 use Rattle.trie_model.proofs.ExtentLaws.{linked_is}
-use Rattle.chunk_cells.specs.Chunks.{IsGiven}
-use Rattle.chunk_sets.proofs.FlagLemmas.{get_set}
-use Rattle.chunk_usage.proofs.SpaceLaws.{used_given}
 use Rattle.trie_space.proofs.SpaceLaws.{frame_refl, fenced_of, ok_map, err_map}
 use Rattle.evacuate.specs.Fillings.{Fills, Moves, is_old}
 use Rattle.evacuate.specs.Places.{first_of, width_of, moved, Hung}
 use Rattle.evacuate.proofs.BehindLaws.{either_way}
 use Rattle.evacuate.proofs.FillingLaws.{moves_none, sparse_old, settled_old, same_chunk_old}
-use Rattle.evacuate.proofs.TreeLaws.{hung_cells, moved_itself, width_linked}
+use Rattle.evacuate.proofs.TreeLaws.{hung_cells, moved_itself, used_writable, width_linked}
 use Rattle.evacuate.proofs.items.move_first.Goals as goal
 
 pub is_due-requires : goal.is_due-requires
@@ -32,7 +29,7 @@ returns-then-is_due-clause-writable g c = ok_map c.move_node.result (λ to w lon
 pub returns-then-is_due-clause-moves : goal.returns-then-is_due-clause-moves
 returns-then-is_due-clause-moves g c = either_way c.move_node.result
     (ok_map c.move_node.result (λ to p given fills. (p given fills (old_first g c given fills)).moves) c.move_node.ensures.paid)
-    (err_map c.move_node.result (λ full same given fills. subst (Moves given 0 c.args.usage.now) (sym same) (moves_none given c.args.usage.now fills)) c.move_node.ensures.unchanged)
+    (err_map c.move_node.result (λ full stays given fills. subst (Moves given 0 c.args.usage.now) (sym stays.unchanged) (moves_none given c.args.usage.now fills)) c.move_node.ensures.unmoved)
 
 pub returns-then-is_due-clause-if_due : goal.returns-then-is_due-clause-if_due
 returns-then-is_due-clause-if_due g c = ok_map c.move_node.result (λ to p. inl (λ given fills.
@@ -46,13 +43,8 @@ returns-clause-hung g c r es way t h is =
 pub returns-clause-writable : goal.returns-clause-writable
 returns-clause-writable g c long =
     let x = hung_cells c.requires.hung.hung (ap first_of c.requires.hung.is) (ap width_of c.requires.hung.is) in
-    let q = c.args.leaf.at + 255 in
     let used = x.in_use 255 (let e = width_linked c.args.leaf.len long in let k = linked_is in omega arith) in
-    record {
-      in_use = used;
-      mutable = c.is_due.ensures.mutable c.if-is_due.false long;
-      in_given = subst (λ (flags : List Bool). IsGiven flags (q / 1024)) (sym c.requires.ready.same) (get_set c.args.usage.now.given (q / 1024) (used_given c.args.usage.now c.known.ensures q used));
-    }
+    used_writable c.known.ensures c.requires.ready used (c.is_due.ensures.mutable c.if-is_due.false long)
 
 pub returns-clause-moves : goal.returns-clause-moves
 returns-clause-moves g c given fills = moves_none given c.args.usage.now fills

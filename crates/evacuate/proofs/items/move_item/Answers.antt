@@ -13,10 +13,10 @@ use Rattle.evacuate.proofs.SparseLaws.{lies_left, sparse_behind}
 use Rattle.evacuate.proofs.items.move_item.Goals as goal
 
 pub returns-in_err-to-clause-stood : goal.returns-in_err-to-clause-stood
-returns-in_err-to-clause-stood g c r es way t h is = (plug way t, stood_same c.in_err-to.ensures.same c.in_err-to.ensures.unchanged h.stood)
+returns-in_err-to-clause-stood g c r es way t h is = (plug way t, stood_same c.in_err-to.ensures.unmoved.same c.in_err-to.ensures.unmoved.unchanged h.stood)
 
 pub returns-in_err-to-clause-left : goal.returns-in_err-to-clause-left
-returns-in_err-to-clause-left g c = by_err c.from_residual.result (λ due. subst HasSparse (sym c.in_err-to.ensures.unchanged) (lies_left due.hung.hung due.sparse))
+returns-in_err-to-clause-left g c = by_err c.from_residual.result (λ due. subst HasSparse (sym c.in_err-to.ensures.unmoved.unchanged) (lies_left due.hung.hung due.sparse))
 
 pub move_behind-requires-clause-goes : goal.move_behind-requires-clause-goes
 move_behind-requires-clause-goes g c =

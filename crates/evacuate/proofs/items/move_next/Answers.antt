@@ -1,8 +1,5 @@
 use Rattle.std.proofs.Common.{◌≡◌, true, inl, inr, ℕ, ◌+◌, ◌-◌, ◌/◌, Bool, List, arith, refl, sym, ◌∙◌, ap, subst}
 use Rattle.trie_model.proofs.ExtentLaws.{linked_is}
-use Rattle.chunk_cells.specs.Chunks.{IsGiven}
-use Rattle.chunk_sets.proofs.FlagLemmas.{get_set}
-use Rattle.chunk_usage.proofs.SpaceLaws.{used_given}
 use Rattle.chunk_usage.specs.Rooms.{reserve_account_of}
 use Rattle.trie_space.specs.Spaces.{IsWritable}
 use Rattle.trie_space.proofs.SpaceLaws.{frame_refl, fenced_of, fenced_same, ready_put, ok_map, err_map}
@@ -13,7 +10,7 @@ use Rattle.evacuate.specs.Places.{put_first}
 use Rattle.evacuate.proofs.BehindLaws.{either_way, goes_same, goes_on_same}
 use Rattle.evacuate.proofs.ChainLaws.{goes_behind}
 use Rattle.evacuate.proofs.FillingLaws.{moves_none, sparse_old, settled_old, same_chunk_old}
-use Rattle.evacuate.proofs.TreeLaws.{put_itself, width_linked}
+use Rattle.evacuate.proofs.TreeLaws.{put_itself, used_writable, width_linked}
 use Rattle.evacuate.proofs.items.move_next.Goals as goal
 
 pub next_extent-next-requires-clause-inside : goal.next_extent-next-requires-clause-inside
@@ -61,7 +58,7 @@ returns-then-is_due-clause-moves g c = either_way c.move_linked.result
     let first = goes_behind goes refl refl in
     let from = c.next_extent-next.ensures.next _ first.link first.inside in
     (p _ _ _ _ _ _ (goes_same c.next_extent-next.ensures.same goes) given fills (ap (is_old given) (sym from) ∙ old_next g c given fills)).moves) c.move_linked.ensures.paid)
-    (err_map c.move_linked.result (λ full same given fills. subst (Moves given 0 c.args.usage.now) (sym same) (moves_none given c.args.usage.now fills)) c.move_linked.ensures.unchanged)
+    (err_map c.move_linked.result (λ full stays given fills. subst (Moves given 0 c.args.usage.now) (sym stays.unchanged) (moves_none given c.args.usage.now fills)) c.move_linked.ensures.unmoved)
 
 pub returns-then-is_due-clause-if_due : goal.returns-then-is_due-clause-if_due
 returns-then-is_due-clause-if_due g c = ok_map c.move_linked.result (λ to p r es way e front rest goes. inl (λ given fills.
@@ -70,8 +67,8 @@ returns-then-is_due-clause-if_due g c = ok_map c.move_linked.result (λ to p r e
     let some = first.row.some in
     let less = (p r es way e front rest (goes_same c.next_extent-next.ensures.same goes) given fills (ap (is_old given) (sym from) ∙ old_next g c given fills)).less in omega arith)) c.move_linked.ensures.paid
 
-pub returns-then-is_due-clause-same : goal.returns-then-is_due-clause-same
-returns-then-is_due-clause-same g c = err_map c.move_linked.result (λ full same. same ∙ c.next_extent-next.ensures.same) c.move_linked.ensures.same
+pub returns-then-is_due-clause-unmoved : goal.returns-then-is_due-clause-unmoved
+returns-then-is_due-clause-unmoved g c = err_map c.move_linked.result (λ full stays. record { full = stays.full; same = stays.same ∙ c.next_extent-next.ensures.same; unchanged = stays.unchanged }) c.move_linked.ensures.unmoved
 
 pub returns-then-is_due-clause-frame : goal.returns-then-is_due-clause-frame
 returns-then-is_due-clause-frame g c = fenced_same c.next_extent-next.ensures.same c.move_linked.ensures.frame
@@ -86,13 +83,9 @@ pub returns-clause-writable : goal.returns-clause-writable
 returns-clause-writable g c long =
     let first = goes_behind c.requires.goes.goes refl refl in
     let b = goes_behind c.requires.goes.goes (c.next_extent-next.ensures.next _ first.link first.inside) refl in
-    let q = c.next_extent-next.result + 255 in
     let used = b.in_use 255 (let e = width_linked (c.args.len - 4080) long in let k = linked_is in omega arith) in
-    record {
-      in_use = used;
-      mutable = c.is_due.ensures.mutable c.if-is_due.false long;
-      in_given = subst (λ (flags : List Bool). IsGiven flags (q / 1024)) (sym (ap g.C.CellWrite.given c.next_extent-next.ensures.same ∙ c.requires.ready.same)) (get_set c.args.usage.now.given (q / 1024) (used_given c.args.usage.now c.known.ensures q used));
-    }
+    let same = c.next_extent-next.ensures.same in
+    used_writable c.known.ensures (ready_put c.requires.ready (ap g.C.CellWrite.given same) (ap g.C.CellWrite.kept same)) used (c.is_due.ensures.mutable c.if-is_due.false long)
 
 pub returns-clause-moves : goal.returns-clause-moves
 returns-clause-moves g c given fills = moves_none given c.args.usage.now fills

@@ -6,6 +6,7 @@ use Rattle.trie_space.proofs.SpaceLaws.{fenced_of, fenced_put, fenced_counts, fe
 use Rattle.evacuate.specs.Fillings.{Paid, is_old}
 use Rattle.evacuate.proofs.BehindLaws.{goes_same}
 use Rattle.evacuate.proofs.ChainLaws.{goes_behind, goes_moved}
+use Rattle.evacuate.proofs.DescentLaws.{by_err}
 use Rattle.evacuate.proofs.FillingLaws.{moves_paid}
 use Rattle.evacuate.proofs.TreeLaws.{later_counted, handed_writable, released_rest}
 use Rattle.evacuate.proofs.moves.move_linked.Goals as goal
@@ -70,3 +71,7 @@ returns-clause-ready g c = ready_counts (released_rest c.copy_out.new.usage c.ne
 
 pub overflow_sub-len : goal.overflow_sub-len
 overflow_sub-len g c = let long = (goes_behind c.requires.goes.goes refl refl).long in omega arith
+
+pub returns-in_err-to-clause-unmoved : goal.returns-in_err-to-clause-unmoved
+returns-in_err-to-clause-unmoved g c =
+    let no = c.in_err-to.ensures.unmoved in by_err c.from_residual.result (record { full = no.full; same = no.same ∙ c.next_extent-from.ensures.same; unchanged = no.unchanged })

@@ -1,11 +1,9 @@
-use Rattle.std.proofs.Common.{◌≡◌, ℕ, suc, ◌+◌, ◌-◌, ◌<◌, false, count_ones, arith, refl, sym, ◌∙◌, ap, subst, rules}
+use Rattle.std.proofs.Common.{◌≡◌, ℕ, suc, ◌+◌, false, arith, refl, sym, ◌∙◌, ap, rules}
 use Rattle.std.proofs.lemmas.Bool.{true≢false}
-use Rattle.trie_model.specs.Memory.{top_cell}
 use Rattle.trie_model.specs.Reach.{in_chunk}
 use Rattle.trie_model.proofs.CountLaws.{under}
-use Rattle.trie_model.proofs.NodeLaws.{branch_told, leaf_said}
 use Rattle.chunk_usage.specs.Counting.{is_sparse}
-use Rattle.evacuate.proofs.TrailLaws.{past, past_all, says, read_is, early, late, counted, twig_here, twig_top, leaf_item, clear_leaf, clear_branch, found_leaf, found_branch, found_below}
+use Rattle.evacuate.proofs.TrailLaws.{past, past_all, says, told_of, item_of, early, late, counted, twig_here, twig_top, cell_there, turn, falls, kept_on, leaf_item, clear_leaf, clear_branch, found_leaf, found_branch, found_below}
 use Rattle.evacuate.proofs.trail.+next_sparse.Goals as goal
 use Rattle.evacuate.proofs.trail.+next_sparse.Goals.{then-resumed, else-resumed}
 
@@ -14,74 +12,56 @@ of-requires g t c = says c.requires.top.1
 
 pub returns-then-is_sparse-clause-found : goal.returns-then-is_sparse-clause-found
 returns-then-is_sparse-clause-found g t c e u top =
-    let b = branch_told u (c.in-Branch.branch) (sym (read_is top c.of.ensures.back) ∙ c.in-Branch.is) in
-    found_branch u c.in-Branch.branch b refl (ap (is_sparse c.args.usage.now) (sym c.chunk_of-chunk.ensures) ∙ sym c.is_sparse.ensures ∙ c.if-is_sparse.true)
+    found_branch u c.in-Branch.branch (told_of top c.of.ensures.back c.in-Branch.is) refl (ap (is_sparse c.args.usage.now) (sym c.chunk_of-chunk.ensures) ∙ sym c.is_sparse.ensures ∙ c.if-is_sparse.true)
 
 pub cell-twig-requires : goal.cell-twig-requires
 cell-twig-requires g t c =
-    let top = c.requires.top.1 in
-    let b = branch_told c.requires.top.0 (c.in-Branch.branch) (sym (read_is top c.of.ensures.back) ∙ c.in-Branch.is) in
-    let inside : c.loop-i.i < count_ones c.in-Branch.branch.bitmap = let e = c.twig_count-i-end.ensures in let l = c.loop-i-test.true in omega arith in
-    let x = twig_here top b c.loop-i.i inside in
-    record { there = (top_cell x.t, subst (λ s. g.C.CellRead.has s (c.in-Branch.branch.twigs + c.loop-i.i) (top_cell x.t)) (sym c.loop-i.invariant.same) x.there) }
+    let b = told_of c.requires.top.1 c.of.ensures.back c.in-Branch.is in
+    record { there = cell_there g.C.CellRead.has c.loop-i.invariant.kept.same c.requires.top.1 b c.loop-i.i (let e = c.twig_count-i-end.ensures in let l = c.loop-i-test.true in omega arith) }
 
 pub take-requires-clause-early : goal.take-requires-clause-early
-take-requires-clause-early g t c =
-    let b = branch_told c.requires.top.0 (c.in-Branch.branch) (sym (read_is c.requires.top.1 c.of.ensures.back) ∙ c.in-Branch.is) in
-    early c.requires.top.1 b
+take-requires-clause-early g t c = early c.requires.top.1 (told_of c.requires.top.1 c.of.ensures.back c.in-Branch.is)
 
 pub next_sparse-requires : goal.next_sparse-requires
 next_sparse-requires g t c κs within =
-    let top = c.requires.top.1 in
-    let b = branch_told c.requires.top.0 (c.in-Branch.branch) (sym (read_is top c.of.ensures.back) ∙ c.in-Branch.is) in
-    let inside : c.loop-i.i < count_ones c.in-Branch.branch.bitmap = let e = c.twig_count-i-end.ensures in let l = c.loop-i-test.true in omega arith in
-    let x = twig_here top b c.loop-i.i inside in
-    let n = twig_top g.C.CellRead.has x c.loop-i.invariant.same c.cell-twig.ensures.same c.cell-twig.ensures.value in
-    let f : 504 - (c.in-Branch.branch.offset + 1) < 504 - c.args.low = let a = late top b in let d = early top b in omega arith in
-    (search (rules, f), (within, ((x.t, n), (let d = early top b in omega arith))))
+    let b = told_of c.requires.top.1 c.of.ensures.back c.in-Branch.is in
+    let n = turn g.C.CellRead.has c.loop-i.invariant.kept.same c.requires.top.1 b c.loop-i.i (let e = c.twig_count-i-end.ensures in let l = c.loop-i-test.true in omega arith) c.cell-twig.ensures.same c.cell-twig.ensures.value in
+    let f = falls c.requires.top.1 b in let d = early c.requires.top.1 b in
+    (search (rules, f), (within, (n, omega arith)))
 
 pub returns-then-next_sparse-clause-found : goal.returns-then-next_sparse-clause-found
 returns-then-next_sparse-clause-found g t c e u top =
-    let b = branch_told u (c.in-Branch.branch) (sym (read_is top c.of.ensures.back) ∙ c.in-Branch.is) in
-    let inside : c.loop-i.i < count_ones c.in-Branch.branch.bitmap = let e = c.twig_count-i-end.ensures in let l = c.loop-i-test.true in omega arith in
-    let x = twig_here top b c.loop-i.i inside in
-    let n = twig_top g.C.CellRead.has x c.loop-i.invariant.same c.cell-twig.ensures.same c.cell-twig.ensures.value in
-    found_below u c.in-Branch.branch b c.loop-i.i x (c.next_sparse.ensures.found c.if-next_sparse.true x.t n) (let l = c.next_sparse.ensures.late c.if-next_sparse.true in omega arith)
-    (c.next_sparse.ensures.above c.in-Branch.branch.offset (omega arith) ∙ c.take.ensures.taken)
+    let b = told_of top c.of.ensures.back c.in-Branch.is in
+    let x = twig_here top b c.loop-i.i (let e = c.twig_count-i-end.ensures in let l = c.loop-i-test.true in omega arith) in
+    let n = twig_top g.C.CellRead.has x c.loop-i.invariant.kept.same c.cell-twig.ensures.same c.cell-twig.ensures.value in
+    found_below u c.in-Branch.branch b c.loop-i.i x (c.next_sparse.ensures.found c.if-next_sparse.true x.t n) (c.next_sparse.ensures.late c.if-next_sparse.true) c.next_sparse.ensures.kept c.take.ensures.taken
 
 pub loop-i-preserved : goal.loop-i-preserved
-loop-i-preserved g t c =
-    let inside : c.loop-i.i < count_ones c.in-Branch.branch.bitmap = let e = c.twig_count-i-end.ensures in let l = c.loop-i-test.true in omega arith in
-    record {
-      same = c.next_sparse.ensures.same ∙ c.cell-twig.ensures.same ∙ c.loop-i.invariant.same;
-      above = λ j l.
-          let top = c.requires.top.1 in
-          let b = branch_told c.requires.top.0 (c.in-Branch.branch) (sym (read_is top c.of.ensures.back) ∙ c.in-Branch.is) in
-          let a = late top b in
-          c.next_sparse.ensures.above j (omega arith) ∙ c.take.ensures.others j (λ e. omega arith) ∙ c.loop-i.invariant.above j l;
-      none = λ off all u b top k sparse.
-          let x = twig_here top b c.loop-i.i inside in
-          let n = twig_top g.C.CellRead.has x c.loop-i.invariant.same c.cell-twig.ensures.same c.cell-twig.ensures.value in
-          let on : c.if-resumed.on ≡ false = elim c.if-resumed.branch [ then-resumed w ↦ absurd (true≢false (sym w.if-resumed.true ∙ off)) | else-resumed w ↦ w.on-is ∙ off ] in
-          let here = c.next_sparse.ensures.none c.if-next_sparse.false on all x.t n k sparse in
-          let so_far = c.loop-i.invariant.none off all u b top k sparse in
-          let part = x.weighs (in_chunk k) in
-          let next = ap (λ (m : ℕ). under (in_chunk k) (past m b.below)) (let z : suc c.loop-i.i ≡ c.loop-i.i + 1 = omega arith in z) in omega arith;
-    }
+loop-i-preserved g t c = record {
+  kept = kept_on (late c.requires.top.1 (told_of c.requires.top.1 c.of.ensures.back c.in-Branch.is)) c.loop-i.invariant.kept c.take.ensures.others c.cell-twig.ensures.same c.next_sparse.ensures.kept;
+  none = λ off all u b top k sparse.
+      let x = twig_here top b c.loop-i.i (let e = c.twig_count-i-end.ensures in let l = c.loop-i-test.true in omega arith) in
+      let n = twig_top g.C.CellRead.has x c.loop-i.invariant.kept.same c.cell-twig.ensures.same c.cell-twig.ensures.value in
+      let on : c.if-resumed.on ≡ false = elim c.if-resumed.branch [ then-resumed w ↦ absurd (true≢false (sym w.if-resumed.true ∙ off)) | else-resumed w ↦ w.on-is ∙ off ] in
+      let here = c.next_sparse.ensures.none c.if-next_sparse.false on all x.t n k sparse in
+      let so_far = c.loop-i.invariant.none off all u b top k sparse in
+      let part = x.weighs (in_chunk k) in
+      let next = ap (λ (m : ℕ). under (in_chunk k) (past m b.below)) (let z : suc c.loop-i.i ≡ c.loop-i.i + 1 = omega arith in z) in omega arith;
+}
 
 pub ends_at_leaf-requires : goal.ends_at_leaf-requires
-ends_at_leaf-requires g t c = record { there = leaf_item c.requires.top.1 (leaf_said c.requires.top.0 c.in-Leaf.leaf (sym (read_is c.requires.top.1 c.of.ensures.back) ∙ c.in-Leaf.is)) }
+ends_at_leaf-requires g t c = record { there = leaf_item c.requires.top.1 (item_of c.requires.top.1 c.of.ensures.back c.in-Leaf.is) }
 
 pub returns-in-Leaf-clause-found : goal.returns-in-Leaf-clause-found
-returns-in-Leaf-clause-found g t c e u top = found_leaf u c.in-Leaf.leaf top (leaf_said u c.in-Leaf.leaf (sym (read_is top c.of.ensures.back) ∙ c.in-Leaf.is)) (c.ends_at_leaf.ensures.some e)
+returns-in-Leaf-clause-found g t c e u top = found_leaf u c.in-Leaf.leaf top (item_of top c.of.ensures.back c.in-Leaf.is) (c.ends_at_leaf.ensures.some e)
 
 pub returns-in-Leaf-clause-none : goal.returns-in-Leaf-clause-none
 returns-in-Leaf-clause-none g t c e off all u top k sparse =
-    clear_leaf c.args.usage.now c.args.low c.args.node u c.in-Leaf.leaf top (leaf_said u c.in-Leaf.leaf (sym (read_is top c.of.ensures.back) ∙ c.in-Leaf.is)) (c.ends_at_leaf.ensures.none e) k sparse
+    clear_leaf c.args.usage.now c.args.low c.args.node u c.in-Leaf.leaf top (item_of top c.of.ensures.back c.in-Leaf.is) (c.ends_at_leaf.ensures.none e) k sparse
 
 pub returns-after-loop-i-clause-none : goal.returns-after-loop-i-clause-none
 returns-after-loop-i-clause-none g t c e off all u top k sparse =
-    let b = branch_told u (c.in-Branch.branch) (sym (read_is top c.of.ensures.back) ∙ c.in-Branch.is) in
+    let b = told_of top c.of.ensures.back c.in-Branch.is in
     let so_far = c.loop-i.invariant.none off all u b top k sparse in
     let n = counted top b in
     let rest = past_all (in_chunk k) c.loop-i.i b.below (let m = c.twig_count-i-end.ensures in let l = c.loop-i-test.false in omega arith) in

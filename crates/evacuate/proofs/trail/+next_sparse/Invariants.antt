@@ -1,10 +1,11 @@
-use Rattle.std.proofs.Common.{◌≡◌, ◌-◌, ◌<◌, ℕ, true, false, slice_index}
+use Rattle.std.proofs.Common.{◌≡◌, ◌-◌, ℕ, true, false}
 use Rattle.trie_model.specs.Reach.{in_chunk}
 use Rattle.trie_model.specs.Trees.{Tree}
 use Rattle.trie_model.proofs.CountLaws.{under}
 use Rattle.trie_model.proofs.NodeLaws.{BranchTold}
 use Rattle.chunk_usage.specs.Counting.{is_sparse}
 use Rattle.trie_read.specs.Reads.{IsTop}
+use Rattle.evacuate.specs.Trails.{TrailKept}
 use Rattle.evacuate.proofs.TrailLaws.{past}
 use Rattle.evacuate.proofs.trail.+next_sparse.Given as goal
 
@@ -14,7 +15,6 @@ decreases-next_sparse g l = 504 - l.low
 abbrev pub invariant-loop-i : goal.invariant-loop-i
 invariant-loop-i g l =
     record {
-      same : l.cells ≡ l.fn.cells;
-      above : (i : ℕ) → i < l.fn.low → slice_index l.trail.indices i ≡ slice_index l.fn.trail.indices i;
+      kept : TrailKept l.fn.cells l.cells l.fn.low l.fn.trail l.trail;
       none : l.fn.resumed ≡ false → l.fn.before ≡ 0 → (t : Tree) (x : BranchTold t l.branch) → IsTop (g.C.CellRead.has l.fn.cells) l.fn.low l.fn.node t → (k : ℕ) → is_sparse l.usage k ≡ true → under (in_chunk k) (past l.i x.below) ≡ under (in_chunk k) x.below;
     }
