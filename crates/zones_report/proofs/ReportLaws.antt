@@ -7,13 +7,17 @@ use Rattle.std.specs.BTreeMap.{insert_entry}
 use Rattle.zone_model.specs.Names.{Name, name_cmp}
 use Rattle.zone_model.specs.NameText.{text_of}
 use Rattle.zone_model.specs.MasterFile.{Zone}
+use Rattle.zone_model.specs.Transactions.{Transaction}
 use Rattle.zone_model.specs.Versions.{Version}
 use Rattle.zone_query.specs.Answers.{answer}
 use Rattle.job_model.specs.Commands as jobs
+use Rattle.job_model.specs.declared.Ending.{Ending}
 use Rattle.job_model.specs.declared.Question.TheVariants as question
+use Rattle.job_model.specs.declared.Weight.{Weight}
 use Rattle.job_model.specs.Replies as replies
 use Rattle.job_model.specs.Reports.{ended_text}
 use Rattle.job_script.specs.Outcomes.{ended_view, told_text}
+use Rattle.job_script.specs.declared.outcomes.Outcome.{Outcome}
 use Rattle.job_script.proofs.ReportLemmas.{command_told}
 use Rattle.zones_model.specs.Commands.{Command, Get, Block, Attach, Detach, origins_of}
 use Rattle.zones_model.specs.Outcomes as outcomes
@@ -41,36 +45,49 @@ origin-at (zone ∷ zones) (suc n) = origin-at zones n
 version-at : (zones : List Zone) (n v : ℕ) → report.zone_version zones n v ≡ zone_version (origins_of zones) n v
 version-at zones n v = ap (λ (name : Name). text_of name ++ codes " v" ++ decimal v ++ codes " ") (sym (origin-at zones n))
 
-answer_told : (zones : List Zone) (set : ℕ → ℕ → Version) (w c : ℕ) (name : Name) (rtype table : ℕ) (a : Answer) → Tells zones set (Get name rtype) (Got table (Some a))
-    → report.done_text zones set w c (done_view (Get name rtype) (Got table (Some a))) ≡ done_text (origins_of zones) w c (Got table (Some a))
-answer_told zones set w c name rtype table a t =
+-- what holds of each command that came to something of its kind holds of all that is told
+by_kind : (zones : List Zone) (set : ℕ → ℕ → Version) (P : Command → Done → Type 0)
+    → ((name : Name) (rtype table : ℕ) (answer : Option Answer) → Tells zones set (Get name rtype) (Got table answer) → P (Get name rtype) (Got table answer))
+    → ((zone ran : ℕ) (how : Weight) (asked : Transaction) (ending : Ending) (o : Outcome) → Tells zones set (Block zone how asked ending) (Ran ran o) → P (Block zone how asked ending) (Ran ran o))
+    → ((zone table : ℕ) (refused : Option TableCause) → P (Attach zone) (Attached table refused)) → ((zone table : ℕ) (refused : Option TableCause) → P (Detach zone) (Detached table refused))
+    → (x : Command) (d : Done) → Tells zones set x d → P x d
+by_kind zones set P got ran attached detached (Get name rtype) (Got table answer) t = got name rtype table answer t
+by_kind zones set P got ran attached detached (Get name rtype) (Ran zone o) t = absurd t
+by_kind zones set P got ran attached detached (Get name rtype) (Attached table refused) t = absurd t
+by_kind zones set P got ran attached detached (Get name rtype) (Detached table refused) t = absurd t
+by_kind zones set P got ran attached detached (Block zone _ asked ending) (Got table answer) t = absurd t
+by_kind zones set P got ran attached detached (Block zone how asked ending) (Ran of o) t = ran zone of how asked ending o t
+by_kind zones set P got ran attached detached (Block zone _ asked ending) (Attached table refused) t = absurd t
+by_kind zones set P got ran attached detached (Block zone _ asked ending) (Detached table refused) t = absurd t
+by_kind zones set P got ran attached detached (Attach zone) (Got table answer) t = absurd t
+by_kind zones set P got ran attached detached (Attach zone) (Ran of o) t = absurd t
+by_kind zones set P got ran attached detached (Attach zone) (Attached table refused) t = attached zone table refused
+by_kind zones set P got ran attached detached (Attach zone) (Detached table refused) t = absurd t
+by_kind zones set P got ran attached detached (Detach zone) (Got table answer) t = absurd t
+by_kind zones set P got ran attached detached (Detach zone) (Ran of o) t = absurd t
+by_kind zones set P got ran attached detached (Detach zone) (Attached table refused) t = absurd t
+by_kind zones set P got ran attached detached (Detach zone) (Detached table refused) t = detached zone table refused
+
+answer_told : (zones : List Zone) (set : ℕ → ℕ → Version) (w c : ℕ) (name : Name) (rtype table : ℕ) (answer : Option Answer) → Tells zones set (Get name rtype) (Got table answer)
+    → report.done_text zones set w c (done_view (Get name rtype) (Got table answer)) ≡ done_text (origins_of zones) w c (Got table answer)
+answer_told zones set w c name rtype table None t = refl
+answer_told zones set w c name rtype table (Some a) t =
     let o = a.outcome in
     let origin = (get_or zones a.zone no_zone).origin in
     ap (λ (text : List ℕ). table_head w c table ++ (text ++ replies.answer_text (answer origin (set a.zone o.version) name rtype))) (version-at zones a.zone o.version)
     ∙ ap (λ (text : List ℕ). table_head w c table ++ (zone_version (origins_of zones) a.zone o.version ++ text)) (command_told origin (set a.zone) (jobs.Ask (question.Get name rtype)) o t)
 
-done_told : (zones : List Zone) (set : ℕ → ℕ → Version) (w c : ℕ) (x : Command) (d : Done) → Tells zones set x d → report.done_text zones set w c (done_view x d) ≡ done_text (origins_of zones) w c d
-done_told zones set w c (Get name rtype) (Got table None) t = refl
-done_told zones set w c (Get name rtype) (Got table (Some a)) t = answer_told zones set w c name rtype table a t
-done_told zones set w c (Get name rtype) (Ran ran o) t = absurd t
-done_told zones set w c (Get name rtype) (Attached table refused) t = absurd t
-done_told zones set w c (Get name rtype) (Detached table refused) t = absurd t
-done_told zones set w c (Block zone _ asked ending) (Got table answer) t = absurd t
-done_told zones set w c (Block zone how asked ending) (Ran ran o) t =
+block_told : (zones : List Zone) (set : ℕ → ℕ → Version) (w c zone ran : ℕ) (how : Weight) (asked : Transaction) (ending : Ending) (o : Outcome) → Tells zones set (Block zone how asked ending) (Ran ran o)
+    → report.done_text zones set w c (done_view (Block zone how asked ending) (Ran ran o)) ≡ done_text (origins_of zones) w c (Ran ran o)
+block_told zones set w c zone ran how asked ending o t =
     let head = decimal w ++ codes "." ++ decimal c ++ codes " " in
     ap (λ (text : List ℕ). head ++ text ++ ended_text (ended_view o.told)) (version-at zones zone o.version)
     ∙ ap (λ (text : List ℕ). head ++ zone_version (origins_of zones) zone o.version ++ text) (command_told [] (set zone) (jobs.Block how asked ending) o t.1)
     ∙ ap (λ (n : ℕ). head ++ zone_version (origins_of zones) n o.version ++ told_text o.told) (sym t.0)
-done_told zones set w c (Block zone _ asked ending) (Attached table refused) t = absurd t
-done_told zones set w c (Block zone _ asked ending) (Detached table refused) t = absurd t
-done_told zones set w c (Attach zone) (Got table answer) t = absurd t
-done_told zones set w c (Attach zone) (Ran ran o) t = absurd t
-done_told zones set w c (Attach zone) (Attached table refused) t = refl
-done_told zones set w c (Attach zone) (Detached table refused) t = absurd t
-done_told zones set w c (Detach zone) (Got table answer) t = absurd t
-done_told zones set w c (Detach zone) (Ran ran o) t = absurd t
-done_told zones set w c (Detach zone) (Attached table refused) t = absurd t
-done_told zones set w c (Detach zone) (Detached table refused) t = refl
+
+done_told : (zones : List Zone) (set : ℕ → ℕ → Version) (w c : ℕ) (x : Command) (d : Done) → Tells zones set x d → report.done_text zones set w c (done_view x d) ≡ done_text (origins_of zones) w c d
+done_told zones set w c =
+    by_kind zones set (λ x d. report.done_text zones set w c (done_view x d) ≡ done_text (origins_of zones) w c d) (answer_told zones set w c) (block_told zones set w c) (λ zone table refused. refl) (λ zone table refused. refl)
 
 worker_told : (zones : List Zone) (set : ℕ → ℕ → Version) (w c : ℕ) (cs : List Command) (ds : List Done) → EachTells zones set cs ds → report.worker_text zones set w c (dones_view cs ds) ≡ dones_text (origins_of zones) w c ds
 worker_told zones set w c [] [] t = refl
@@ -121,22 +138,9 @@ some_cause None = refl
 some_cause (Some cause) = refl
 
 one_refused : (zones : List Zone) (set : ℕ → ℕ → Version) (x : Command) (d : Done) → Tells zones set x d → was_refused d ≡ report.was_refused (done_view x d)
-one_refused zones set (Get name rtype) (Got table answer) t = refl
-one_refused zones set (Get name rtype) (Ran ran o) t = absurd t
-one_refused zones set (Get name rtype) (Attached table refused) t = absurd t
-one_refused zones set (Get name rtype) (Detached table refused) t = absurd t
-one_refused zones set (Block zone _ asked ending) (Got table answer) t = absurd t
-one_refused zones set (Block zone _ asked ending) (Ran ran o) t = refl
-one_refused zones set (Block zone _ asked ending) (Attached table refused) t = absurd t
-one_refused zones set (Block zone _ asked ending) (Detached table refused) t = absurd t
-one_refused zones set (Attach zone) (Got table answer) t = absurd t
-one_refused zones set (Attach zone) (Ran ran o) t = absurd t
-one_refused zones set (Attach zone) (Attached table refused) t = some_cause refused
-one_refused zones set (Attach zone) (Detached table refused) t = absurd t
-one_refused zones set (Detach zone) (Got table answer) t = absurd t
-one_refused zones set (Detach zone) (Ran ran o) t = absurd t
-one_refused zones set (Detach zone) (Attached table refused) t = absurd t
-one_refused zones set (Detach zone) (Detached table refused) t = some_cause refused
+one_refused zones set =
+    by_kind zones set (λ x d. was_refused d ≡ report.was_refused (done_view x d)) (λ name rtype table answer t. refl) (λ zone ran how asked ending o t. refl)
+    (λ zone table refused. some_cause refused) (λ zone table refused. some_cause refused)
 
 or-assoc : (a b c : Bool) → (a || (b || c)) ≡ ((a || b) || c)
 or-assoc true b c = refl
@@ -165,22 +169,8 @@ refused_told zones set (x ∷ ws) (d ∷ ds) t =
 -- ---- a list for each worker, and an outcome for each command
 
 one_same : (zones : List Zone) (set : ℕ → ℕ → Version) (x : Command) (d : Done) → Tells zones set x d → command_of (done_view x d) ≡ x
-one_same zones set (Get name rtype) (Got table answer) t = refl
-one_same zones set (Get name rtype) (Ran ran o) t = absurd t
-one_same zones set (Get name rtype) (Attached table refused) t = absurd t
-one_same zones set (Get name rtype) (Detached table refused) t = absurd t
-one_same zones set (Block zone _ asked ending) (Got table answer) t = absurd t
-one_same zones set (Block zone _ asked ending) (Ran ran o) t = refl
-one_same zones set (Block zone _ asked ending) (Attached table refused) t = absurd t
-one_same zones set (Block zone _ asked ending) (Detached table refused) t = absurd t
-one_same zones set (Attach zone) (Got table answer) t = absurd t
-one_same zones set (Attach zone) (Ran ran o) t = absurd t
-one_same zones set (Attach zone) (Attached table refused) t = refl
-one_same zones set (Attach zone) (Detached table refused) t = absurd t
-one_same zones set (Detach zone) (Got table answer) t = absurd t
-one_same zones set (Detach zone) (Ran ran o) t = absurd t
-one_same zones set (Detach zone) (Attached table refused) t = absurd t
-one_same zones set (Detach zone) (Detached table refused) t = refl
+one_same zones set =
+    by_kind zones set (λ x d. command_of (done_view x d) ≡ x) (λ name rtype table answer t. refl) (λ zone ran how asked ending o t. refl) (λ zone table refused. refl) (λ zone table refused. refl)
 
 worker_same : (zones : List Zone) (set : ℕ → ℕ → Version) (cs : List Command) (ds : List Done) → EachTells zones set cs ds → map command_of (dones_view cs ds) ≡ cs
 worker_same zones set [] [] t = refl

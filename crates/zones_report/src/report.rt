@@ -96,22 +96,14 @@ fn append_ran(
     append_told(out, outcome.told)
 }
 
-fn push_cause(out: &mut Vec<u8>, cause: TableCause) -> Result<(), AllocError>
-    ensures { OnOk result (out.new.items ≡ out.old.items ++ table_cause_text cause) }
-{
-    match cause {
-        TableCause::Exists => out.extend_from_slice(b"exists"),
-        TableCause::Missing => out.extend_from_slice(b"missing"),
-        TableCause::Spent => out.extend_from_slice(b"spent"),
-    }
-}
-
 fn push_refused(out: &mut Vec<u8>, cause: TableCause) -> Result<(), AllocError>
     ensures { OnOk result (out.new.items ≡ out.old.items ++ (codes "REFUSED " ++ table_cause_text cause ++ codes "\n")) }
 {
-    out.extend_from_slice(b"REFUSED ")?;
-    push_cause(out, cause)?;
-    out.extend_from_slice(b"\n")
+    match cause {
+        TableCause::Exists => out.extend_from_slice(b"REFUSED exists\n"),
+        TableCause::Missing => out.extend_from_slice(b"REFUSED missing\n"),
+        TableCause::Spent => out.extend_from_slice(b"REFUSED spent\n"),
+    }
 }
 
 // How a change of the table ended: by a word, where it was made.
