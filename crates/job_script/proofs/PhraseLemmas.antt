@@ -1,5 +1,5 @@
 -- Tokens that lie inside the bytes, taken from the front of a list; the line that a script's refusal is of; a word alone.
-use Rattle.std.proofs.Common.{◌≡◌, ◌∙◌, ℕ, suc, ◌<◌, List, [], ◌∷◌, length, slice_index_or, sym, ap, subst, arith, Option, None, Result}
+use Rattle.std.proofs.Common.{◌≡◌, ◌∙◌, ℕ, suc, ◌+◌, ◌<◌, ◌≤◌, List, [], ◌∷◌, length, drop, slice_index_or, sym, ap, subst, arith, Option, None, Result}
 use Rattle.std.specs.List.{All}
 use Rattle.std.specs.Option.{option_map, option_or}
 use Rattle.zone_model.specs.Names.{Name}
@@ -34,6 +34,10 @@ has_first text some =
     let f = first_blank text some in
     let head : first_line text ≡ f.line = ap (λ (l : List (List ℕ)). slice_index_or l 0 []) f.lines in
     record { rest = f.rest; lines = f.lines ∙ ap (λ (l : List ℕ). l ∷ f.rest) (sym head) }
+
+-- the line that begins at a place has this number, where the first one has another
+abbrev pub IsNumbered : List ℕ → ℕ → ℕ → ℕ → Type 0
+IsNumbered bytes first at line = (line + length (lines_of (drop at bytes)) ≡ first + length (lines_of bytes)) × (at ≤ length bytes) × (line ≤ first + at)
 
 -- a word that stands alone and asks no question
 pub lone_says : (origin : Name) (words : List Word) (w : Word) (behind : List Word) (said : Option Phrase) → words ≡ w ∷ behind → behind ≡ [] → None ≡ asked_of origin w behind → said ≡ lone_word w

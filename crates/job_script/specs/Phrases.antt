@@ -1,9 +1,14 @@
 -- Phrases as the definitions see them, where names are relative to an origin.
-use Rattle.std.specs.Prelude.{ℕ, List, map, IfSome}
+use Rattle.std.specs.Prelude.{ℕ, List, map, IfSome, Result}
 use Rattle.std.specs.Option.{option_map}
 use Rattle.std.specs.List.{All}
+use Rattle.job_model.specs.Arguments.{refuse, addition_of, deletion_of}
 use Rattle.job_model.specs.Phrases as phrases
+use Rattle.job_model.specs.declared.ScriptKind.{ScriptKind}
+use Rattle.job_model.specs.declared.ScriptKind.TheVariants.{BadCommand}
 use Rattle.zone_model.specs.Names.{Name}
+use Rattle.zone_model.specs.Refusals.{Refused}
+use Rattle.zone_model.specs.Versions.{Operation}
 use Rattle.zone_text.specs.Tokens.{IsPlaced, token_view}
 use Rattle.job_script.specs.Asked.{asked_view, AskedPlaced}
 use Rattle.job_script.specs.declared.phrases.Phrase.{Phrase}
@@ -35,3 +40,9 @@ PhrasePlaced bytes (phrase.Adds owner ttl rtype rest) = IsPlaced bytes owner × 
 PhrasePlaced bytes (phrase.Deletes owner rest) = IsPlaced bytes owner × All (IsPlaced bytes) rest.now
 PhrasePlaced bytes (phrase.Ends _) = Unit {0}
 PhrasePlaced bytes phrase.Compacts = Unit {0}
+
+-- the operation that a phrase says, if it says one
+abbrev pub operation_said : Name → ℕ → phrases.Phrase → Result Operation (Refused ScriptKind)
+operation_said origin n (phrases.Adds owner ttl rtype tokens) = addition_of origin n owner ttl rtype tokens
+operation_said origin n (phrases.Deletes owner rest) = deletion_of origin n owner rest
+operation_said origin n other = refuse n BadCommand

@@ -7,7 +7,8 @@ pub use Rattle.zone_model.specs.Names.{Name, Name as Labels}
 pub use Rattle.zone_model.specs.Rows.{Row, row_text, rows_of}
 pub use Rattle.zone_text.specs.Tokens.{IsPlaced, token_view}
 pub use Rattle.zone_change.specs.Views.{operation_view, prerequisite_view}
-pub use Rattle.job_model.specs.Arguments.{addition_of, deletion_of}
+pub use Rattle.zone_model.specs.MasterFile.{type_word}
+pub use Rattle.job_model.specs.Arguments.{prerequisite_of}
 pub use Rattle.job_model.specs.Commands.{InTurn, Job, NeedsNoSnapshot}
 pub use Rattle.job_model.specs.Jobs.{JobRefusal, job_of, script_lines, script_start, zone_lines}
 pub use Rattle.job_model.specs.Needs.{cells_added, cells_of_commands, cells_of_operations, cells_of_workers, longest, longest_of_workers}
@@ -18,9 +19,9 @@ pub use Rattle.job_model.specs.Summaries.{counts_text, sized_end_text}
 pub use Rattle.job_script.specs.Asked.{AskedPlaced, asked_view}
 pub use Rattle.job_script.specs.Outcomes.{cause_view, ended_view, outcome_text, told_text}
 pub use Rattle.job_script.specs.Parts.{IsCutAt}
-pub use Rattle.job_script.specs.Phrases.{PhrasePlaced, phrase_view}
+pub use Rattle.job_script.specs.Phrases.{PhrasePlaced, operation_said, phrase_view}
 pub use Rattle.job_script.specs.Printed.{HasPrinted}
-pub use Rattle.job_script.specs.Scripts.{Says, ScriptReads, ScriptSteps, first_script, script_view, unfinished_view}
+pub use Rattle.job_script.specs.Scripts.{LineReads, Passes, Says, ScriptReads, ScriptSteps, first_script, script_view, unfinished_view, with_asked}
 pub use Rattle.job_script.specs.Spelled.{SaysJob}
 pub use Rattle.job_script.specs.Summaries.{AllTallied, Tallied, all_refused_lines, refused_lines, summary_text}
 pub use Rattle.job_script.specs.Views.{command_view, job_view, list_view, worker_view, workers_view}

@@ -1,13 +1,20 @@
 -- Scripts as the definitions see them.
-use Rattle.std.specs.Prelude.{◌≡◌, ℕ, List, ◌∷◌, map, drop, Result, Ok, Err}
+use Rattle.std.specs.Prelude.{◌≡◌, ℕ, Bool, true, false, if◌then◌else◌, List, ◌∷◌, map, drop, Some, None, Result, Ok, Err}
 use Rattle.std.specs.Option.{option_map}
 use Rattle.zone_model.specs.Names.{Name}
-use Rattle.zone_model.specs.Refusals.{Refused}
+use Rattle.zone_model.specs.Refusals.{Refused, ◌>>=◌}
 use Rattle.zone_model.specs.Lines.{lines_of}
+use Rattle.zone_text.specs.Places.{first_line}
+use Rattle.zone_text.specs.Tokens.{token_view}
+use Rattle.zone_text.specs.declared.single_lines.LexedLine.{LexedLine}
+use Rattle.job_model.specs.Arguments.{at_line}
 use Rattle.job_model.specs.Jobs as jobs
+use Rattle.job_model.specs.Phrases.{script_tokens}
 use Rattle.job_model.specs.declared.Listing.{Listing}
 use Rattle.job_model.specs.declared.Listing.TheVariants.{ByWorker, OneList}
+use Rattle.job_model.specs.declared.Question.{Question}
 use Rattle.job_model.specs.declared.ScriptKind.{ScriptKind}
+use Rattle.job_model.specs.declared.ScriptKind.TheVariants.{BadCommand}
 use Rattle.job_script.specs.Views.{command_view, workers_view}
 use Rattle.zone_change.specs.Views.{operation_view, prerequisite_view}
 use Rattle.job_script.specs.declared.script.Script.{Script}
@@ -37,22 +44,39 @@ abbrev pub first_script : Listing → jobs.Script
 first_script ByWorker = jobs.no_lines
 first_script OneList = jobs.no_commands
 
+-- a question joins the worker's commands where there is room: to the snapshot that is held, or to the current version
+abbrev pub with_asked : ℕ → Bool → Result Question ScriptKind → jobs.Script → Result jobs.Script (Refused ScriptKind)
+with_asked n held asked s = jobs.with_room n s (at_line n asked >>= (if held then jobs.with_held_question s else jobs.with_question s))
+
 -- a value is the one wanted, or the refusal is; want of memory says nothing
 abbrev pub Says : {R A : Type 0} → Result R JobRefusal → (R → A) → Result A (Refused ScriptKind) → Type 0
 Says (Ok r) view wanted = wanted ≡ Ok (view r)
 Says (Err stops.Memory) view wanted = Unit {0}
 Says (Err (stops.Refused line kind)) view wanted = wanted ≡ Err (record { line = line; kind = kind })
 
--- the script has come as far as is wanted
-abbrev pub ScriptReads : {R : Type 0} → Result R JobRefusal → jobs.Script → Result jobs.Script (Refused ScriptKind) → Type 0
-ScriptReads (Ok r) new wanted = wanted ≡ Ok new
-ScriptReads (Err stops.Memory) new wanted = Unit {0}
-ScriptReads (Err (stops.Refused line kind)) new wanted = wanted ≡ Err (record { line = line; kind = kind })
+-- a script has come as far as is wanted
+abbrev pub ScriptReads : {R S : Type 0} → Result R JobRefusal → S → Result S (Refused ScriptKind) → Type 0
+ScriptReads result new wanted = Says result (λ r. new) wanted
 
--- one line was taken, and the others begin at a place
+-- a test lets a line pass, or the line is refused
+abbrev pub Passes : Result (Unit {0}) JobRefusal → Bool → ℕ → ScriptKind → Type 0
+Passes (Ok r) test line kind = test ≡ true
+Passes (Err refusal) test line kind = (test ≡ false) × (refusal ≡ stops.Refused line kind)
+
+-- a line was cut into tokens, and the others begin at a place; or it is refused
+abbrev pub LineReads : Result LexedLine JobRefusal → List ℕ → ℕ → ℕ → Type 0
+LineReads (Ok l) bytes at line =
+    (lines_of (drop at bytes) ≡ first_line (drop at bytes) ∷ lines_of (drop l.next bytes)) × (script_tokens line (first_line (drop at bytes)) ≡ Some (map (token_view bytes) l.tokens.items))
+LineReads (Err stops.Memory) bytes at line = Unit {0}
+LineReads (Err (stops.Refused n kind)) bytes at line =
+    (rest : List (List ℕ)) × (lines_of (drop at bytes) ≡ first_line (drop at bytes) ∷ rest) × (script_tokens line (first_line (drop at bytes)) ≡ None) × (n ≡ line) × (kind ≡ BadCommand)
+
+-- one line was taken, which says this, and the others begin at a place
+abbrev pub LineSteps : {S : Type 0} → Result ℕ JobRefusal → List ℕ → ℕ → (List ℕ → Result S (Refused ScriptKind)) → S → Type 0
+LineSteps (Ok next) bytes at says new = (text : List ℕ) × (lines_of (drop at bytes) ≡ text ∷ lines_of (drop next bytes)) × (says text ≡ Ok new)
+LineSteps (Err stops.Memory) bytes at says new = Unit {0}
+LineSteps (Err (stops.Refused n kind)) bytes at says new = (text : List ℕ) × (rest : List (List ℕ)) × (lines_of (drop at bytes) ≡ text ∷ rest) × (says text ≡ Err (record { line = n; kind = kind }))
+
+-- the same of a line of a job's script
 abbrev pub ScriptSteps : Result ℕ JobRefusal → List ℕ → ℕ → ℕ → Name → jobs.Script → jobs.Script → Type 0
-ScriptSteps (Ok next) bytes at line origin old new =
-    (text : List ℕ) × (lines_of (drop at bytes) ≡ text ∷ lines_of (drop next bytes)) × (jobs.script_line origin line text old ≡ Ok new)
-ScriptSteps (Err stops.Memory) bytes at line origin old new = Unit {0}
-ScriptSteps (Err (stops.Refused n kind)) bytes at line origin old new =
-    (text : List ℕ) × (rest : List (List ℕ)) × (lines_of (drop at bytes) ≡ text ∷ rest) × (jobs.script_line origin line text old ≡ Err (record { line = n; kind = kind }))
+ScriptSteps result bytes at line origin old new = LineSteps result bytes at (λ text. jobs.script_line origin line text old) new

@@ -2,6 +2,18 @@
 use job_model::{Ending, Question, Weight};
 use zone_change::{Operation, Prerequisite};
 
+/// The most workers.
+pub const WORKER_LIMIT: usize = 16;
+
+/// The most commands of a worker.
+pub const COMMAND_LIMIT: usize = 10000;
+
+/// The most prerequisites of a transaction.
+pub const NEED_LIMIT: usize = 10000;
+
+/// The most operations of one.
+pub const OPERATION_LIMIT: usize = 10000;
+
 /// A transaction: how it writes, what it wants of the version that it changes, its operations in order, and its last word.
 #[derive(Drop)]
 pub struct Block {

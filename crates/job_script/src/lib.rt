@@ -21,7 +21,7 @@ mod script;
 mod summary;
 mod words;
 
-pub use commands::{Block, Command, Job, Worker};
+pub use commands::{Block, COMMAND_LIMIT, Command, Job, WORKER_LIMIT, Worker};
 pub use laws::jobs_are_spelled;
 pub use needs::{Needs, needs_of};
 pub use outcomes::{
@@ -29,9 +29,9 @@ pub use outcomes::{
 };
 pub use parts::{Parts, split};
 pub use printed::{PrintedRows, push_answer, push_rows};
-pub use refusal::{JobRefusal, refused, too_many};
+pub use refusal::{JobRefusal, demand, refused, too_many};
 pub use replies::{push_found, push_list, push_size};
-pub use report::{push_end, push_head, push_told};
-pub use script::{Script, Unfinished, read_job, read_list, script_line};
+pub use report::{push_end, push_head, push_pair, push_told};
+pub use script::{Script, Unfinished, read_job, read_line, read_list, script_line};
 pub use summary::print_summary;
 pub use words::says;

@@ -1,198 +1,149 @@
 //! Lines outside a block.
-ghost use Rattle.std.specs.Prelude.{◌≡◌, ◌<◌, ◌≤◌, ◌+◌, ◌∷◌, ◌++◌, [], ℕ, List, length, map, Some, None, Option, Ok, Err, Result};
-ghost use Rattle.job_script.specs.Prelude.{Labels, asked_view, AskedPlaced, phrase_view, PhrasePlaced, script_view, ScriptReads};
+ghost use Rattle.std.specs.Prelude.{◌≡◌, ◌<◌, ◌≤◌, ◌+◌, ◌∷◌, ◌++◌, [], ℕ, List, length, map, Some, None, Option, Ok, Err, Result, nat_lt};
+ghost use Rattle.job_script.specs.Prelude.{asked_view, AskedPlaced, command_view, phrase_view, PhrasePlaced, script_view, Passes, ScriptReads, with_asked};
 ghost use Rattle.job_model.specs.Jobs as jobs;
 ghost use Rattle.job_model.specs.Phrases as phrases;
 
-use crate::commands::{Command, Worker};
+use crate::commands::{COMMAND_LIMIT, Command, WORKER_LIMIT, Worker};
 use crate::phrases::Phrase;
 use crate::questions::{Asked, question_of};
-use crate::refusal::{JobRefusal, refused, too_many};
+use crate::refusal::{JobRefusal, demand, refused, too_many};
 use crate::script::{Script, Unfinished};
-use dns_name::Name;
+use crate::words::Line;
 use job_model::{ScriptKind, Weight};
-use std::alloc::Global;
 use std::mem;
 
-const WORKER_LIMIT: usize = 16;
-
-const COMMAND_LIMIT: usize = 10000;
-
 /// Takes a line.
-pub fn outside(
-    script: &mut Script,
-    alloc: Global,
-    bytes: &[u8],
-    origin: &Name,
-    line: u32,
-    phrase: &Phrase,
-) -> Result<(), JobRefusal>
+pub fn outside(script: &mut Script, line: Line, phrase: &Phrase) -> Result<(), JobRefusal>
     requires none { script.old.block ≡ None }
-    requires placed { PhrasePlaced bytes.now phrase.now }
+    requires placed { PhrasePlaced line.bytes.now phrase.now }
     ensures { ScriptReads result (script_view script.new)
-        (jobs.outside origin.now line (phrase_view origin.now bytes.now phrase.now) (script_view script.old)) }
+        (jobs.outside line.entry.origin.now line.entry.number (phrase_view line.entry.origin.now line.entry.bytes.now phrase.now) (script_view script.old)) }
 {
     match phrase {
-        Phrase::Worker => begin_worker(script, alloc, line),
-        Phrase::Asks(asked) => add_question(script, bytes, origin, line, asked),
-        Phrase::Holds => hold(script, line),
-        Phrase::AsksHeld(asked) => add_held_question(script, bytes, origin, line, asked),
-        Phrase::Releases => release(script, line),
-        Phrase::Opens(weight) => open_block(script, alloc, line, *weight),
-        Phrase::Compacts => compact(script, line),
+        Phrase::Worker => begin_worker(script, line),
+        Phrase::Asks(asked) => {
+            demand(script.begun, line.number, ScriptKind::NoWorker)?;
+            add_question(script, line, asked, false)
+        }
+        Phrase::Holds => hold(script, line.number),
+        Phrase::AsksHeld(asked) => {
+            demand(script.begun, line.number, ScriptKind::NoWorker)?;
+            demand(script.held, line.number, ScriptKind::NotHeld)?;
+            add_question(script, line, asked, true)
+        }
+        Phrase::Releases => release(script, line.number),
+        Phrase::Opens(weight) => open_block(script, line, *weight),
+        Phrase::Compacts => compact(script, line.number),
         Phrase::Needs(_, _, _)
         | Phrase::Adds(_, _, _, _)
         | Phrase::Deletes(_, _)
-        | Phrase::Ends(_) => Err(refused(line, ScriptKind::BadCommand)),
+        | Phrase::Ends(_) => Err(refused(line.number, ScriptKind::BadCommand)),
     }
 }
 
 // The first worker's list begins, or the next one's.
-fn begin_worker(script: &mut Script, alloc: Global, line: u32) -> Result<(), JobRefusal>
+fn begin_worker(script: &mut Script, line: Line) -> Result<(), JobRefusal>
     requires { script.old.block ≡ None }
-    ensures { (origin : Labels) → ScriptReads result (script_view script.new) (jobs.outside origin line phrases.Worker (script_view script.old)) }
+    ensures { ScriptReads result (script_view script.new) (jobs.outside [] line.entry.number phrases.Worker (script_view script.old)) }
 {
     if !script.begun {
         script.begun = true;
         return Ok(());
     }
     if script.earlier.len() + 1 >= WORKER_LIMIT {
-        return Err(too_many(line, 16));
+        return Err(too_many(line.number, 16));
     }
-    let commands = mem::replace(&mut script.commands, Vec::new(alloc));
+    let commands = mem::replace(&mut script.commands, Vec::new(line.alloc));
     script.earlier.push(Worker { commands })?;
     script.held = false;
     Ok(())
 }
 
-// A question joins the worker's commands.
-fn add_question(
-    script: &mut Script,
-    bytes: &[u8],
-    origin: &Name,
-    line: u32,
-    asked: &Asked,
-) -> Result<(), JobRefusal>
-    requires { AskedPlaced bytes.now asked.now }
-    ensures { ScriptReads result (script_view script.new)
-        (jobs.outside origin.now line (phrases.Asks (asked_view origin.now bytes.now asked.now)) (script_view script.old)) }
+// Refuses one command too many.
+fn has_room(script: &Script, line: u32) -> Result<(), JobRefusal>
+    ensures { Passes result (nat_lt (length (script_view script.now).commands) jobs.command_limit) line (ScriptKind.TooMany jobs.command_limit) }
 {
-    if !script.begun {
-        return Err(refused(line, ScriptKind::NoWorker));
-    }
     if script.commands.len() >= COMMAND_LIMIT {
         return Err(too_many(line, 10000));
     }
-    match question_of(bytes, origin, asked) {
-        Ok(question) => {
-            script.commands.push(Command::Ask(question))?;
-            Ok(())
-        }
-        Err(kind) => Err(refused(line, kind)),
+    Ok(())
+}
+
+// A command joins the worker's.
+fn add(script: &mut Script, command: Command) -> Result<(), JobRefusal>
+    ensures { ScriptReads result (script_view script.new) (Ok (jobs.with_command (script_view script.old) (command_view command))) }
+{
+    script.commands.push(command)?;
+    Ok(())
+}
+
+// A question joins the worker's commands, to the snapshot that is held or to the current version.
+fn add_question(
+    script: &mut Script,
+    line: Line,
+    asked: &Asked,
+    held: bool,
+) -> Result<(), JobRefusal>
+    requires { AskedPlaced line.bytes.now asked.now }
+    ensures { ScriptReads result (script_view script.new)
+        (with_asked line.entry.number held (asked_view line.entry.origin.now line.entry.bytes.now asked.now) (script_view script.old)) }
+{
+    has_room(script, line.number)?;
+    match question_of(line.bytes, line.origin, asked) {
+        Ok(question) if held => add(script, Command::AskHeld(question)),
+        Ok(question) => add(script, Command::Ask(question)),
+        Err(kind) => Err(refused(line.number, kind)),
     }
 }
 
 // A snapshot is taken.
 fn hold(script: &mut Script, line: u32) -> Result<(), JobRefusal>
-    ensures { (origin : Labels) → ScriptReads result (script_view script.new) (jobs.outside origin line phrases.Holds (script_view script.old)) }
+    ensures { ScriptReads result (script_view script.new) (jobs.outside [] line phrases.Holds (script_view script.old)) }
 {
-    if !script.begun {
-        return Err(refused(line, ScriptKind::NoWorker));
-    }
+    demand(script.begun, line, ScriptKind::NoWorker)?;
     if script.held {
         return Err(refused(line, ScriptKind::AlreadyHeld));
     }
-    if script.commands.len() >= COMMAND_LIMIT {
-        return Err(too_many(line, 10000));
-    }
+    has_room(script, line)?;
     script.commands.push(Command::Hold)?;
     script.held = true;
     Ok(())
 }
 
-// A question to the snapshot joins the worker's commands.
-fn add_held_question(
-    script: &mut Script,
-    bytes: &[u8],
-    origin: &Name,
-    line: u32,
-    asked: &Asked,
-) -> Result<(), JobRefusal>
-    requires { AskedPlaced bytes.now asked.now }
-    ensures { ScriptReads result (script_view script.new)
-        (jobs.outside origin.now line (phrases.AsksHeld (asked_view origin.now bytes.now asked.now)) (script_view script.old)) }
-{
-    if !script.begun {
-        return Err(refused(line, ScriptKind::NoWorker));
-    }
-    if !script.held {
-        return Err(refused(line, ScriptKind::NotHeld));
-    }
-    if script.commands.len() >= COMMAND_LIMIT {
-        return Err(too_many(line, 10000));
-    }
-    match question_of(bytes, origin, asked) {
-        Ok(question) => {
-            script.commands.push(Command::AskHeld(question))?;
-            Ok(())
-        }
-        Err(kind) => Err(refused(line, kind)),
-    }
-}
-
 // The snapshot is given back.
 fn release(script: &mut Script, line: u32) -> Result<(), JobRefusal>
-    ensures { (origin : Labels) → ScriptReads result (script_view script.new) (jobs.outside origin line phrases.Releases (script_view script.old)) }
+    ensures { ScriptReads result (script_view script.new) (jobs.outside [] line phrases.Releases (script_view script.old)) }
 {
-    if !script.begun {
-        return Err(refused(line, ScriptKind::NoWorker));
-    }
-    if !script.held {
-        return Err(refused(line, ScriptKind::NotHeld));
-    }
-    if script.commands.len() >= COMMAND_LIMIT {
-        return Err(too_many(line, 10000));
-    }
+    demand(script.begun, line, ScriptKind::NoWorker)?;
+    demand(script.held, line, ScriptKind::NotHeld)?;
+    has_room(script, line)?;
     script.commands.push(Command::Release)?;
     script.held = false;
     Ok(())
 }
 
-// A compaction.
-fn compact(script: &mut Script, line: u32) -> Result<(), JobRefusal>
-    ensures { (origin : Labels) → ScriptReads result (script_view script.new) (jobs.outside origin line phrases.Compacts (script_view script.old)) }
+// A block begins.
+fn open_block(script: &mut Script, line: Line, weight: Weight) -> Result<(), JobRefusal>
+    requires { script.old.block ≡ None }
+    ensures { ScriptReads result (script_view script.new) (jobs.outside [] line.entry.number (phrases.Opens weight) (script_view script.old)) }
 {
-    if !script.begun {
-        return Err(refused(line, ScriptKind::NoWorker));
-    }
-    if script.commands.len() >= COMMAND_LIMIT {
-        return Err(too_many(line, 10000));
-    }
-    script.commands.push(Command::Compact)?;
+    demand(script.begun, line.number, ScriptKind::NoWorker)?;
+    has_room(script, line.number)?;
+    script.block = Some(Unfinished {
+        start: line.number,
+        weight,
+        needs: Vec::new(line.alloc),
+        operations: Vec::new(line.alloc),
+    });
     Ok(())
 }
 
-// A block begins.
-fn open_block(
-    script: &mut Script,
-    alloc: Global,
-    line: u32,
-    weight: Weight,
-) -> Result<(), JobRefusal>
-    requires { script.old.block ≡ None }
-    ensures { (origin : Labels) → ScriptReads result (script_view script.new) (jobs.outside origin line (phrases.Opens weight) (script_view script.old)) }
+// A compaction.
+fn compact(script: &mut Script, line: u32) -> Result<(), JobRefusal>
+    ensures { ScriptReads result (script_view script.new) (jobs.outside [] line phrases.Compacts (script_view script.old)) }
 {
-    if !script.begun {
-        return Err(refused(line, ScriptKind::NoWorker));
-    }
-    if script.commands.len() >= COMMAND_LIMIT {
-        return Err(too_many(line, 10000));
-    }
-    script.block = Some(Unfinished {
-        start: line,
-        weight,
-        needs: Vec::new(alloc),
-        operations: Vec::new(alloc),
-    });
-    Ok(())
+    demand(script.begun, line, ScriptKind::NoWorker)?;
+    has_room(script, line)?;
+    add(script, Command::Compact)
 }

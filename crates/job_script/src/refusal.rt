@@ -1,9 +1,10 @@
 //! Why a script is not read.
 ghost use Rattle.std.specs.Prelude.{◌≡◌};
+ghost use Rattle.job_script.specs.Prelude.{Passes};
 ghost use Rattle.job_script.specs.declared.refusal.JobRefusal.TheVariants.{Memory, Refused};
 
 use job_model::ScriptKind;
-use std::alloc::{AllocError, AllocFailed};
+use std::alloc::AllocFailed;
 
 /// Why a job's script is not read.
 #[derive(Clone, Copy, Debug, PartialEq, Eq)]
@@ -12,14 +13,6 @@ pub enum JobRefusal {
     Refused { line: u32, kind: ScriptKind },
     /// Want of memory.
     Memory,
-}
-
-impl From<AllocError> for JobRefusal {
-    ghost from_gives = { λ _ e. e ≡ Memory };
-
-    fn from(_: AllocError) -> Self {
-        JobRefusal::Memory
-    }
 }
 
 impl<T: Drop> From<AllocFailed<T>> for JobRefusal {
@@ -35,6 +28,17 @@ pub fn refused(line: u32, kind: ScriptKind) -> JobRefusal
     ensures { result ≡ Refused line kind }
 {
     JobRefusal::Refused { line, kind }
+}
+
+/// Refuses a line where a test fails.
+pub fn demand(passes: bool, line: u32, kind: ScriptKind) -> Result<(), JobRefusal>
+    ensures { Passes result passes line kind }
+{
+    if passes {
+        Ok(())
+    } else {
+        Err(refused(line, kind))
+    }
 }
 
 /// The refusal of a line that is one worker, command or operation too many.

@@ -99,13 +99,26 @@ pub(crate) fn push_outcome(
     push_told(out, &outcome.told)
 }
 
+/// Two numbers, each behind a text, and the end of the line.
+pub fn push_pair(
+    out: &mut Vec<u8>,
+    before: &[u8],
+    first: u64,
+    between: &[u8],
+    second: u64,
+) -> Result<(), AllocError>
+    ensures { OnOk result (out.new.items ≡ out.old.items ++ before.now ++ decimal first ++ between.now ++ decimal second ++ codes "\n") }
+{
+    out.extend_from_slice(before)?;
+    push_decimal(out, first)?;
+    out.extend_from_slice(between)?;
+    push_decimal(out, second)?;
+    out.extend_from_slice(b"\n")
+}
+
 /// The last line: the last version, and how many names it has.
 pub fn push_end(out: &mut Vec<u8>, last: u64, names: u64) -> Result<(), AllocError>
     ensures { OnOk result (out.new.items ≡ out.old.items ++ end_text last names) }
 {
-    out.extend_from_slice(b"end v")?;
-    push_decimal(out, last)?;
-    out.extend_from_slice(b" names ")?;
-    push_decimal(out, names)?;
-    out.extend_from_slice(b"\n")
+    push_pair(out, b"end v", last, b" names ", names)
 }

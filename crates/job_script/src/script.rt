@@ -2,20 +2,21 @@
 ghost use Rattle.std.specs.Prelude.{◌≡◌, ◌<◌, ◌≤◌, ◌+◌, ◌^◌, ◌∷◌, ◌++◌, [], ℕ, List, length, IfOk, OnOk, map, vec_len, Some, None, Option, drop, Ok, Err, Result, false};
 ghost use Rattle.job_script.specs.Prelude.{option_map, All, AllByRecursion, Labels, InTurn, NeedsNoSnapshot, lines_of};
 ghost use Rattle.job_script.specs.Prelude.{IsPlaced, token_view, phrase_view, PhrasePlaced, first_script, unfinished_view};
-ghost use Rattle.job_script.specs.Prelude.{script_view, ScriptReads, ScriptSteps, Says, job_view, list_view};
+ghost use Rattle.job_script.specs.Prelude.{script_view, LineReads, ScriptReads, ScriptSteps, Says, job_view, list_view};
 ghost use Rattle.job_model.specs.Jobs as jobs;
 
 use crate::commands::{Command, Job, Worker};
 use crate::inside::inside;
 use crate::outside::outside;
 use crate::phrases::{Phrase, phrase_of};
-use crate::refusal::{JobRefusal, refused};
+use crate::refusal::{JobRefusal, demand, refused};
+use crate::words::Line;
 use dns_name::Name;
 use job_model::{Listing, ScriptKind, Weight};
 use std::alloc::Global;
 use std::mem::replace;
 use zone_change::{Operation, Prerequisite};
-use zone_text::{Token, ZoneRefusal, line_tokens};
+use zone_text::{LexedLine, Token, ZoneRefusal, line_tokens};
 
 /// A block that has not ended, with the line of its first word.
 #[derive(Drop)]
@@ -57,34 +58,49 @@ fn may_stand(listing: Listing, phrase: &Phrase) -> bool
 }
 
 // The tokens of a line, which say nothing where there are none.
-fn take_tokens(
-    script: &mut Script,
-    alloc: Global,
-    bytes: &[u8],
-    origin: &Name,
-    line: u32,
-    tokens: &[Token],
-) -> Result<(), JobRefusal>
-    requires { All (IsPlaced bytes.now) tokens.now }
+fn take_tokens(script: &mut Script, line: Line, tokens: &[Token]) -> Result<(), JobRefusal>
+    requires { All (IsPlaced line.bytes.now) tokens.now }
     ensures { ScriptReads result (script_view script.new)
-        (jobs.tokens_say origin.now line (script_view script.old) (Some (map (token_view bytes.now) tokens.now))) }
+        (jobs.tokens_say line.entry.origin.now line.entry.number (script_view script.old) (Some (map (token_view line.entry.bytes.now) tokens.now))) }
 {
     if tokens.is_empty() {
         return Ok(());
     }
-    let Some(phrase) = phrase_of(bytes, tokens) else {
-        return Err(refused(line, ScriptKind::BadCommand));
+    let Some(phrase) = phrase_of(line.bytes, tokens) else {
+        return Err(refused(line.number, ScriptKind::BadCommand));
     };
     if !may_stand(script.listing, &phrase) {
-        return Err(refused(line, ScriptKind::BadCommand));
+        return Err(refused(line.number, ScriptKind::BadCommand));
     }
     if script.block.is_none() {
-        return outside(script, alloc, bytes, origin, line, &phrase);
+        return outside(script, line, &phrase);
     }
     match script.block.take() {
-        Some(block) => inside(script, alloc, bytes, origin, block, line, &phrase),
+        Some(block) => inside(script, line, block, &phrase),
         // One is open.
         None => unreachable!(),
+    }
+}
+
+/// The tokens of the line that begins at a place, which lie in memory that is lent, and where the next one begins.
+pub fn read_line(
+    alloc: Global,
+    bytes: &[u8],
+    at: u32,
+    line: u32,
+    lent: &mut Vec<Token>,
+) -> Result<LexedLine, JobRefusal>
+    requires inside { at < length bytes.now }
+    requires short { length bytes.now ≤ 2 ^ 24 }
+    ensures reads { LineReads result bytes.now at line }
+    ensures placed { IfOk result (λ l. All (IsPlaced bytes.now) l.tokens.items) }
+    ensures next { IfOk result (λ l. (at < l.next) × (l.next ≤ length bytes.now)) }
+{
+    match line_tokens(replace(lent, Vec::new(alloc)), bytes, at, line) {
+        Ok(lexed) if lexed.parens => Err(refused(line, ScriptKind::BadCommand)),
+        Ok(lexed) => Ok(lexed),
+        Err(ZoneRefusal::Memory) => Err(JobRefusal::Memory),
+        Err(ZoneRefusal::Refused { .. }) => Err(refused(line, ScriptKind::BadCommand)),
     }
 }
 
@@ -104,23 +120,16 @@ pub fn script_line(
     ensures steps { ScriptSteps result bytes.now at line origin.now (script_view script.old) (script_view script.new) }
     ensures next { IfOk result (λ next. (at < next) × (next ≤ length bytes.now)) }
 {
-    let lexed = match line_tokens(replace(lent, Vec::new(alloc)), bytes, at, line) {
-        Ok(lexed) => lexed,
-        Err(ZoneRefusal::Memory) => return Err(JobRefusal::Memory),
-        Err(ZoneRefusal::Refused { .. }) => {
-            return Err(refused(line, ScriptKind::BadCommand));
-        }
+    let lexed = read_line(alloc, bytes, at, line, lent)?;
+    let here = Line {
+        alloc,
+        bytes,
+        origin,
+        number: line,
     };
-    if lexed.parens {
-        return Err(refused(line, ScriptKind::BadCommand));
-    }
-    match take_tokens(script, alloc, bytes, origin, line, &lexed.tokens) {
-        Ok(()) => {
-            *lent = lexed.tokens;
-            Ok(lexed.next)
-        }
-        Err(refusal) => Err(refusal),
-    }
+    take_tokens(script, here, &lexed.tokens)?;
+    *lent = lexed.tokens;
+    Ok(lexed.next)
 }
 
 // The lines from the first on, which has a number. Answers the number of the line behind them.
@@ -141,13 +150,8 @@ fn script_from(
     let mut at = 0;
     let mut line = first;
     while (at as usize) < bytes.len() {
-        match script_line(script, alloc, bytes, origin, at, line, &mut lent) {
-            Ok(next) => {
-                at = next;
-                line += 1;
-            }
-            Err(refusal) => return Err(refusal),
-        }
+        at = script_line(script, alloc, bytes, origin, at, line, &mut lent)?;
+        line += 1;
     }
     Ok(line)
 }
@@ -181,9 +185,7 @@ fn finished(script: Script, line: u32) -> Result<Job, JobRefusal>
     if let Some(block) = block {
         return Err(refused(block.start, ScriptKind::OpenBlock));
     }
-    if !begun {
-        return Err(refused(line, ScriptKind::NoWorker));
-    }
+    demand(begun, line, ScriptKind::NoWorker)?;
     earlier.push(Worker { commands })?;
     Ok(Job { workers: earlier })
 }
@@ -221,10 +223,7 @@ pub fn read_job(
     ensures few_workers { IfOk result (λ job. length job.workers.items ≤ 16) }
 {
     let mut script = first_script(alloc, Listing::ByWorker);
-    let end = match script_from(&mut script, alloc, bytes, origin, first_line) {
-        Ok(end) => end,
-        Err(refusal) => return Err(refusal),
-    };
+    let end = script_from(&mut script, alloc, bytes, origin, first_line)?;
     finished(script, end)
 }
 
@@ -243,8 +242,6 @@ pub fn read_list(
     ensures few_commands { IfOk result (λ commands. vec_len commands ≤ 10000) }
 {
     let mut script = first_script(alloc, Listing::OneList);
-    match script_from(&mut script, alloc, bytes, origin, first_line) {
-        Ok(_) => list_finished(script),
-        Err(refusal) => Err(refusal),
-    }
+    script_from(&mut script, alloc, bytes, origin, first_line)?;
+    list_finished(script)
 }

@@ -3,10 +3,21 @@ ghost use Rattle.std.specs.Prelude.{◌≡◌, ◌≤◌, ℕ, List, map, Option
 ghost use Rattle.job_script.specs.Prelude.{option_map, All, IsPlaced, token_view};
 ghost use Rattle.job_model.specs.Words as words;
 
+use dns_name::Name;
+use std::alloc::Global;
 use zone_text::{Token, number};
 
 /// The most names that are wanted at once.
 const NAME_LIMIT: u32 = 1000;
+
+/// What a line is read with: memory, the bytes that it stands in, the origin that its names are relative to, and its number.
+#[derive(Clone, Copy)]
+pub struct Line<'a> {
+    pub alloc: Global,
+    pub bytes: &'a [u8],
+    pub origin: &'a Name,
+    pub number: u32,
+}
 
 /// Whether a token is a command word.
 pub fn says(bytes: &[u8], token: Token, word: &[u8]) -> bool
