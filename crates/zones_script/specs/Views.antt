@@ -1,14 +1,9 @@
 -- Scripts over zones as the definitions see them.
-use Rattle.std.specs.Prelude.{◌≡◌, ℕ, List, ◌∷◌, map, drop, Result, Ok, Err}
+use Rattle.std.specs.Prelude.{ℕ, List, map}
 use Rattle.std.specs.Option.{option_map}
-use Rattle.zone_model.specs.Refusals.{Refused}
-use Rattle.zone_model.specs.Lines.{lines_of}
 use Rattle.zone_text.specs.Tokens.{IsPlaced, token_view}
-use Rattle.job_model.specs.declared.ScriptKind.{ScriptKind}
 use Rattle.job_script.specs.Views.{asked_view}
 use Rattle.job_script.specs.Scripts as alone
-use Rattle.job_script.specs.declared.refusal.JobRefusal.{JobRefusal}
-use Rattle.job_script.specs.declared.refusal.JobRefusal.TheVariants as stops
 use Rattle.zones_model.specs.Commands as says
 use Rattle.zones_script.specs.Phrases as phrases
 use Rattle.zones_script.specs.Scripts as zones
@@ -68,15 +63,3 @@ script_view s = record {
   commands = map command_view s.commands.items;
   block = option_map open_view s.block;
 }
-
--- the script has come as far as is wanted
-abbrev pub ScriptReads : {R : Type 0} → Result R JobRefusal → zones.Script → Result zones.Script (Refused ScriptKind) → Type 0
-ScriptReads (Ok r) new wanted = wanted ≡ Ok new
-ScriptReads (Err stops.Memory) new wanted = Unit {0}
-ScriptReads (Err (stops.Refused line kind)) new wanted = wanted ≡ Err (record { line = line; kind = kind })
-
--- one line was taken, which says this, and the others begin at a place
-abbrev pub LineSteps : Result ℕ JobRefusal → List ℕ → ℕ → (List ℕ → Result zones.Script (Refused ScriptKind)) → zones.Script → Type 0
-LineSteps (Ok next) bytes at says new = (text : List ℕ) × (lines_of (drop at bytes) ≡ text ∷ lines_of (drop next bytes)) × (says text ≡ Ok new)
-LineSteps (Err stops.Memory) bytes at says new = Unit {0}
-LineSteps (Err (stops.Refused n kind)) bytes at says new = (text : List ℕ) × (rest : List (List ℕ)) × (lines_of (drop at bytes) ≡ text ∷ rest) × (says text ≡ Err (record { line = n; kind = kind }))

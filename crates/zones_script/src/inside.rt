@@ -57,11 +57,7 @@ pub fn take_inside(
     ensures next { IfOk result (λ next. (at < next) × (next ≤ length bytes.now)) }
 {
     let OpenBlock { chosen, mut alone } = block;
-    match script_line(&mut alone, alloc, bytes, &chosen.origin, at, line, lent) {
-        Ok(next) => {
-            go_on(script, chosen, alone)?;
-            Ok(next)
-        }
-        Err(refusal) => Err(refusal),
-    }
+    let next = script_line(&mut alone, alloc, bytes, &chosen.origin, at, line, lent)?;
+    go_on(script, chosen, alone)?;
+    Ok(next)
 }

@@ -11,15 +11,13 @@ use crate::phrases::Phrase;
 use crate::script::{Chosen, OpenBlock, Script};
 use dns_name::Name;
 use job_model::{Listing, ScriptKind, Weight};
-use job_script::{JobRefusal, Script as Alone, Unfinished, refused, too_many};
+use job_script::{
+    COMMAND_LIMIT, JobRefusal, Script as Alone, Unfinished, WORKER_LIMIT, demand, refused, too_many,
+};
 use master_file::{name_word, type_word};
 use std::alloc::Global;
 use std::mem;
 use zone_text::Token;
-
-const WORKER_LIMIT: usize = 16;
-
-const COMMAND_LIMIT: usize = 10000;
 
 // The number of the zone of an origin.
 fn number_of(origins: &[Name], name: &Name) -> Option<usize>
@@ -85,9 +83,7 @@ fn begin_worker(script: &mut Script, alloc: Global, line: u32) -> Result<(), Job
 fn has_room(script: &Script, line: u32) -> Result<(), JobRefusal>
     ensures { Says result (λ done. done) (zones.has_room line (script_view script.now)) }
 {
-    if !script.begun {
-        return Err(refused(line, ScriptKind::NoWorker));
-    }
+    demand(script.begun, line, ScriptKind::NoWorker)?;
     if script.commands.len() >= COMMAND_LIMIT {
         return Err(too_many(line, 10000));
     }

@@ -1,6 +1,6 @@
 //! The lines of a script over zones.
 ghost use Rattle.std.specs.Prelude.{◌≡◌, ◌<◌, ◌≤◌, ◌+◌, ◌^◌, length, IfOk, map, Some, None, Option, Ok, Err, Result};
-ghost use Rattle.zones_script.specs.Prelude.{option_map, All, script_tokens, lines_of, IsPlaced, token_view, Says};
+ghost use Rattle.zones_script.specs.Prelude.{option_map, All, lines_of, IsPlaced, token_view, Says};
 ghost use Rattle.zones_script.specs.Prelude.{AreLists, workers_view, script_view, open_view, ScriptReads, LineSteps};
 ghost use Rattle.zones_script.specs.Scripts as zones;
 
@@ -10,10 +10,9 @@ use crate::outside::outside;
 use crate::phrases::phrase_of;
 use dns_name::Name;
 use job_model::ScriptKind;
-use job_script::{JobRefusal, Script as Alone, refused};
+use job_script::{JobRefusal, Script as Alone, demand, read_line, refused};
 use std::alloc::Global;
-use std::mem::replace;
-use zone_text::{Token, ZoneRefusal, line_tokens};
+use zone_text::Token;
 
 /// One of the zones: its number and its origin.
 #[derive(Clone, Copy)]
@@ -63,43 +62,6 @@ fn take_tokens(
     }
 }
 
-// A line outside blocks.
-fn take_outside(
-    script: &mut Script,
-    alloc: Global,
-    bytes: &[u8],
-    origins: &[Name],
-    at: u32,
-    line: u32,
-    lent: &mut Vec<Token>,
-) -> Result<u32, JobRefusal>
-    requires none { script.old.block ≡ None }
-    requires inside { at < length bytes.now }
-    requires short { length bytes.now ≤ 2 ^ 24 }
-    requires zones { length origins.now ≤ 16 }
-    ensures steps { LineSteps result bytes.now at
-        (λ text. zones.tokens_say origins.now line (script_view script.old) (script_tokens line text)) (script_view script.new) }
-    ensures next { IfOk result (λ next. (at < next) × (next ≤ length bytes.now)) }
-{
-    let lexed = match line_tokens(replace(lent, Vec::new(alloc)), bytes, at, line) {
-        Ok(lexed) => lexed,
-        Err(ZoneRefusal::Memory) => return Err(JobRefusal::Memory),
-        Err(ZoneRefusal::Refused { .. }) => {
-            return Err(refused(line, ScriptKind::BadCommand));
-        }
-    };
-    if lexed.parens {
-        return Err(refused(line, ScriptKind::BadCommand));
-    }
-    match take_tokens(script, alloc, bytes, origins, line, &lexed.tokens) {
-        Ok(()) => {
-            *lent = lexed.tokens;
-            Ok(lexed.next)
-        }
-        Err(refusal) => Err(refusal),
-    }
-}
-
 // The line that begins at a place; the place where the next one begins. Its tokens lie in memory that is lent.
 #[tactic(auto, unfolding(crate::specs::Scripts::script_line))]
 fn script_line(
@@ -117,10 +79,13 @@ fn script_line(
     ensures steps { LineSteps result bytes.now at (λ text. zones.script_line origins.now line text (script_view script.old)) (script_view script.new) }
     ensures next { IfOk result (λ next. (at < next) × (next ≤ length bytes.now)) }
 {
-    match script.block.take() {
-        None => take_outside(script, alloc, bytes, origins, at, line, lent),
-        Some(block) => take_inside(script, alloc, bytes, block, at, line, lent),
+    if let Some(block) = script.block.take() {
+        return take_inside(script, alloc, bytes, block, at, line, lent);
     }
+    let lexed = read_line(alloc, bytes, at, line, lent)?;
+    take_tokens(script, alloc, bytes, origins, line, &lexed.tokens)?;
+    *lent = lexed.tokens;
+    Ok(lexed.next)
 }
 
 // The lines from the first on, which has a number. Answers the number of the line behind them.
@@ -142,13 +107,8 @@ fn script_from(
     let mut at = 0;
     let mut line = first;
     while (at as usize) < bytes.len() {
-        match script_line(script, alloc, bytes, origins, at, line, &mut lent) {
-            Ok(next) => {
-                at = next;
-                line += 1;
-            }
-            Err(refusal) => return Err(refusal),
-        }
+        at = script_line(script, alloc, bytes, origins, at, line, &mut lent)?;
+        line += 1;
     }
     Ok(line)
 }
@@ -190,9 +150,7 @@ fn finished(script: Script, line: u32) -> Result<ZonesScript, JobRefusal>
             return Err(refused(start, ScriptKind::OpenBlock));
         }
     }
-    if !begun {
-        return Err(refused(line, ScriptKind::NoWorker));
-    }
+    demand(begun, line, ScriptKind::NoWorker)?;
     earlier.push(Worker { commands })?;
     Ok(ZonesScript { workers: earlier })
 }
@@ -213,9 +171,6 @@ pub fn read_script(
     ensures told { 0 < first_line → IfOk result (λ script. AreLists origins.now (lines_of bytes.now) (workers_view script)) }
 {
     let mut script = no_lines(alloc);
-    let end = match script_from(&mut script, alloc, bytes, origins, first_line) {
-        Ok(end) => end,
-        Err(refusal) => return Err(refusal),
-    };
+    let end = script_from(&mut script, alloc, bytes, origins, first_line)?;
     finished(script, end)
 }
