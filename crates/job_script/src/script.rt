@@ -242,6 +242,8 @@ pub fn read_list(
     ensures few_commands { IfOk result (λ commands. vec_len commands ≤ 10000) }
 {
     let mut script = first_script(alloc, Listing::OneList);
-    script_from(&mut script, alloc, bytes, origin, first_line)?;
-    list_finished(script)
+    match script_from(&mut script, alloc, bytes, origin, first_line) {
+        Ok(_) => list_finished(script),
+        Err(refusal) => Err(refusal),
+    }
 }
