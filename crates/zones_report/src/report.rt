@@ -7,7 +7,7 @@ ghost use Rattle.zones_report.specs.Texts.{all_text, answer_text, done_text, don
 use crate::outcomes::{Answer, Done, DoneList, ZonesFinished};
 use dns_name::Name;
 use job_report::{Pieces, append_told};
-use job_script::Outcome;
+use job_script::{Outcome, push_pair};
 use std::alloc::{AllocError, Global};
 use std::collections::BTreeMap;
 use zone_text::push_decimal;
@@ -180,11 +180,7 @@ fn append_all(out: &mut Pieces, origins: &[Name], workers: Vec<DoneList>) -> Res
 fn push_table_end(out: &mut Vec<u8>, last: u64, count: u64) -> Result<(), AllocError>
     ensures { OnOk result (out.new.items ≡ out.old.items ++ table_end last count) }
 {
-    out.extend_from_slice(b"end t")?;
-    push_decimal(out, last)?;
-    out.extend_from_slice(b" zones ")?;
-    push_decimal(out, count)?;
-    out.extend_from_slice(b"\n")
+    push_pair(out, b"end t", last, b" zones ", count)
 }
 
 // A zone's last version, and how many names it has.
@@ -193,11 +189,7 @@ fn push_zone_end(out: &mut Vec<u8>, origin: &Name, last: u64, names: u64) -> Res
 {
     out.extend_from_slice(b"end ")?;
     origin.push_text(out)?;
-    out.extend_from_slice(b" v")?;
-    push_decimal(out, last)?;
-    out.extend_from_slice(b" names ")?;
-    push_decimal(out, names)?;
-    out.extend_from_slice(b"\n")
+    push_pair(out, b" v", last, b" names ", names)
 }
 
 // The last versions and their numbers of names, by origin, in canonical order.
