@@ -7,16 +7,18 @@ use Rattle.zone_model.specs.Names.{Name, IsName, ancestor, is_under}
 use Rattle.zone_model.specs.Keys.{key_of}
 use Rattle.zone_model.specs.Versions.{Version, exists, owned}
 use Rattle.trie_model.specs.Keys as trie
-use Rattle.trie_model.specs.Order.{begins, labels_in}
+use Rattle.trie_model.specs.Order.{begins, chain, labels_in}
 use Rattle.trie_model.proofs.AboveLaws.{under_begins, begins_under}
 use Rattle.trie_model.proofs.ChainLaws.{not_so, begins_same, begins_short, begins_reads, read_inside, labels_le, labels_longer}
 use Rattle.trie_model.proofs.NameLaws.{name_key, labels_of, key_ended}
 use Rattle.shift_key.specs.Differences.{IsDifference}
 use Rattle.shift_key.specs.declared.difference.Difference.{Difference}
+use Rattle.trie_read.specs.Above.{AreAncestors}
 use Rattle.trie_read.specs.Readings.{IsNearest}
+use Rattle.trie_read.specs.declared.ancestors.Ancestor.{Ancestor}
 use Rattle.trie_read.specs.declared.iter.Met.{Met}
 use Rattle.zone_query.specs.Answers.{encloser, wildcard_under, node}
-use Rattle.zone_query.specs.Standing.{IsStorable, PartsAt, trie_entry}
+use Rattle.zone_query.specs.Standing.{IsApart, IsStorable, PartsAt, Shows, ShowsAbove, trie_entry}
 use Rattle.zone_query.proofs.AncestorLaws.{length-ancestor, encloser_at, no_encloser}
 use Rattle.zone_query.proofs.ChainLaws.{ancestor_under}
 use Rattle.zone_query.proofs.HeldLaws.{ancestor_name}
@@ -66,6 +68,22 @@ shape_of name is = name_key (key_of name) (name, is, refl)
 -- where the key of the nearest name first differs from the key
 pub parts_at : (lies : Leaf → trie.Entry → Type 0) (key : List ℕ) (all : List trie.Entry) (met : Met) (d : Difference) → met.difference ≡ Some d → IsNearest lies key all met → PartsAt key all d.place
 parts_at lies key all met d e n = record { entry = n.entry; there = n.there; same = (subst (IsDifference key n.entry.key) e n.differs).0.before; most = n.most d e }
+
+-- there a name's key parts from those of all names
+pub apart_at : {holds : List trie.Entry → Type 0} (stands : List trie.Entry → List trie.Entry → Type 0) (lies : Leaf → trie.Entry → Type 0) (key : List ℕ) (name : Name) (zone : Version) (met : Met) (d : Difference)
+    → key ≡ key_of name → met.difference ≡ Some d → IsNearest lies key (map trie_entry zone) met → Shows holds zone → stands [] (map trie_entry zone) → IsApart holds stands name d.place zone
+apart_at stands lies key name zone met d k e near shows standing = record {
+  on = record { shows = shows; before = []; after = map trie_entry zone; whole = refl; standing = standing };
+  parts = subst (λ (l : List ℕ). PartsAt l (map trie_entry zone) d.place) k (parts_at lies key (map trie_entry zone) met d e near);
+}
+
+-- the leaves that were passed are those of the name and of the names above it
+pub above_at : {holds : List trie.Entry → Type 0} (lies : Leaf → trie.Entry → Type 0) (key : List ℕ) (name : Name) (zone : Version) (passed above : List Ancestor)
+    → key ≡ key_of name → above ≡ passed → Shows holds zone → AreAncestors lies (chain key (map trie_entry zone)) passed → ShowsAbove holds lies name above zone
+above_at lies key name zone passed above k e shows names = record {
+  shows = shows;
+  above_are = subst (AreAncestors lies (chain (key_of name) (map trie_entry zone))) (sym e) (subst (λ (l : List ℕ). AreAncestors lies (chain l (map trie_entry zone)) passed) k names);
+}
 
 -- it doesn't differ
 pub found_at : (lies : Leaf → trie.Entry → Type 0) (key : List ℕ) (all : List trie.Entry) (met : Met) → met.difference ≡ None → (n : IsNearest lies key all met) → n.entry.key ≡ key

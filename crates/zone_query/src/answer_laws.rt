@@ -7,6 +7,7 @@ ghost use Rattle.zone_query.specs.AnswerExample.{asked, Says, named, first_data,
 use crate::kind::Kind;
 
 /// Questions about the zone of RFC 4592, section 2.2.1, have the answers that are given there.
+#[tactic(auto, unfolding(crate::specs::AnswerExample::asked, crate::specs::Answers::followed))]
 pub fn wildcards_answer_as_they_should()
     ensures synthesized { asked (codes "host3" ∷ []) 15
         ≡ record { kind = Kind.Answered; rows = record { owner = named (codes "host3" ∷ []); rtype = 15; ttl = 3600; octets = first_data } ∷ [] } }
@@ -20,6 +21,7 @@ pub fn wildcards_answer_as_they_should()
 {}
 
 /// Of two cuts the one nearest to the origin counts, and a ring of aliases ends with the sixteenth.
+#[tactic(auto, unfolding(crate::specs::AnswerExample::asked, crate::specs::Answers::followed, zone_model::specs::Splits::split_labels))]
 pub fn cuts_and_aliases_answer_as_they_should()
     ensures nearest_to_the_origin { asked (codes "x" ∷ codes "deeper" ∷ codes "subdel" ∷ []) 1 ≡ asked (codes "subdel" ∷ []) 2 }
     ensures ring { Says Kind.Answered 16 (asked (codes "a" ∷ []) 1) }

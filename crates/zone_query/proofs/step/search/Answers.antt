@@ -1,13 +1,12 @@
-use Rattle.std.proofs.Common.{rules, ◌∙◌, ℕ, List, [], ◌++◌, map, refl, sym, ap, subst, append-nil, None}
-use Rattle.zone_model.specs.Keys.{key_of}
+use Rattle.std.proofs.Common.{rules, ◌∙◌, ℕ, List, [], ◌++◌, map, sym, ap, subst, append-nil, None}
 use Rattle.zone_model.specs.Versions.{owned}
 use Rattle.trie_model.specs.Order.{chain}
 use Rattle.trie_read.specs.Above.{AreAncestors}
 use Rattle.zone_query.specs.Answers.{Step}
-use Rattle.zone_query.specs.Standing.{IsApart, PartsAt, Shows, ShowsAbove, StandsOn, trie_entry}
+use Rattle.zone_query.specs.Standing.{Shows, trie_entry}
 use Rattle.zone_query.proofs.ChainLaws.{there_exists}
 use Rattle.zone_query.proofs.HeldLaws.{read_of}
-use Rattle.zone_query.proofs.ReachLaws.{parts_at, found_at, none_owned, no_node}
+use Rattle.zone_query.proofs.ReachLaws.{above_at, apart_at, found_at, none_owned, no_node}
 use Rattle.zone_query.proofs.StepLaws.{step_absent}
 use Rattle.zone_query.proofs.step.search.Goals as goal
 
@@ -37,16 +36,9 @@ give_absent-requires-clause-apart g c =
     let all = map trie_entry zone in
     let start = subst (λ s. g.V.Reading.stands s c.restart.new.iter [] all) (sym c.restart.ensures.same) (c.restart.ensures.start all shows.held) in
     let near = c.in-Some-reached.ensures.nearest [] all start in
-    let same = sym (c.cut_over.ensures.same ∙ c.reach-reached.ensures.same) in
-    let on : StandsOn (g.V.Reading.holds c.cut_over.new.version) (g.V.Reading.stands c.cut_over.new.version c.reach-reached.new.iter) zone = record {
-      shows = subst (λ s. Shows (g.V.Reading.holds s) zone) (sym (c.cut_over.ensures.same ∙ c.reach-reached.ensures.same ∙ c.restart.ensures.same)) shows;
-      before = [];
-      after = all;
-      whole = refl;
-      standing = subst (λ s. g.V.Reading.stands s c.reach-reached.new.iter [] all) same (c.in-Some-reached.ensures.start [] all start);
-    } in
-    let parts = parts_at (g.V.Reading.lies c.restart.new.self) c.args.walker.now.key all c.in-Some-reached.met c.in-Some-difference.first c.in-Some-difference.is near in
-    (zone, record { on = on; parts = subst (λ (k : List ℕ). PartsAt k all c.in-Some-difference.first.place) c.requires.key parts })
+    let now = subst (λ s. Shows (g.V.Reading.holds s) zone) (sym (c.cut_over.ensures.same ∙ c.reach-reached.ensures.same ∙ c.restart.ensures.same)) shows in
+    let stands = subst (λ s. g.V.Reading.stands s c.reach-reached.new.iter [] all) (sym (c.cut_over.ensures.same ∙ c.reach-reached.ensures.same)) (c.in-Some-reached.ensures.start [] all start) in
+    (zone, apart_at (g.V.Reading.stands c.cut_over.new.version c.reach-reached.new.iter) (g.V.Reading.lies c.restart.new.self) c.args.walker.now.key c.args.name.now zone c.in-Some-reached.met c.in-Some-difference.first c.requires.key c.in-Some-difference.is near now stands)
 
 pub returns-in-Some-clause-gives : goal.returns-in-Some-clause-gives
 returns-in-Some-clause-gives g c = let referred = c.refer.ensures c.args.walker.now.target in search (rules, referred)
@@ -57,10 +49,8 @@ returns-in_default-reached-clause-gives g c zone shows =
     let start = subst (λ s. g.V.Reading.stands s c.restart.new.iter [] all) (sym c.restart.ensures.same) (c.restart.ensures.start all shows.held) in
     let empty = c.in_default-reached.ensures.nearest [] all start in
     let names = subst (λ s. AreAncestors (g.V.Reading.lies s) (chain c.args.walker.now.key all) c.reach-reached.new.above) (sym c.reach-reached.ensures.same) (c.in_default-reached.ensures.above [] all start) in
-    let above : ShowsAbove (g.V.Reading.holds c.reach-reached.new.self) (g.V.Reading.lies c.reach-reached.new.self) c.args.name.now c.as_slice.result.now zone = record {
-      shows = subst (λ s. Shows (g.V.Reading.holds s) zone) (sym (c.reach-reached.ensures.same ∙ c.restart.ensures.same)) shows;
-      above_are = subst (AreAncestors (g.V.Reading.lies c.reach-reached.new.self) (chain (key_of c.args.name.now) all)) (sym c.as_slice.ensures.names) (subst (λ (k : List ℕ). AreAncestors (g.V.Reading.lies c.reach-reached.new.self) (chain k all) c.reach-reached.new.above) c.requires.key names);
-    } in
+    let above = above_at (g.V.Reading.lies c.reach-reached.new.self) c.args.walker.now.key c.args.name.now zone c.reach-reached.new.above c.as_slice.result.now c.requires.key c.as_slice.ensures.names
+    (subst (λ s. Shows (g.V.Reading.holds s) zone) (sym (c.reach-reached.ensures.same ∙ c.restart.ensures.same)) shows) names in
     let is = step_absent c.args.origin.now c.args.name.now zone c.args.rtype None (c.in_default.ensures.cut zone above) (none_owned c.args.name.now zone empty) (no_node c.args.name.now zone empty) in
     (ap (λ (s : Step). s.next) is, λ rows had. subst (g.S.RowSink.has c.args.rows.now) (sym (append-nil rows) ∙ ap (λ (s : Step). rows ++ s.rows) is) had)
 
@@ -69,24 +59,12 @@ returns-in-Some-difference-clause-gives g c zone shows =
     let all = map trie_entry zone in
     let start = subst (λ s. g.V.Reading.stands s c.restart.new.iter [] all) (sym c.restart.ensures.same) (c.restart.ensures.start all shows.held) in
     let near = c.in-Some-reached.ensures.nearest [] all start in
-    let same = sym (c.cut_over.ensures.same ∙ c.reach-reached.ensures.same) in
-    let on : StandsOn (g.V.Reading.holds c.cut_over.new.version) (g.V.Reading.stands c.cut_over.new.version c.reach-reached.new.iter) zone = record {
-      shows = subst (λ s. Shows (g.V.Reading.holds s) zone) (sym (c.cut_over.ensures.same ∙ c.reach-reached.ensures.same ∙ c.restart.ensures.same)) shows;
-      before = [];
-      after = all;
-      whole = refl;
-      standing = subst (λ s. g.V.Reading.stands s c.reach-reached.new.iter [] all) same (c.in-Some-reached.ensures.start [] all start);
-    } in
-    let parts = parts_at (g.V.Reading.lies c.restart.new.self) c.args.walker.now.key all c.in-Some-reached.met c.in-Some-difference.first c.in-Some-difference.is near in
-    let apart : IsApart (g.V.Reading.holds c.cut_over.new.version) (g.V.Reading.stands c.cut_over.new.version c.reach-reached.new.iter) c.args.name.now c.in-Some-difference.first.place zone = record {
-      on = on;
-      parts = subst (λ (k : List ℕ). PartsAt k all c.in-Some-difference.first.place) c.requires.key parts;
-    } in
+    let now = subst (λ s. Shows (g.V.Reading.holds s) zone) (sym (c.cut_over.ensures.same ∙ c.reach-reached.ensures.same ∙ c.restart.ensures.same)) shows in
+    let stands = subst (λ s. g.V.Reading.stands s c.reach-reached.new.iter [] all) (sym (c.cut_over.ensures.same ∙ c.reach-reached.ensures.same)) (c.in-Some-reached.ensures.start [] all start) in
+    let apart = apart_at (g.V.Reading.stands c.cut_over.new.version c.reach-reached.new.iter) (g.V.Reading.lies c.restart.new.self) c.args.walker.now.key c.args.name.now zone c.in-Some-reached.met c.in-Some-difference.first c.requires.key c.in-Some-difference.is near now stands in
     let names = subst (λ s. AreAncestors (g.V.Reading.lies s) (chain c.args.walker.now.key all) c.reach-reached.new.above) (sym c.reach-reached.ensures.same) (c.in-Some-reached.ensures.above [] all start) in
-    let above : ShowsAbove (g.V.Reading.holds c.reach-reached.new.self) (g.V.Reading.lies c.reach-reached.new.self) c.args.name.now c.as_slice.result.now zone = record {
-      shows = subst (λ s. Shows (g.V.Reading.holds s) zone) (sym (c.reach-reached.ensures.same ∙ c.restart.ensures.same)) shows;
-      above_are = subst (AreAncestors (g.V.Reading.lies c.reach-reached.new.self) (chain (key_of c.args.name.now) all)) (sym c.as_slice.ensures.names) (subst (λ (k : List ℕ). AreAncestors (g.V.Reading.lies c.reach-reached.new.self) (chain k all) c.reach-reached.new.above) c.requires.key names);
-    } in
+    let above = above_at (g.V.Reading.lies c.reach-reached.new.self) c.args.walker.now.key c.args.name.now zone c.reach-reached.new.above c.as_slice.result.now c.requires.key c.as_slice.ensures.names
+    (subst (λ s. Shows (g.V.Reading.holds s) zone) (sym (c.reach-reached.ensures.same ∙ c.restart.ensures.same)) shows) names in
     c.give_absent.ensures.gives zone c.args.origin.now apart (c.in_default.ensures.cut zone above)
 
 pub returns-in-None-clause-gives : goal.returns-in-None-clause-gives
@@ -99,8 +77,6 @@ returns-in-None-clause-gives g c zone shows =
     let read = c.read-len.ensures.item near.entry lies in
     let is = read_of c.args.name.now zone near.entry c.read-len.new.out c.read-len.result c.wire-wire.ensures.name shows.version_is near.there key read.0 read.1 in
     let names = subst (λ s. AreAncestors (g.V.Reading.lies s) (chain c.args.walker.now.key all) c.reach-reached.new.above) (sym c.reach-reached.ensures.same) (c.in-Some-reached.ensures.above [] all start) in
-    let above : ShowsAbove (g.V.Reading.holds c.reach-reached.new.self) (g.V.Reading.lies c.reach-reached.new.self) c.args.name.now c.as_slice.result.now zone = record {
-      shows = subst (λ s. Shows (g.V.Reading.holds s) zone) (sym (c.reach-reached.ensures.same ∙ c.restart.ensures.same)) shows;
-      above_are = subst (AreAncestors (g.V.Reading.lies c.reach-reached.new.self) (chain (key_of c.args.name.now) all)) (sym c.as_slice.ensures.names) (subst (λ (k : List ℕ). AreAncestors (g.V.Reading.lies c.reach-reached.new.self) (chain k all) c.reach-reached.new.above) c.requires.key names);
-    } in
+    let above = above_at (g.V.Reading.lies c.reach-reached.new.self) c.args.walker.now.key c.args.name.now zone c.reach-reached.new.above c.as_slice.result.now c.requires.key c.as_slice.ensures.names
+    (subst (λ s. Shows (g.V.Reading.holds s) zone) (sym (c.reach-reached.ensures.same ∙ c.restart.ensures.same)) shows) names in
     c.give_own.ensures zone (c.in_default.ensures.cut zone above) (c.of-entry.ensures (owned c.args.name.now zone) is.says) (there_exists c.args.name.now zone c.wire-wire.ensures.name shows.version_is.items (near.entry, near.there, key))
