@@ -106,6 +106,7 @@ fn note_long(usage: &mut Usage, leaf: Leaf, path: Path)
 
 /// Goes on down from a foothold along what the path says from there on, before an offset. Twigs that lie in a sparse chunk are moved, and others that
 /// may not be written too, or the way ends there. Where there is no room for that, what was moved before stays so.
+#[inline(always)]
 pub fn go_on<C: CellWrite>(
     cells: &mut C,
     usage: &mut Usage,
