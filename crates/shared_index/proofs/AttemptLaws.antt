@@ -6,7 +6,8 @@ use Rattle.std.proofs.lemmas.Bool.{cases_Bool}
 use Rattle.std.proofs.lemmas.List.FromFn.{length-map-range_with_len}
 use Rattle.std.proofs.lemmas.Option.{get_or_from_slice_get}
 use Rattle.packed_node.specs.declared.Cell.{Cell}
-use Rattle.pin_core.specs.Words.{status_at}
+use Rattle.atomic_table.specs.Seated.{TableId}
+use Rattle.pin_core.specs.Words.{status_at, words_for}
 use Rattle.pin_core.specs.declared.kept.Kept.{Kept}
 use Rattle.chunk_cells.specs.Chunks.{IsGiven}
 use Rattle.chunk_usage.specs.declared.space.Full.{Full as NoRoom}
@@ -19,19 +20,22 @@ use Rattle.trie_model.proofs.MoveLaws.{Keeps}
 use Rattle.trie_write.specs.Roots.{OnPath, TwigsOnPath, OnBranches, BranchesOnPath}
 use Rattle.trie_space.specs.Spaces.{Ready, Fenced, Unchanged as Same}
 use Rattle.trie_write.proofs.RootLaws.{stands_later, standing_later}
+use Rattle.shared_cells.specs.declared.turn.JoinedSeat.{JoinedSeat}
 use Rattle.shared_cells.specs.Views.{words_of, kept_in}
 use Rattle.shared_cells.specs.Cells.{Cells, cells_of, given_chunks, kept_references, HasCell, with_words}
 use Rattle.shared_index.specs.declared.change.Change.{Change}
+use Rattle.shared_index.specs.declared.meaning.Operation.{Operation}
 use Rattle.trie_write.specs.declared.refusal.Unchanged.{Unchanged}
 use Rattle.trie_write.specs.declared.refusal.Unchanged.TheVariants.{Refused, Full}
 use Rattle.shared_index.specs.Operations.{operated}
 use Rattle.shared_index.specs.Passes.{Known}
-use Rattle.shared_index.specs.Turns.{Agrees, cells_with, row_for, cell_counts, current_image, is_immutable}
+use Rattle.shared_index.specs.Turns.{Agrees, HasBack, cells_with, row_for, cell_counts, current_image, is_immutable}
 use Rattle.shared_index.specs.Bases.{IsRooted, StandsFor}
 use Rattle.shared_index.specs.Changes.{operation_of, key_of, written_by, asked_by, IsRefused}
 use Rattle.shared_index.specs.Tries.{Grown, Tried, PathHas, PathHasEach}
 use Rattle.shared_index.proofs.Lists.{all_of, all_from}
 use Rattle.shared_index.proofs.KeepLaws.{immutable_used, immutable_old, immutable_of}
+use Rattle.shared_index.proofs.WordsLaws.{same_words, same_chunks, same_passes, lent_begins, lent_seat, lent_back}
 
 pub if_ok : {T E : Type 0} (P Q : T → Type 0) (r : Result T E) → ((x : T) → P x → Q x) → IfOk r P → IfOk r Q
 if_ok P Q (Ok x) f h = f x h
@@ -88,12 +92,13 @@ agrees_grown cells new u n count chunks kept given frozen grows a = record {
   passes = ap (λ (f : Frozen). f.passes) frozen ∙ a.passes;
 }
 
-pub ready_of : (cells : Cells) (u : Ledger) (count : ℕ) → Agrees cells u count → Ready kept_references given_chunks account_of cells u
-ready_of cells u count a = record {
+-- cells that were lent so are ready
+pub ready_of : {first cells : Cells} {u : Ledger} {count : ℕ} → first ≡ cells → Agrees cells u count → Ready kept_references given_chunks account_of first u
+ready_of {first} {cells} {u} is a = subst (λ (k : Cells). Ready kept_references given_chunks account_of k u) (sym is) (record {
   same = a.given;
   in_use = λ q c. immutable_used u q (all_of (is_immutable u) (kept_references cells) q a.immutable c);
   settled = λ q c. immutable_old u q (all_of (is_immutable u) (kept_references cells) q a.immutable c);
-}
+})
 
 -- What a change of lent cells leaves of the usage, whether or not it took chunks of the reserve.
 pub record Leaves (first lent : Cells) (u n : Ledger) : Type 0 where
@@ -107,36 +112,55 @@ pub leaves_of : {first lent : Cells} {u n : Ledger} → Fenced HasCell kept_refe
 leaves_of frame ready = record { given_stays = frame.given_stays; opens = frame.opens; grows = frame.grows; last = frame.last; same = ready.same }
 
 -- The cells were lent by a seat that knew so much, and came back as they are now.
-module _ (first lent : Cells) (v w : Known) (u n : Ledger)
-    (begun : first ≡ cells_with u v.turn) (back : cells_of lent.chunks w.turn ≡ record lent { kept = kept_in v.turn }) (seat : w ≡ with_words v lent.words)
-    (leaves : Leaves first lent u n) (wide : lent.chunks ≡ length u.given)
-    (count : ℕ) (agrees : Agrees (cells_with u v.turn) u count) where
+pub record Returned (first lent : Cells) (v w : Known) (u n : Ledger) (count : ℕ) : Type 0 where
+  pub begun : first ≡ cells_with u v.turn
+  pub back : cells_of lent.chunks w.turn ≡ record lent { kept = kept_in v.turn }
+  pub seat : w ≡ with_words v lent.words
+  pub leaves : Leaves first lent u n
+  pub wide : lent.chunks ≡ length u.given
+  pub agrees : Agrees (cells_with u v.turn) u count
+
+pub returned_of : {first lent : Cells} {u n : Ledger} {lender : Known} {here lent_by : TableId} (chunks : ℕ) (old new : JoinedSeat (List Entry) (List Operation))
+    → first ≡ cells_of chunks lender.turn → words_for chunks ≡ here.words → old.place.table_id ≡ here
+    → cells_of lent.chunks new.place.me.0.turn ≡ record lent { kept = kept_in lender.turn } → new.place.me.0 ≡ with_words lender lent.words → words_for lent.chunks ≡ lent_by.words
+    → (old.place.table_id ≡ lent_by) × (old.place.me.0 ≡ lender) → words_for (length u.given) ≡ old.place.table_id.words → Leaves first lent u n → Agrees (cells_with u old.place.me.0.turn) u old.passes
+    → Returned first lent old.place.me.0 new.place.me.0 u n old.passes
+returned_of {first} {lent} {u} {n} {lender} {here} {lent_by} chunks old new cells wide table back seat size by of_usage leaves agrees = record {
+  begun = lent_begins first old.place.me.0 lender (length u.given) chunks old.place.table_id.words here.words cells by.1 of_usage wide (same_words old.place.table_id here table);
+  back = lent_back (cells_of lent.chunks new.place.me.0.turn) lent old.place.me.0 lender back by.1;
+  seat = lent_seat new.place.me.0 old.place.me.0 lender lent.words seat by.1;
+  leaves = leaves;
+  wide = same_chunks lent.chunks (length u.given) lent_by.words old.place.table_id.words size of_usage (same_words lent_by old.place.table_id (sym by.0));
+  agrees = agrees;
+}
+
+module _ {first lent : Cells} {v w : Known} {u n : Ledger} {count : ℕ} (l : Returned first lent v w u n count) where
   pub chunks_now : length n.given ≡ lent.chunks
-  chunks_now = ap (λ (bs : List Bool). length bs) (sym leaves.same) ∙ length-map-range_with_len (λ chunk. slice_index lent.words (status_at chunk) == 1) 0 lent.chunks
+  chunks_now = ap (λ (bs : List Bool). length bs) (sym l.leaves.same) ∙ length-map-range_with_len (λ chunk. slice_index lent.words (status_at chunk) == 1) 0 lent.chunks
 
   words_now : words_of w.turn ≡ lent.words
-  words_now = ap (λ (k : Cells). k.words) back
+  words_now = ap (λ (k : Cells). k.words) l.back
 
   pub entered : (root : Option ℕ) (es : List Entry) → StandsFor v u root es → IsRooted (HasCell first) u root es
-  entered root es s = subst (λ (k : Cells). IsRooted (HasCell k) u root es) (sym begun) s
+  entered root es s = subst (λ (k : Cells). IsRooted (HasCell k) u root es) (sym l.begun) s
 
   pub left : (new : Option ℕ) (es : List Entry) → IsRooted (HasCell lent) n new es → StandsFor w n new es
   left new es s = rooted_there lent (cells_with n w.turn) chunks_now words_now n new es s
 
   pub words_seat : w ≡ with_words v (words_of w.turn)
-  words_seat = seat ∙ ap (with_words v) (sym words_now)
+  words_seat = l.seat ∙ ap (with_words v) (sym words_now)
 
   -- which of the usage's chunks the cells say are given
   given_first : (k : ℕ) → is_given u k ≡ true → IsGiven (given_chunks first) k
-  given_first k h = subst (λ (bs : List Bool). IsGiven bs k) (sym (ap given_chunks begun ∙ agrees.given)) (get_set u.given k h)
+  given_first k h = subst (λ (bs : List Bool). IsGiven bs k) (sym (ap given_chunks l.begun ∙ l.agrees.given)) (get_set u.given k h)
 
   -- allocated chunks stay so, and a chunk that became the bump chunk was not
   pub grown_now : Grown u n
   grown_now = record {
-    wide = chunks_now ∙ wide;
-    frozen = leaves.last;
-    given = λ k h. get_or_from_slice_get n.given k true false (subst (λ (bs : List Bool). IsGiven bs k) leaves.same (leaves.given_stays k (given_first k h)));
-    opens = λ k o. elim (leaves.opens k o) [ inl h ↦ inl h | inr free ↦ inr (was_free k free) ];
+    wide = chunks_now ∙ l.wide;
+    frozen = l.leaves.last;
+    given = λ k h. get_or_from_slice_get n.given k true false (subst (λ (bs : List Bool). IsGiven bs k) l.leaves.same (l.leaves.given_stays k (given_first k h)));
+    opens = λ k o. elim (l.leaves.opens k o) [ inl h ↦ inl h | inr free ↦ inr (was_free k free) ];
   }
     where
       was_free : (k : ℕ) → (IsGiven (given_chunks first) k → ⊥) → is_given u k ≡ false
@@ -147,16 +171,16 @@ module _ (first lent : Cells) (v w : Known) (u n : Ledger)
 
   pub agrees_later : Agrees (cells_with n w.turn) n count
   agrees_later =
-      let now : cells_with n w.turn ≡ record lent { kept = kept_in v.turn } = ap (λ (k : ℕ). cells_of k w.turn) chunks_now ∙ back in
-      agrees_grown (cells_with u v.turn) (cells_with n w.turn) u n count (chunks_now ∙ wide) (ap (λ (k : Cells). k.kept) now) (ap given_chunks now ∙ leaves.same) leaves.last leaves.grows agrees
+      let now : cells_with n w.turn ≡ record lent { kept = kept_in v.turn } = ap (λ (k : ℕ). cells_of k w.turn) chunks_now ∙ l.back in
+      agrees_grown (cells_with u v.turn) (cells_with n w.turn) u n count (chunks_now ∙ l.wide) (ap (λ (k : Cells). k.kept) now) (ap given_chunks now ∙ l.leaves.same) l.leaves.last l.leaves.grows l.agrees
 
   -- an operation was tried on them
   module _ (root : Option ℕ) (c : Change) (r : Result (Option ℕ) Unchanged) where
     path_in : (twigs : ℕ) → PathHas v u root (key_of c) twigs → TwigsOnPath HasCell account_of first u root (key_of c) twigs
-    path_in twigs p = subst (λ (k : Cells). TwigsOnPath HasCell account_of k u root (key_of c) twigs) (sym begun) p
+    path_in twigs p = subst (λ (k : Cells). TwigsOnPath HasCell account_of k u root (key_of c) twigs) (sym l.begun) p
 
     branches_in : (branches : List ℕ) → PathHasEach v u root (key_of c) branches → BranchesOnPath HasCell account_of first u root (key_of c) branches
-    branches_in branches p = subst (λ (k : Cells). BranchesOnPath HasCell account_of k u root (key_of c) branches) (sym begun) p
+    branches_in branches p = subst (λ (k : Cells). BranchesOnPath HasCell account_of k u root (key_of c) branches) (sym l.begun) p
 
     pub tried_of : reserved n ≡ reserved u → IfOk r (λ new. (es : List Entry) → IsRooted (HasCell first) u root es → IsRooted (HasCell lent) n new (operated es (operation_of c)))
         → ((es : List Entry) → IsRooted (HasCell first) u root es → (r ≡ Err Refused) ↔ IsRefused c es)
@@ -177,7 +201,18 @@ module _ (first lent : Cells) (v w : Known) (u n : Ledger)
       same = words_seat;
       spares = record { grown = grown_now; reserve = reserve };
       counts = if_err _ _ r (λ e s. s.counts) same;
-      path = if_err _ _ r (λ e s twigs p. path_there lent (cells_with n w.turn) chunks_now words_now n root (key_of c) twigs (path_later root (key_of c) twigs s.untouched leaves.grows.stays s.counts (path_in twigs p))) same;
-      branches = if_err _ _ r (λ e s branches p. branches_there lent (cells_with n w.turn) chunks_now words_now n root (key_of c) branches (branches_later root (key_of c) branches s.untouched leaves.grows.stays s.counts (branches_in branches p))) same;
+      path = if_err _ _ r (λ e s twigs p. path_there lent (cells_with n w.turn) chunks_now words_now n root (key_of c) twigs (path_later root (key_of c) twigs s.untouched l.leaves.grows.stays s.counts (path_in twigs p))) same;
+      branches = if_err _ _ r (λ e s branches p. branches_there lent (cells_with n w.turn) chunks_now words_now n root (key_of c) branches (branches_later root (key_of c) branches s.untouched l.leaves.grows.stays s.counts (branches_in branches p))) same;
       consumes = λ twigs p. consumes twigs (path_in twigs p);
+    }
+
+-- the seat that lent them
+pub has_back : {first lent : Cells} {u n : Ledger} {lent_by : TableId} (old new : JoinedSeat (List Entry) (List Operation)) → Returned first lent old.place.me.0 new.place.me.0 u n old.passes
+    → old.place.table_id ≡ lent_by → new.place.table_id ≡ lent_by → HasBack old new n
+has_back {lent = lent} {n = n} old new l was is =
+    let passes : new.passes ≡ old.passes = same_passes old.place.me.0 new.place.me.0 lent.words old.passes new.passes l.seat old.blank new.blank in
+    record {
+      table = is ∙ sym was;
+      passes = passes;
+      agrees = subst (λ (count : ℕ). Agrees (cells_with n new.place.me.0.turn) n count) (sym passes) (agrees_later l);
     }

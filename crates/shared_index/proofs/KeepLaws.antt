@@ -4,7 +4,7 @@ use Rattle.std.specs.List.{Contains, list_any}
 use Rattle.std.proofs.lemmas.List.FromFn.{get_or-map-range_with_len}
 use Rattle.pin_core.specs.declared.kept.CellAt.{CellAt}
 use Rattle.pin_core.specs.declared.kept.Kept.{Kept}
-use Rattle.chunk_usage.specs.Ledger.{Ledger, Row, IsLedger, filled, is_bump, is_used, is_given, is_mutable, is_in_row}
+use Rattle.chunk_usage.specs.Ledger.{Ledger, Frozen, Row, IsLedger, filled, frozen_part, is_bump, is_used, is_given, is_mutable, is_in_row}
 use Rattle.chunk_usage.specs.Keeping.{is_in_rows, is_needed, closed, freed, restored}
 use Rattle.chunk_usage.specs.Rooms.{Grows}
 use Rattle.trie_model.specs.Keys.{Entry}
@@ -73,33 +73,29 @@ agrees_freed cells new u count is wide chunks kept given a = record {
   passes = a.passes;
 }
 
+-- where chunks, rows and the counts of the last freeze are as before, and what was immutable is so
+agrees_like : (cells : Cells) (u new : Ledger) (count : ℕ) → new.given ≡ u.given → frozen_part new ≡ frozen_part u → ((q : ℕ) → is_immutable u q ≡ true → is_immutable new q ≡ true) → Agrees cells u count → Agrees cells new count
+agrees_like cells u new count given frozen still a = record {
+  given = a.given ∙ sym given;
+  rows = ap (λ (f : Frozen). f.rows) frozen ∙ a.rows;
+  few_rows = subst (λ (f : Frozen). length f.rows ≤ count + 1) (sym frozen) a.few_rows;
+  last_live = ap (λ (f : Frozen). f.live) frozen ∙ a.last_live;
+  immutable = all_from (is_immutable new) (kept_references cells) (λ q c. still q (all_of (is_immutable u) (kept_references cells) q a.immutable c));
+  passes = ap (λ (f : Frozen). f.passes) frozen ∙ a.passes;
+}
+
 -- a transaction goes back to its base
 pub agrees_restored : (cells : Cells) (u new : Ledger) (count : ℕ) → new ≡ restored u → ((q : ℕ) → is_used u q ≡ true → is_mutable u q ≡ false → is_used new q ≡ true) → Agrees cells u count → Agrees cells new count
-agrees_restored cells u new count after used a = record {
-  given = a.given ∙ sym (ap (λ (l : Ledger). l.given) after);
-  rows = ap (λ (l : Ledger). l.rows) after ∙ a.rows;
-  few_rows = subst (λ (l : Ledger). length l.rows ≤ count + 1) (sym after) a.few_rows;
-  last_live = ap (λ (l : Ledger). l.last_live) after ∙ a.last_live;
-  immutable = all_from (is_immutable new) (kept_references cells) (λ q c.
-      let h = all_of (is_immutable u) (kept_references cells) q a.immutable c in
-      immutable_of new q (used q (immutable_used u q h) (immutable_old u q h)) (ap (λ (l : Ledger). is_mutable l q) after ∙ immutable_old u q h));
-  passes = ap (λ (l : Ledger). l.passes) after ∙ a.passes;
-}
+agrees_restored cells u new count after used =
+    agrees_like cells u new count (ap (λ (l : Ledger). l.given) after) (ap frozen_part after)
+    (λ q h. immutable_of new q (used q (immutable_used u q h) (immutable_old u q h)) (ap (λ (l : Ledger). is_mutable l q) after ∙ immutable_old u q h))
 
 -- the bump chunk counts as filled
 
 pub agrees_closed : (cells : Cells) (u new : Ledger) (count : ℕ) → new ≡ closed u → Grows (is_used u) (is_used new) (is_mutable u) (is_mutable new) → Agrees cells u count → Agrees cells new count
-agrees_closed cells u new count after grows a = record {
-  given = a.given ∙ sym (ap (λ (l : Ledger). l.given) after);
-  rows = ap (λ (l : Ledger). l.rows) after ∙ a.rows;
-  few_rows = subst (λ (l : Ledger). length l.rows ≤ count + 1) (sym after) a.few_rows;
-  last_live = ap (λ (l : Ledger). l.last_live) after ∙ a.last_live;
-  immutable = all_from (is_immutable new) (kept_references cells) (λ q c.
-      let h = all_of (is_immutable u) (kept_references cells) q a.immutable c in
-      let used = immutable_used u q h in
-      immutable_of new q (grows.stays q used) (grows.settled q used ∙ immutable_old u q h));
-  passes = ap (λ (l : Ledger). l.passes) after ∙ a.passes;
-}
+agrees_closed cells u new count after grows =
+    agrees_like cells u new count (ap (λ (l : Ledger). l.given) after) (ap frozen_part after)
+    (λ q h. let used = immutable_used u q h in immutable_of new q (grows.stays q used) (grows.settled q used ∙ immutable_old u q h))
 
 pub stands_closed : (v : Known) (u new : Ledger) (root : Option ℕ) (es : List Entry) → new ≡ closed u → Grows (is_used u) (is_used new) (is_mutable u) (is_mutable new) → StandsFor v u root es → StandsFor v new root es
 stands_closed v u new root es after grows s = record {

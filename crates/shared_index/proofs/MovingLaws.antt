@@ -16,12 +16,10 @@ use Rattle.evacuate.specs.declared.evacuation.Done.{Done}
 use Rattle.evacuate.specs.declared.evacuation.Done.TheVariants.{Whole, Stopped}
 use Rattle.evacuate.specs.Evacuations.{FillsNew, IsCleared, IsDense, HasSparse, refused}
 use Rattle.evacuate.specs.Fillings.{IsFull as IsUsedUp}
-use Rattle.shared_cells.specs.Views.{kept_in}
-use Rattle.shared_cells.specs.Cells.{Cells, cells_of, given_chunks, kept_references, HasCell, with_words}
+use Rattle.shared_cells.specs.Cells.{Cells, given_chunks, kept_references, HasCell}
 use Rattle.shared_index.specs.Passes.{Known}
-use Rattle.shared_index.specs.Turns.{Agrees, cells_with}
 use Rattle.shared_index.specs.Movings.{Moved, is_thin, FewThin}
-use Rattle.shared_index.proofs.AttemptLaws.{Leaves, entered, left, grown_now, words_seat}
+use Rattle.shared_index.proofs.AttemptLaws.{Leaves, Returned, entered, left, grown_now, words_seat}
 
 -- ---- which chunks are thin
 
@@ -83,27 +81,21 @@ thin_dense most u dense = let a = count_none (is_thin u) none (range_with_len 0 
 pub leaves_moved : {first lent : Cells} {u n : Ledger} → Fenced HasCell kept_references given_chunks reserve_account_of first u lent n → Ready kept_references given_chunks account_of lent n → Leaves first lent u n
 leaves_moved frame ready = record { given_stays = frame.given_stays; opens = frame.opens; grows = frame.grows; last = frame.last; same = ready.same }
 
-module _ (first lent : Cells) (v w : Known) (u n : Ledger)
-    (begun : first ≡ cells_with u v.turn) (back : cells_of lent.chunks w.turn ≡ record lent { kept = kept_in v.turn }) (seat : w ≡ with_words v lent.words)
-    (leaves : Leaves first lent u n) (wide : lent.chunks ≡ length u.given)
-    (count : ℕ) (agrees : Agrees (cells_with u v.turn) u count) where
-  -- the trie stands for the same entries
-  pub moved_of : (root new : Option ℕ) (done : Done) → IsLedger n
-      → ((es : List Entry) → Standing (HasCell first) (is_used u) (slice_index u.live) root es → Standing (HasCell lent) (is_used n) (slice_index n.live) new es)
-      → (IsCleared u → n ≡ u) → FillsNew u n → (done ≡ Whole → IsDense n) → (done ≡ Stopped → IsUsedUp n) → (done ≡ Stopped → HasSparse n)
-      → ((es : List Entry) → Standing (HasCell first) (is_used u) (slice_index u.live) root es → free_count u + refused done ≤ free_count n + (cells es / 769 + 1)) → Moved root v u w n new done
-  moved_of root new done known stands none fills whole stopped some asks = record {
-    stands = λ es s.
-        let h = entered first lent v w u n begun back seat leaves wide count agrees root es s in
-        left first lent v w u n begun back seat leaves wide count agrees new es (record { stands = stands es h.stands; tells = h.tells });
-    same = words_seat first lent v w u n begun back seat leaves wide count agrees;
-    evacuates = record {
-      ledger = known;
-      grown = grown_now first lent v w u n begun back seat leaves wide count agrees;
-      fills = fills;
-      none = none;
-      whole = whole;
-      stopped = λ e. (stopped e, some e);
-    };
-    asks = λ es s. asks es (entered first lent v w u n begun back seat leaves wide count agrees root es s).stands;
-  }
+-- the trie stands for the same entries
+pub moved_of : {first lent : Cells} {v w : Known} {u n : Ledger} {count : ℕ} → Returned first lent v w u n count → (root new : Option ℕ) (done : Done) → IsLedger n
+    → ((es : List Entry) → Standing (HasCell first) (is_used u) (slice_index u.live) root es → Standing (HasCell lent) (is_used n) (slice_index n.live) new es)
+    → (IsCleared u → n ≡ u) → FillsNew u n → (done ≡ Whole → IsDense n) → (done ≡ Stopped → IsUsedUp n) → (done ≡ Stopped → HasSparse n)
+    → ((es : List Entry) → Standing (HasCell first) (is_used u) (slice_index u.live) root es → free_count u + refused done ≤ free_count n + (cells es / 769 + 1)) → Moved root v u w n new done
+moved_of l root new done known stands none fills whole stopped some asks = record {
+  stands = λ es s. let h = entered l root es s in left l new es (record { stands = stands es h.stands; tells = h.tells });
+  same = words_seat l;
+  evacuates = record {
+    ledger = known;
+    grown = grown_now l;
+    fills = fills;
+    none = none;
+    whole = whole;
+    stopped = λ e. (stopped e, some e);
+  };
+  asks = λ es s. asks es (entered l root es s).stands;
+}

@@ -30,16 +30,18 @@ pub in_pinned : (said : (ℕ → Cell → Type 0) → Type 0) (s t : PinnedSeat 
 unfolding in_image
 in_pinned said s t e h = subst (λ (u : PinnedSeat (List Entry) (List Operation)). said (λ r c. Contains (pinned_image u.place.me.0.progress) (record { at = r; big = c.big; small = c.small }))) (sym e) h
 
-pub one_table : (z w : TableId) → IsProp (z ≡ w)
+one_table : (z w : TableId) → IsProp (z ≡ w)
 one_table z w = hlevel props
 
-pub one_name : (z w : Option TableId) → IsProp (z ≡ w)
+one_name : (z w : Option TableId) → IsProp (z ≡ w)
 one_name z w = hlevel props
 
--- what is made of equal values and of facts about them is equal
-pub same_made : {S Q : Type 0} (H K : S → Type 0) (make : (s : S) → H s → K s → Q) → ((s : S) → IsProp (H s)) → ((s : S) → IsProp (K s)) → (s t : S) → s ≡ t → (h : H s) (k : K s) (h' : H t) (k' : K t) → make s h k ≡ make t h' k'
-same_made {S} {Q} H K make one other s t e h k =
-    subst (λ (u : S). (h' : H u) (k' : K u) → make s h k ≡ make u h' k') e (λ h' k'. ap (λ x. make s x k) (one s h h') ∙ ap (λ x. make s h' x) (other s k k'))
+-- what is made of equal seats of a table with a name is equal
+pub same_made : {Q : Type 0} (table : TableId) (name : Option TableId) (make : (s : PinnedSeat (List Entry) (List Operation)) → s.place.table_id ≡ table → name ≡ Some s.place.table_id → Q) (s t : PinnedSeat (List Entry) (List Operation)) → s ≡ t
+    → (h : s.place.table_id ≡ table) (k : name ≡ Some s.place.table_id) (h' : t.place.table_id ≡ table) (k' : name ≡ Some t.place.table_id) → make s h k ≡ make t h' k'
+same_made table name make s t e h k =
+    subst (λ (u : PinnedSeat (List Entry) (List Operation)). (h' : u.place.table_id ≡ table) (k' : name ≡ Some u.place.table_id) → make s h k ≡ make u h' k') e
+    (λ h' k'. ap (λ x. make s x k) (one_table s.place.table_id table h h') ∙ ap (λ x. make s h' x) (one_name name (Some s.place.table_id) k k'))
 
 -- nothing stands before the first name
 pub none_behind : (has : ℕ → Cell → Type 0) (root : Option ℕ) (path : Path) (r : Option Leaf) (after : List Entry) → MatchOption r (◌≡◌ {A = List Entry} [] []) (λ (l : Leaf). HasPassed has root path l [] after) → r ≡ None

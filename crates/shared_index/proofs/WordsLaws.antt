@@ -43,8 +43,9 @@ given_after n t cells kept given count same is = ap (λ (k : ℕ). given_chunks 
 
 -- cells that were lent by a seat of this view, and the seat that they come back as
 
-pub lent_begins : (cells : Cells) (v lender : Known) (n k : ℕ) → cells ≡ cells_of k lender.turn → v ≡ lender → n ≡ k → cells ≡ cells_of n v.turn
-lent_begins cells v lender n k is same count = subst (λ (w : Known). cells ≡ cells_of n w.turn) (sym same) (subst (λ (m : ℕ). cells ≡ cells_of m lender.turn) (sym count) is)
+pub lent_begins : (cells : Cells) (v lender : Known) (n k x y : ℕ) → cells ≡ cells_of k lender.turn → v ≡ lender → 4161 + 2048 * n ≡ x → 4161 + 2048 * k ≡ y → x ≡ y → cells ≡ cells_of n v.turn
+lent_begins cells v lender n k x y is same e f words =
+    subst (λ (w : Known). cells ≡ cells_of n w.turn) (sym same) (subst (λ (m : ℕ). cells ≡ cells_of m lender.turn) (sym (same_chunks n k x y e f words)) is)
 
 pub lent_seat : (w v lender : Known) (words : List ℕ) → w ≡ with_words lender words → v ≡ lender → w ≡ with_words v words
 lent_seat w v lender words is same = subst (λ (x : Known). w ≡ with_words x words) (sym same) is

@@ -1,6 +1,6 @@
 -- What a transaction's working set is after an operation, and after a round.
 use Rattle.std.proofs.Common.{◌≡◌, ◌↔◌, ◌⊎◌, ◌∙◌, ⊎_elim, inl, inr, ℕ, List, [], ◌∷◌, ◌++◌, length, Option, Some, None, Result, Ok, Err, refl, sym, ap, subst, append_assoc}
-use Rattle.std.specs.Prelude.{IsOk, IfSome}
+use Rattle.std.specs.Prelude.{IsOk, IfSome, IsSomeAnd}
 use Rattle.std.specs.List.{Contains}
 use Rattle.std.proofs.lemmas.List.Elements.{Contains-append_left}
 use Rattle.trie_model.specs.Keys.{Entry}
@@ -125,6 +125,28 @@ operates_after o denied first room d A B on log passes h = record {
   refused = subst (λ (es : List Entry). B ↔ denied es) (set_stays first room on log) h.refused;
 }
 
+-- ---- drafts that are there
+
+pub record Both (P : Draft → Type 0) (R : Draft → Draft → Type 0) (old new : Option Draft) : Type 0 where
+  pub before : Draft
+  pub after : Draft
+  pub old_is : old ≡ Some before
+  pub new_is : new ≡ Some after
+  pub met : P before
+  pub related : R before after
+
+pub both : (P : Draft → Type 0) (R : Draft → Draft → Type 0) (old new : Option Draft) → IsSomeAnd old P → Between R old new → Both P R old new
+both P R (Some d) (Some e) p r = record { before = d; after = e; old_is = refl; new_is = refl; met = p; related = r }
+both P R (Some d) None p r = absurd r
+both P R None (Some e) p r = absurd r
+both P R None None p r = absurd r
+
+pub between_as : (R S : Draft → Draft → Type 0) (old new : Option Draft) → ((d e : Draft) → old ≡ Some d → new ≡ Some e → R d e → S d e) → Between R old new → Between S old new
+between_as R S (Some d) (Some e) f r = f d e refl refl r
+between_as R S (Some d) None f r = r
+between_as R S None (Some e) f r = r
+between_as R S None None f r = r
+
 -- the same outcome under other names
 
 operates_as : (o : Operation) (denied : List Entry → Type 0) (old new : Draft) (A B C D : Type 0) → (C → A) → (A → C) → (B → D) → (D → B) → Operates o denied old new A B → Operates o denied old new C D
@@ -137,11 +159,14 @@ operates_as o denied old new A B C D done still forth back h = record {
   refused = (λ d. h.refused.0 (back d), λ p. forth (h.refused.1 p));
 }
 
-pub between_as : (o : Operation) (denied : List Entry → Type 0) (A B C D : Type 0) (old new : Option Draft) → (C → A) → (A → C) → (B → D) → (D → B) → Between (λ d e. Operates o denied d e A B) old new → Between (λ d e. Operates o denied d e C D) old new
-between_as o denied A B C D (Some d) (Some e) done still forth back h = operates_as o denied d e A B C D done still forth back h
-between_as o denied A B C D (Some d) None done still forth back h = h
-between_as o denied A B C D None (Some e) done still forth back h = h
-between_as o denied A B C D None None done still forth back h = h
+-- a refusal, told by another enum
+pub refusal_told : {E : Type 0} (o : Operation) (denied : List Entry → Type 0) (old new : Option Draft) (r : Result (Unit {0}) Unchanged) (e : Unchanged) (told : E) → r ≡ Err e → e ≡ Refused → Between (λ d f. Operates o denied d f (IsOk r) (r ≡ Err Refused)) old new
+    → Between (λ d f. Operates o denied d f (IsOk {T = Unit {0}} {E = E} (Err told)) (◌≡◌ {A = Result (Unit {0}) E} (Err told) (Err told))) old new
+refusal_told {E} o denied old new r e told is field =
+    let here : r ≡ Err Refused = subst (λ (u : Unchanged). r ≡ Err u) field is in
+    between_as (λ d f. Operates o denied d f (IsOk r) (r ≡ Err Refused)) (λ d f. Operates o denied d f (IsOk {T = Unit {0}} {E = E} (Err told)) (◌≡◌ {A = Result (Unit {0}) E} (Err told) (Err told))) old new
+    (λ d f _ _ h. operates_as o denied d f (IsOk r) (r ≡ Err Refused) (IsOk {T = Unit {0}} {E = E} (Err told)) (◌≡◌ {A = Result (Unit {0}) E} (Err told) (Err told))
+    (λ never. absurd cc) (λ done. subst (λ (x : Result (Unit {0}) Unchanged). IsOk x) here done) (λ b. refl) (λ d. here) h)
 
 -- where a change finds no room, the cause that it tells holds with the list of kept versions that is told besides
 pub cause_told : (key : List ℕ) (written : ℕ) (asks : List ℕ → List ℕ) (old new : Option Draft) (r : Result (Unit {0}) Unchanged) (e : Unchanged) (full : NoRoom) (told f : Full) → r ≡ Err e → e ≡ unchanged.Full full

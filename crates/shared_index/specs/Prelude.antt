@@ -22,5 +22,5 @@ pub use Rattle.shared_index.specs.Movings.{Evacuates, Moved}
 pub use Rattle.shared_index.specs.Operations.{AreWithin, applied, operated}
 pub use Rattle.shared_index.specs.Passes.{first_version, known_at}
 pub use Rattle.shared_index.specs.Tries.{Spares, Tried}
-pub use Rattle.shared_index.specs.Turns.{Agrees, AgreesWithin, cells_with, current_root}
+pub use Rattle.shared_index.specs.Turns.{Agrees, AgreesWithin, HasBack, cells_with, current_root}
 pub use Rattle.shared_index.specs.declared.kept.Versions.{Versions}

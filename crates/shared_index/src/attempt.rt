@@ -1,6 +1,6 @@
 //! An operation tried once, by who has the turn.
 ghost use Rattle.std.specs.Prelude.{◌≡◌, ◌+◌, ◌*◌, List, length};
-ghost use Rattle.shared_index.specs.Prelude.{words_for, Entry, Agrees, cells_with, StandsFor, LeadsItem, Tried};
+ghost use Rattle.shared_index.specs.Prelude.{words_for, Entry, Agrees, HasBack, cells_with, StandsFor, LeadsItem, Tried};
 
 use crate::change::{Change, change_trie};
 use crate::meaning::{Law, Meaning, Operations, Version};
@@ -26,9 +26,7 @@ pub(crate) fn attempt<L: Law, B: Lent<Version, Operations>>(
     requires agrees { Agrees (cells_with usage.old seat.place.me.0.turn) usage.old seat.passes }
     requires stands { (es : List Entry) × StandsFor seat.place.me.0 usage.old root es }
     requires leads { LeadsItem change.now }
-    ensures table { result.0.place.table_id ≡ seat.place.table_id }
-    ensures passes { result.0.passes ≡ seat.passes }
-    ensures agrees { Agrees (cells_with usage.new result.0.place.me.0.turn) usage.new seat.passes }
+    ensures back { HasBack seat result.0 usage.new }
     ensures tried { Tried change.now root seat.place.me.0 usage.old result.0.place.me.0 usage.new result.1 }
 {
     let mut cells = seat.lend::<Meaning<L>, B>(shared);

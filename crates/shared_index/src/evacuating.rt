@@ -1,6 +1,6 @@
 //! What lies in sparse chunks, moved by who has the turn.
 ghost use Rattle.std.specs.Prelude.{◌≡◌, ◌+◌, ◌*◌, ◌/◌, ◌≤◌, List, length};
-ghost use Rattle.shared_index.specs.Prelude.{words_for, Entry, kept_in, Agrees, cells_with, StandsFor, Evacuates, Moved};
+ghost use Rattle.shared_index.specs.Prelude.{words_for, Entry, kept_in, Agrees, HasBack, cells_with, StandsFor, Evacuates, Moved};
 
 use crate::desk::Draft;
 use crate::meaning::{Law, Meaning, Operations, Version};
@@ -22,9 +22,7 @@ fn evacuate<L: Law, B: Lent<Version, Operations>>(
     requires wide { words_for (length usage.old.given) ≡ seat.place.table_id.words }
     requires agrees { Agrees (cells_with usage.old seat.place.me.0.turn) usage.old seat.passes }
     requires stands { (es : List Entry) × StandsFor seat.place.me.0 usage.old root es }
-    ensures table { result.0.place.table_id ≡ seat.place.table_id }
-    ensures passes { result.0.passes ≡ seat.passes }
-    ensures agrees { Agrees (cells_with usage.new result.0.place.me.0.turn) usage.new seat.passes }
+    ensures back { HasBack seat result.0 usage.new }
     ensures moved { Moved root seat.place.me.0 usage.old result.0.place.me.0 usage.new result.1 result.2 }
 {
     let mut cells = seat.lend::<Meaning<L>, B>(shared);

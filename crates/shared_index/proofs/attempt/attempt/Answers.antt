@@ -1,56 +1,27 @@
-use Rattle.std.proofs.Common.{◌≡◌, length, sym, subst}
-use Rattle.chunk_usage.specs.Rooms.{account_of}
-use Rattle.trie_space.specs.Spaces.{Ready}
-use Rattle.shared_cells.specs.Cells.{Cells, given_chunks, kept_references, HasCell}
+use Rattle.std.proofs.Common.{◌≡◌, sym, subst}
+use Rattle.shared_cells.specs.Cells.{Cells, HasCell}
 use Rattle.shared_index.specs.Bases.{IsRooted}
 use Rattle.shared_index.specs.Turns.{cells_with}
-use Rattle.shared_index.proofs.WordsLaws.{same_words, same_chunks, same_passes, lent_begins, lent_seat, lent_back}
-use Rattle.shared_index.proofs.AttemptLaws.{leaves_of, ready_of, agrees_later, tried_of}
+use Rattle.shared_index.proofs.WordsLaws.{same_words, lent_begins}
+use Rattle.shared_index.proofs.AttemptLaws.{Returned, leaves_of, ready_of, returned_of, has_back, tried_of}
 use Rattle.shared_index.proofs.attempt.attempt.Goals as goal
 
-pub change_trie-outcome-requires-clause-rooted : goal.change_trie-outcome-requires-clause-rooted
-change_trie-outcome-requires-clause-rooted g c =
-    let u = c.args.usage.now in
-    let chunks : length u.given ≡ c.args.shared.now.table.shared.key.chunks = same_chunks _ _ _ _ c.requires.wide c.args.shared.now.wide (same_words _ _ c.requires.table) in
-    let lent = lent_begins _ _ _ _ _ c.lend-cells.ensures.cells c.requires.lent.1 chunks in
-    let stands = c.requires.stands in
-    (stands.0, subst (λ (k : Cells). IsRooted (HasCell k) u c.args.root stands.0) (sym lent) stands.1)
+-- the cells as they were lent
+begun : (g : _) (c : goal.After-change_trie-arg-1 g) → c.lend-cells.result ≡ cells_with c.args.usage.now c.args.seat.place.me.0.turn
+begun g c = lent_begins _ _ _ _ _ _ _ c.lend-cells.ensures.cells c.requires.lent.1 c.requires.wide c.args.shared.now.wide (same_words _ _ c.requires.table)
 
 pub change_trie-outcome-requires-clause-ready : goal.change_trie-outcome-requires-clause-ready
-change_trie-outcome-requires-clause-ready g c =
-    let u = c.args.usage.now in
-    let chunks : length u.given ≡ c.args.shared.now.table.shared.key.chunks = same_chunks _ _ _ _ c.requires.wide c.args.shared.now.wide (same_words _ _ c.requires.table) in
-    let lent = lent_begins _ _ _ _ _ c.lend-cells.ensures.cells c.requires.lent.1 chunks in
-    subst (λ (k : Cells). Ready kept_references given_chunks account_of k u) (sym lent) (ready_of (cells_with u c.args.seat.place.me.0.turn) u c.args.seat.passes c.requires.agrees)
+change_trie-outcome-requires-clause-ready g c = ready_of (begun g c) c.requires.agrees
 
-pub returns-clause-passes : goal.returns-clause-passes
-returns-clause-passes g c =
-    let seat = c.args.seat in
-    let view = lent_seat _ _ _ _ c.into_joined.ensures.seat c.requires.lent.1 in
-    same_passes seat.place.me.0 c.into_joined.result.place.me.0 c.change_trie-outcome.new.cells.words seat.passes c.into_joined.result.passes view seat.blank c.into_joined.result.blank
+pub change_trie-outcome-requires-clause-rooted : goal.change_trie-outcome-requires-clause-rooted
+change_trie-outcome-requires-clause-rooted g c = let stands = c.requires.stands in (stands.0, subst (λ (k : Cells). IsRooted (HasCell k) c.args.usage.now c.args.root stands.0) (sym (begun g c)) stands.1)
 
-pub returns-clause-agrees : goal.returns-clause-agrees
-returns-clause-agrees g c =
-    let seat = c.args.seat in
-    let u = c.args.usage.now in
-    let lent = c.change_trie-outcome.new.cells in
-    let trie = c.change_trie-outcome.ensures in
-    let back = c.into_joined.ensures in
-    let chunks : length u.given ≡ c.args.shared.now.table.shared.key.chunks = same_chunks _ _ _ _ c.requires.wide c.args.shared.now.wide (same_words _ _ c.requires.table) in
-    let wide : lent.chunks ≡ length u.given = same_chunks _ _ _ _ back.size c.requires.wide (same_words _ _ (sym c.requires.lent.0)) in
-    agrees_later c.lend-cells.result lent seat.place.me.0 c.into_joined.result.place.me.0 u c.change_trie-outcome.new.usage
-    (lent_begins _ _ _ _ _ c.lend-cells.ensures.cells c.requires.lent.1 chunks) (lent_back _ lent _ _ back.cells c.requires.lent.1) (lent_seat _ _ _ _ back.seat c.requires.lent.1)
-    (leaves_of trie.frame trie.ready) wide seat.passes c.requires.agrees
+-- and as they came back
+returned : (g : _) (c : goal.After-into_joined g) → Returned c.lend-cells.result c.change_trie-outcome.new.cells c.args.seat.place.me.0 c.into_joined.result.place.me.0 c.args.usage.now c.change_trie-outcome.new.usage c.args.seat.passes
+returned g c = let back = c.into_joined.ensures in returned_of _ c.args.seat c.into_joined.result c.lend-cells.ensures.cells c.args.shared.now.wide c.requires.table back.cells back.seat back.size c.requires.lent c.requires.wide (leaves_of {lent = c.change_trie-outcome.new.cells} {n = c.change_trie-outcome.new.usage} c.change_trie-outcome.ensures.frame c.change_trie-outcome.ensures.ready) c.requires.agrees
+
+pub returns-clause-back : goal.returns-clause-back
+returns-clause-back g c = has_back c.args.seat c.into_joined.result (returned g c) c.requires.lent.0 c.into_joined.ensures.table
 
 pub returns-clause-tried : goal.returns-clause-tried
-returns-clause-tried g c =
-    let seat = c.args.seat in
-    let u = c.args.usage.now in
-    let lent = c.change_trie-outcome.new.cells in
-    let trie = c.change_trie-outcome.ensures in
-    let back = c.into_joined.ensures in
-    let chunks : length u.given ≡ c.args.shared.now.table.shared.key.chunks = same_chunks _ _ _ _ c.requires.wide c.args.shared.now.wide (same_words _ _ c.requires.table) in
-    let wide : lent.chunks ≡ length u.given = same_chunks _ _ _ _ back.size c.requires.wide (same_words _ _ (sym c.requires.lent.0)) in
-    tried_of c.lend-cells.result lent seat.place.me.0 c.into_joined.result.place.me.0 u c.change_trie-outcome.new.usage
-    (lent_begins _ _ _ _ _ c.lend-cells.ensures.cells c.requires.lent.1 chunks) (lent_back _ lent _ _ back.cells c.requires.lent.1) (lent_seat _ _ _ _ back.seat c.requires.lent.1)
-    (leaves_of trie.frame trie.ready) wide seat.passes c.requires.agrees c.args.root c.args.change.now c.change_trie-outcome.result trie.frame.spares trie.done trie.refused trie.denied trie.stays trie.unchanged trie.full trie.asked trie.consumes
+returns-clause-tried g c = let trie = c.change_trie-outcome.ensures in tried_of (returned g c) c.args.root c.args.change.now c.change_trie-outcome.result trie.frame.spares trie.done trie.refused trie.denied trie.stays trie.unchanged trie.full trie.asked trie.consumes

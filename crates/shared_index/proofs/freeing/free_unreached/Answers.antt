@@ -1,8 +1,8 @@
-use Rattle.std.proofs.Common.{◌≡◌, ◌∙◌, ℕ, length, sym, ap, subst, refl}
+use Rattle.std.proofs.Common.{◌≡◌, ◌∙◌, length, sym, ap, subst, refl}
 use Rattle.chunk_usage.specs.Ledger.{Ledger}
 use Rattle.chunk_usage.specs.Keeping.{freed}
 use Rattle.shared_cells.specs.Views.{kept_in, words_of}
-use Rattle.shared_cells.specs.Cells.{Cells, cells_of, with_words, HasCell}
+use Rattle.shared_cells.specs.Cells.{Cells, with_words, HasCell}
 use Rattle.shared_index.specs.Passes.{Known}
 use Rattle.shared_index.specs.Turns.{Agrees, cells_with}
 use Rattle.shared_index.specs.Bases.{IsRooted}
@@ -16,9 +16,7 @@ pub free_unreached-count-requires-clause-in_rows : goal.free_unreached-count-req
 free_unreached-count-requires-clause-in_rows g c =
     let u = c.args.usage.now in
     let seat = c.args.seat in
-    let chunks : length u.given ≡ c.args.shared.now.table.shared.key.chunks = same_chunks _ _ _ _ c.requires.wide c.args.shared.now.wide (same_words _ _ c.requires.table) in
-    let cells : c.lend-cells.result ≡ cells_with u seat.place.me.0.turn =
-    c.lend-cells.ensures.cells ∙ ap (λ (v : Known). cells_of c.args.shared.now.table.shared.key.chunks v.turn) (sym c.requires.lent.1) ∙ ap (λ (n : ℕ). cells_of n seat.place.me.0.turn) (sym chunks) in
+    let cells : c.lend-cells.result ≡ cells_with u seat.place.me.0.turn = lent_begins _ _ _ _ _ _ _ c.lend-cells.ensures.cells c.requires.lent.1 c.requires.wide c.args.shared.now.wide (same_words _ _ c.requires.table) in
     kept_in_rows c.lend-cells.result u c.known.ensures seat.passes (ap (λ (k : Cells). k.chunks) cells) (subst (λ (k : Cells). Agrees k u seat.passes) (sym cells) c.requires.agrees)
 
 pub returns-clause-passes : goal.returns-clause-passes
@@ -49,8 +47,7 @@ returns-clause-stands g c root es stands =
     let back = c.into_joined.ensures in
     let now = c.free_unreached-count.new.self in
     let after : now ≡ freed u = c.free_unreached-count.ensures.after in
-    let chunks : length u.given ≡ c.args.shared.now.table.shared.key.chunks = same_chunks _ _ _ _ c.requires.wide c.args.shared.now.wide (same_words _ _ c.requires.table) in
-    let first : c.lend-cells.result ≡ cells_with u seat.place.me.0.turn = lent_begins _ _ _ _ _ c.lend-cells.ensures.cells c.requires.lent.1 chunks in
+    let first : c.lend-cells.result ≡ cells_with u seat.place.me.0.turn = lent_begins _ _ _ _ _ _ _ c.lend-cells.ensures.cells c.requires.lent.1 c.requires.wide c.args.shared.now.wide (same_words _ _ c.requires.table) in
     let count : lent.chunks ≡ length (freed u).given = same_chunks _ _ _ _ back.size c.requires.wide (same_words _ _ (sym c.requires.lent.0)) ∙ sym (freed_chunks u) in
     let words : words_of c.into_joined.result.place.me.0.turn ≡ lent.words = ap (λ (k : Cells). k.words) back.cells in
     rooted_there lent (cells_with now c.into_joined.result.place.me.0.turn) (ap (λ (l : Ledger). length l.given) after ∙ sym count) words now root es

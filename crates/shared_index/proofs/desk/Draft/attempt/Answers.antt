@@ -21,7 +21,7 @@ returns-in-Ok-clause-operates g c =
     let by_usage = subst (λ (u : Ledger). Tried change d.root d.seat.place.me.0 d.usage n.seat.place.me.0 u (Ok c.in-Ok.new)) (sym done.usage) by_seat in
     operates_done change d n c.requires.works
     (subst (λ (r : Option ℕ). Tried change d.root d.seat.place.me.0 d.usage n.seat.place.me.0 n.usage (Ok r)) (sym done.root) by_usage) done.log
-    (ap (λ (s : JoinedSeat (List Entry) (List Operation)). s.passes) done.seat ∙ c.attempt-seat.ensures.passes)
+    (ap (λ (s : JoinedSeat (List Entry) (List Operation)). s.passes) done.seat ∙ c.attempt-seat.ensures.back.passes)
 
 pub returns-in-Ok-clause-spares : goal.returns-in-Ok-clause-spares
 returns-in-Ok-clause-spares g c = subst (Spares c.args.self.usage) (sym c.with_done.ensures.usage) c.attempt-seat.ensures.tried.spares

@@ -19,7 +19,7 @@ returns-clause-numbers g c =
     let v : Known = c.args.self.seat.place.me.0 in
     let w : Known = c.evacuate-seat.result.0.place.me.0 in
     let on : GoesOn v w = words_go_on v w (words_of w.turn) c.evacuate-seat.ensures.moved.same in
-    (version_on c.args.self.seat.version c.evacuate-seat.result.0.version on c.args.self.seat.version_is c.evacuate-seat.result.0.version_is, c.evacuate-seat.ensures.passes)
+    (version_on c.args.self.seat.version c.evacuate-seat.result.0.version on c.args.self.seat.version_is c.evacuate-seat.result.0.version_is, c.evacuate-seat.ensures.back.passes)
 
 pub returns-clause-versions : goal.returns-clause-versions
 returns-clause-versions g c =

@@ -1,18 +1,11 @@
-use Rattle.std.proofs.Common.{◌≡◌, Err, refl, subst}
-use Rattle.std.specs.Prelude.{IsOk}
+use Rattle.std.proofs.Common.{◌≡◌}
 use Rattle.trie_write.specs.Paths.{delete_asks}
-use Rattle.trie_write.specs.declared.refusal.Unchanged.{Unchanged}
-use Rattle.trie_write.specs.declared.refusal.Unchanged.TheVariants as unchanged
-use Rattle.shared_index.proofs.WorkLaws.{between_as, cause_told}
+use Rattle.shared_index.specs.declared.refusal.ChangeRefusal.TheVariants.{NotFound}
+use Rattle.shared_index.proofs.WorkLaws.{refusal_told, cause_told}
 use Rattle.shared_index.proofs.transaction.Transaction.delete.Goals as goal
 
 pub returns-in-Err-Refused-clause-deletes : goal.returns-in-Err-Refused-clause-deletes
-returns-in-Err-Refused-clause-deletes g c =
-    let field : c.in-Err-Refused.field-0 ≡ unchanged.Refused = c.in-Err-Refused.field-0-is in
-    let is : c.change.result ≡ Err c.in-Err-Refused.field-0 = c.in-Err-Refused.is in
-    let told : c.change.result ≡ Err unchanged.Refused = subst (λ (r : Unchanged). c.change.result ≡ Err r) field is in
-    between_as _ _ (IsOk c.change.result) (c.change.result ≡ Err unchanged.Refused) _ _ c.args.self.now.locked.now.draft c.change.new.self.draft
-    (λ h. absurd cc) (λ h. subst (λ r. IsOk r) told h) (λ b. refl) (λ d. told) c.change.ensures.operates
+returns-in-Err-Refused-clause-deletes g c = refusal_told _ _ c.args.self.now.locked.now.draft c.change.new.self.draft c.change.result c.in-Err-Refused.field-0 NotFound c.in-Err-Refused.is c.in-Err-Refused.field-0-is c.change.ensures.operates
 
 pub returns-in-Err-Full-clause-cause : goal.returns-in-Err-Full-clause-cause
 returns-in-Err-Full-clause-cause g c f e =
