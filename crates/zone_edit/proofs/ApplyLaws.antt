@@ -77,7 +77,7 @@ changed_short origin (DeleteRecord owner rtype octets) before next e short some 
 
 -- ---- an operation is what it makes of its owner's entry
 
-pub accepted : (origin : Name) (operation : Operation) (before next : Entry) (version : Version) → before ≡ owned (owner_of operation) version → changed origin operation before ≡ Ok next → apply origin operation version ≡ Ok (put (owner_of operation) next version)
+accepted : (origin : Name) (operation : Operation) (before next : Entry) (version : Version) → before ≡ owned (owner_of operation) version → changed origin operation before ≡ Ok next → apply origin operation version ≡ Ok (put (owner_of operation) next version)
 accepted origin operation before next version is e =
     ap (λ (r : Result Entry Refusal). and_then r (λ entry. Ok (put (owner_of operation) entry version))) (ap (changed origin operation) (sym is) ∙ e)
 
@@ -91,6 +91,13 @@ pub made_of : (origin : Name) (operation : Operation) (owner : Name) (octets : L
     → SaysEntry owner octets held → before ≡ held → next ≡ candidate operation held → changed origin operation before ≡ Ok next
 made_of origin operation owner octets before next held is agreed says b n =
     ap (changed origin operation) b ∙ agreed held (subst (λ (x : Name). SaysEntry x octets held) is says) ∙ ap (λ (x : Entry). Ok x) (sym n)
+
+-- so what is stored is what the operation makes
+pub made_by : (origin : Name) (operation : Operation) (owner : Name) (octets : List ℕ) (before next : Entry) (version : Version) → owner ≡ owner_of operation
+    → ((entry : Entry) → SaysEntry (owner_of operation) octets entry → changed origin operation entry ≡ Ok (candidate operation entry))
+    → SaysEntry owner octets (owned owner version) → before ≡ owned owner version → next ≡ candidate operation (owned owner version) → apply origin operation version ≡ Ok (put (owner_of operation) next version)
+made_by origin operation owner octets before next version is agreed says b n =
+    accepted origin operation before next version (b ∙ ap (λ (x : Name). owned x version) is) (made_of origin operation owner octets before next (owned owner version) is agreed says b n)
 
 -- ---- operations in order
 

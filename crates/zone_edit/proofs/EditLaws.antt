@@ -1,13 +1,14 @@
 -- What a transaction's call makes of a working set that is a version.
 use Rattle.std.proofs.Common.{◌≡◌, ◌∙◌, ℕ, ◌+◌, ◌-◌, ◌≤◌, List, [], ◌∷◌, ◌++◌, length, Option, Some, None, Ok, Err, refl, sym, ap, subst, arith, append-nil, length-append}
 use Rattle.std.specs.Prelude.{Contains, IsSome, IsSomeAnd, IfSome, unwrap_or}
-use Rattle.zone_model.specs.Names.{Name, IsName}
+use Rattle.std.specs.BTreeMap.{insert_entry}
+use Rattle.zone_model.specs.Names.{Name, IsName, name_cmp}
 use Rattle.zone_model.specs.Keys.{key_of}
 use Rattle.zone_model.specs.Records.{Entry, IsItem}
 use Rattle.zone_model.specs.Versions.{Version, owned, put}
 use Rattle.trie_model.specs.Keys as trie
 use Rattle.trie_model.specs.Keys.{InList}
-use Rattle.zone_query.specs.Standing.{IsVersion}
+use Rattle.zone_query.specs.Standing.{IsVersion, trie_entry}
 use Rattle.job_model.specs.Sizes.{trie_entries}
 use Rattle.shared_index.specs.declared.desk.Draft.{Draft}
 use Rattle.shared_index.specs.declared.refusal.Full.{Full}
@@ -29,6 +30,7 @@ use Rattle.std.proofs.lemmas.List.{length-map}
 use Rattle.shared_index.specs.Keepings.{GoesOn, versions_in}
 use Rattle.shared_index.proofs.GoesLaws.{base_goes_on, applied_more, goes_further}
 use Rattle.shared_index.proofs.StayLaws.{chunks_stay}
+use Rattle.shared_index.proofs.WorkLaws.{both, between_as}
 use Rattle.zone_edit.proofs.VersionLaws.{version_put, version_gone}
 use Rattle.zone_edit.proofs.StoreLaws.{put_some, storable, same_entry, record_of}
 use Rattle.trie_read.specs.Readings.{Fetched}
@@ -38,26 +40,6 @@ use Rattle.zone_edit.specs.Stores.{WorksOn, WorksOnSome, Owns, EditsOne, Edits, 
 use Rattle.zone_edit.proofs.SetLaws.{IsOwner, inserted, exchanged, deleted}
 
 -- ---- drafts that are there
-
-pub record Both (P : Draft → Type 0) (R : Draft → Draft → Type 0) (old new : Option Draft) : Type 0 where
-  pub before : Draft
-  pub after : Draft
-  pub old_is : old ≡ Some before
-  pub new_is : new ≡ Some after
-  pub met : P before
-  pub related : R before after
-
-pub both : (P : Draft → Type 0) (R : Draft → Draft → Type 0) (old new : Option Draft) → IsSomeAnd old P → Between R old new → Both P R old new
-both P R (Some d) (Some e) p r = record { before = d; after = e; old_is = refl; new_is = refl; met = p; related = r }
-both P R (Some d) None p r = absurd r
-both P R None (Some e) p r = absurd r
-both P R None None p r = absurd r
-
-pub between_as : (R S : Draft → Draft → Type 0) (old new : Option Draft) → ((d e : Draft) → old ≡ Some d → new ≡ Some e → R d e → S d e) → Between R old new → Between S old new
-between_as R S (Some d) (Some e) f r = f d e refl refl r
-between_as R S (Some d) None f r = r
-between_as R S None (Some e) f r = r
-between_as R S None None f r = r
 
 pub between_then : (R S T : Draft → Draft → Type 0) (a b c : Option Draft) → ((d e f : Draft) → R d e → S e f → T d f) → Between R a b → Between S b c → Between T a c
 between_then R S T (Some d) (Some e) (Some f) h r s = h d e f r s
@@ -92,27 +74,27 @@ same_set o denied d e A B op undone = ap (applied (base_of e)) (op.stays undone)
 pub works_same : (o : Operation) (denied : List trie.Entry → Type 0) (d e : Draft) (A B : Type 0) (version : Version) → Operates o denied d e A B → (A → ⊥) → WorksOn d version → WorksOn e version
 works_same o denied d e A B version op undone on = record { works = op.works; set = same_set o denied d e A B op undone ∙ on.set; valid = on.valid }
 
+-- an operation that gives a name an item was done
+put_item : (o : Operation) (name : Name) (key bytes : List ℕ) (entry : Entry) (denied : List trie.Entry → Type 0) (d e : Draft) (A B : Type 0) (version : Version) → ((es : List trie.Entry) → operated es o ≡ with_entry es (record_of key bytes)) → key ≡ key_of name → IsItem bytes name entry
+    → with_entry (trie_entries version) (trie_entry (name, entry)) ≡ trie_entries (insert_entry name_cmp version name entry) → Operates o denied d e A B → A → WorksOn d version → WorksOn e (put name entry version)
+put_item o name key bytes entry denied d e A B version puts k is made op a on =
+    subst (WorksOn e) (sym (put_some name entry version is.some)) (record {
+      works = op.works;
+      set = done_set o denied d e A B op a ∙ puts (working_set d) ∙ ap (λ (es : List trie.Entry). with_entry es (record_of key bytes)) on.set ∙ ap (with_entry (trie_entries version)) (same_entry name key bytes entry k is) ∙ made;
+      valid = version_put name entry version (storable name bytes entry is) on.valid;
+    })
+
 -- a name was put in
 pub put_new : (name : Name) (key bytes : List ℕ) (entry : Entry) (denied : List trie.Entry → Type 0) (d e : Draft) (A B : Type 0) (version : Version) → key ≡ key_of name → IsItem bytes name entry
     → ((x : trie.Entry) → InList x (trie_entries version) → x.key ≡ key_of name → ⊥) → Operates (operation.Insert (record_of key bytes)) denied d e A B → A → WorksOn d version → WorksOn e (put name entry version)
 put_new name key bytes entry denied d e A B version k is none op a on =
-    subst (WorksOn e) (sym (put_some name entry version is.some)) (record {
-      works = op.works;
-      set = done_set (operation.Insert (record_of key bytes)) denied d e A B op a ∙ ap (λ (es : List trie.Entry). with_entry es (record_of key bytes)) on.set
-          ∙ ap (with_entry (trie_entries version)) (same_entry name key bytes entry k is) ∙ inserted name entry version is.name on.valid none;
-      valid = version_put name entry version (storable name bytes entry is) on.valid;
-    })
+    put_item (operation.Insert (record_of key bytes)) name key bytes entry denied d e A B version (λ es. refl) k is (inserted name entry version is.name on.valid none) op a on
 
 -- its item was exchanged
 pub put_over : (name : Name) (key bytes : List ℕ) (entry : Entry) (denied : List trie.Entry → Type 0) (d e : Draft) (A B : Type 0) (version : Version) → key ≡ key_of name → IsItem bytes name entry
     → IsOwner name version → Operates (operation.Replace (record_of key bytes)) denied d e A B → A → WorksOn d version → WorksOn e (put name entry version)
 put_over name key bytes entry denied d e A B version k is there op a on =
-    subst (WorksOn e) (sym (put_some name entry version is.some)) (record {
-      works = op.works;
-      set = done_set (operation.Replace (record_of key bytes)) denied d e A B op a ∙ ap (λ (es : List trie.Entry). with_entry es (record_of key bytes)) on.set
-          ∙ ap (with_entry (trie_entries version)) (same_entry name key bytes entry k is) ∙ exchanged name entry version is.name on.valid there;
-      valid = version_put name entry version (storable name bytes entry is) on.valid;
-    })
+    put_item (operation.Replace (record_of key bytes)) name key bytes entry denied d e A B version (λ es. refl) k is (exchanged name entry version is.name on.valid there) op a on
 
 -- it was taken out
 pub put_out : (name : Name) (key : List ℕ) (denied : List trie.Entry → Type 0) (d e : Draft) (A B : Type 0) (version : Version) → key ≡ key_of name → IsName name

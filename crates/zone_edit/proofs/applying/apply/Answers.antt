@@ -1,10 +1,10 @@
-use Rattle.std.proofs.Common.{◌≡◌, ◌<◌, ◌≤◌, length, take, Ok, Err, refl, sym, ap, subst, arith}
+use Rattle.std.proofs.Common.{◌≡◌, ◌<◌, ◌≤◌, length, take, Ok, Err, refl, sym, subst, arith}
 use Rattle.zone_model.specs.Names.{Name}
 use Rattle.zone_model.specs.Records.{item, item_limit}
 use Rattle.zone_model.specs.Versions.{owned, owner_of, put}
 use Rattle.zone_change.specs.Views.{operation_view}
 use Rattle.zone_change.specs.Counts.{candidate}
-use Rattle.zone_edit.proofs.ApplyLaws.{owned_short, changed_short, accepted, made_of}
+use Rattle.zone_edit.proofs.ApplyLaws.{owned_short, changed_short, made_of, made_by}
 use Rattle.zone_edit.specs.Stores.{WorksOn, Reads, Stores}
 use Rattle.zone_edit.specs.Blocks.{Applies}
 use Rattle.zone_edit.specs.declared.applying.Stopped.TheVariants as stops
@@ -31,8 +31,7 @@ returns-in_default-both_entries-clause-applies g c =
     edits_as 0 0 (Reads owner c.read_owned-len.new.item c.read_owned-len.result) (Applies c.args.origin.now operation (Err stops.Memory)) c.args.transaction.now.locked.now.draft c.read_owned-len.new.transaction.locked.now.draft (omega arith)
     (λ version e r.
     let held = owned owner version in
-    let made = made_of c.args.origin.now operation owner octets held (candidate operation held) held c.owner-owner.ensures c.in_default.ensures r.read.says refl refl in
-    (put (owner_of operation) (candidate operation held) version, accepted c.args.origin.now operation held (candidate operation held) version (ap (λ (n : Name). owned n version) c.owner-owner.ensures) made, r.stays)) c.read_owned-len.ensures.read
+    (put (owner_of operation) (candidate operation held) version, made_by c.args.origin.now operation owner octets held (candidate operation held) version c.owner-owner.ensures c.in_default.ensures r.read.says refl refl, r.stays)) c.read_owned-len.ensures.read
 
 pub returns-in-Ok-store-clause-applies : goal.returns-in-Ok-store-clause-applies
 returns-in-Ok-store-clause-applies g c =
@@ -41,18 +40,9 @@ returns-in-Ok-store-clause-applies g c =
     let octets = take c.read_owned-len.result c.read_owned-len.new.item in
     edits_on 0 1 1 (Reads owner c.read_owned-len.new.item c.read_owned-len.result) (Stores owner c.in-Ok.before c.in-Ok.entry (Ok tt)) (Applies c.args.origin.now operation (Ok tt))
     c.args.transaction.now.locked.now.draft c.read_owned-len.new.transaction.locked.now.draft c.store.new.transaction.locked.now.draft (omega arith)
-    (λ version e f r.
-    let both = c.in-Ok.ensures (owned owner version) r.read.says in
-    let mine : c.in-Ok.before ≡ owned (owner_of operation) version = subst (λ (n : Name). c.in-Ok.before ≡ owned n version) c.owner-owner.ensures both.0 in
-    let made = made_of c.args.origin.now operation owner octets c.in-Ok.before c.in-Ok.entry (owned owner version) c.owner-owner.ensures c.in_default.ensures r.read.says both.0 both.1 in (
-      version,
-      r.stays,
-      λ y. (
-        put (owner_of operation) c.in-Ok.entry version,
-        accepted c.args.origin.now operation c.in-Ok.before c.in-Ok.entry version mine made,
-        subst (λ (n : Name). WorksOn f (put n c.in-Ok.entry version)) c.owner-owner.ensures (y both.0),
-      ),
-    )) c.read_owned-len.ensures.read c.in-Ok-store.ensures.stores
+    (λ version e f r. let both = c.in-Ok.ensures (owned owner version) r.read.says in
+    let made = made_by c.args.origin.now operation owner octets c.in-Ok.before c.in-Ok.entry version c.owner-owner.ensures c.in_default.ensures r.read.says both.0 both.1 in
+    (version, r.stays, λ y. (put (owner_of operation) c.in-Ok.entry version, made, subst (λ (n : Name). WorksOn f (put n c.in-Ok.entry version)) c.owner-owner.ensures (y both.0)))) c.read_owned-len.ensures.read c.in-Ok-store.ensures.stores
 
 pub returns-clause-applies : goal.returns-clause-applies
 returns-clause-applies g c =
@@ -61,16 +51,6 @@ returns-clause-applies g c =
     let octets = take c.read_owned-len.result c.read_owned-len.new.item in
     edits_on 0 0 0 (Reads owner c.read_owned-len.new.item c.read_owned-len.result) (Stores owner c.in-Ok.before c.in-Ok.entry (Err c.in-Err.field-0)) (Applies c.args.origin.now operation (Err stops.Full))
     c.args.transaction.now.locked.now.draft c.read_owned-len.new.transaction.locked.now.draft c.store.new.transaction.locked.now.draft (omega arith)
-    (λ version e f r.
-    let both = c.in-Ok.ensures (owned owner version) r.read.says in
-    let mine : c.in-Ok.before ≡ owned (owner_of operation) version = subst (λ (n : Name). c.in-Ok.before ≡ owned n version) c.owner-owner.ensures both.0 in
-    let made = made_of c.args.origin.now operation owner octets c.in-Ok.before c.in-Ok.entry (owned owner version) c.owner-owner.ensures c.in_default.ensures r.read.says both.0 both.1 in (
-      version,
-      r.stays,
-      λ y. (
-        put (owner_of operation) c.in-Ok.entry version,
-        accepted c.args.origin.now operation c.in-Ok.before c.in-Ok.entry version mine made,
-        subst (λ (n : Name). put n c.in-Ok.entry version ≡ version → ⊥) c.owner-owner.ensures (y both.0).2,
-        (y both.0).1,
-      ),
-    )) c.read_owned-len.ensures.read c.in-Err.ensures.stores
+    (λ version e f r. let both = c.in-Ok.ensures (owned owner version) r.read.says in
+    let made = made_by c.args.origin.now operation owner octets c.in-Ok.before c.in-Ok.entry version c.owner-owner.ensures c.in_default.ensures r.read.says both.0 both.1 in
+    (version, r.stays, λ y. (put (owner_of operation) c.in-Ok.entry version, made, subst (λ (n : Name). put n c.in-Ok.entry version ≡ version → ⊥) c.owner-owner.ensures (y both.0).2, (y both.0).1))) c.read_owned-len.ensures.read c.in-Err.ensures.stores
