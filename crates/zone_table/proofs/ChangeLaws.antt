@@ -28,6 +28,7 @@ use Rattle.shared_index.specs.Keepings.{GoesOn}
 use Rattle.shared_index.specs.Operations.{operated, applied, below, above, AreWithin}
 use Rattle.shared_index.specs.Passes.{Known, known_at, first_version, version_seen}
 use Rattle.shared_index.proofs.GoesLaws.{base_goes_on, first_goes_on}
+use Rattle.shared_index.proofs.WorkLaws.{Both, both}
 use Rattle.zone_table.specs.Changes.{IsChanged, IsUnchanged, last_number}
 use Rattle.zone_table.specs.Passes.{IsPassOf, table_known}
 use Rattle.zone_table.specs.Tables.{IsTable, IsAmong}
@@ -38,20 +39,6 @@ use Rattle.zone_table.proofs.KnownLaws.{Seat, opened_same, opening_fits, part_mo
 use Rattle.zone_table.proofs.RecallLaws.{recalls_later}
 
 -- ---- drafts that are there
-
-pub record Both (P : Draft → Type 0) (R : Draft → Draft → Type 0) (old new : Option Draft) : Type 0 where
-  pub before : Draft
-  pub after : Draft
-  pub old_is : old ≡ Some before
-  pub new_is : new ≡ Some after
-  pub met : P before
-  pub related : R before after
-
-pub both : (P : Draft → Type 0) (R : Draft → Draft → Type 0) (old new : Option Draft) → IsSomeAnd old P → Between R old new → Both P R old new
-both P R (Some d) (Some e) p r = record { before = d; after = e; old_is = refl; new_is = refl; met = p; related = r }
-both P R (Some d) None p r = absurd r
-both P R None (Some e) p r = absurd r
-both P R None None p r = absurd r
 
 pub there_is : (P : Draft → Type 0) (o : Option Draft) (d : Draft) → o ≡ Some d → IfSome o P → P d
 there_is P o d is h = subst (λ (x : Option Draft). IfSome x P) is h

@@ -102,11 +102,26 @@ module _ {X : Type 0} {N : Ghosts X} (origins : List Name) where
 -- ---- one zone after another
 
 module _ {T X : Type 0} {N : Ghosts X} where
-  pub fewer_belong : (zones : List (Index T X N)) (zone : Index T X N) (lists : List (Vec (Pass X N) Global)) (l : Vec (Pass X N) Global) → Belong (zones ++ zone ∷ []) (lists ++ l ∷ []) → Belong zones lists
+  fewer_belong : (zones : List (Index T X N)) (zone : Index T X N) (lists : List (Vec (Pass X N) Global)) (l : Vec (Pass X N) Global) → Belong (zones ++ zone ∷ []) (lists ++ l ∷ []) → Belong zones lists
   fewer_belong zones zone lists l b = λ k z m iz im. b k z m (get_front zones (zone ∷ []) k z iz) (get_front lists (l ∷ []) k m im)
 
-  pub last_belongs : (zones : List (Index T X N)) (zone : Index T X N) (lists : List (Vec (Pass X N) Global)) (l : Vec (Pass X N) Global) → length lists ≡ length zones → Belong (zones ++ zone ∷ []) (lists ++ l ∷ []) → All (λ p. (IsSome p.seat) × (p.place ≡ zone.place)) l.items
+  last_belongs : (zones : List (Index T X N)) (zone : Index T X N) (lists : List (Vec (Pass X N) Global)) (l : Vec (Pass X N) Global) → length lists ≡ length zones → Belong (zones ++ zone ∷ []) (lists ++ l ∷ []) → All (λ p. (IsSome p.seat) × (p.place ≡ zone.place)) l.items
   last_belongs zones zone lists l same b = b (length zones) zone l (at_seam zones zone []) (ap (slice_get (lists ++ l ∷ [])) (sym same) ∙ at_seam lists l [])
+
+  -- A zone was taken off the end, and a list.
+  pub record Parted (zones front : List (Index T X N)) (zone : Index T X N) (others : List (Vec (Pass X N) Global)) (l : Vec (Pass X N) Global) : Type 0 where
+    pub fewer : length front < length zones
+    pub same : length others ≡ length front
+    pub others_belong : Belong front others
+    pub belongs : All (λ p. (IsSome p.seat) × (p.place ≡ zone.place)) l.items
+
+  pub parted : (zones front : List (Index T X N)) (zone : Index T X N) (lists others : List (Vec (Pass X N) Global)) (l : Vec (Pass X N) Global) → zones ≡ front ++ zone ∷ [] → lists ≡ others ++ l ∷ [] → length lists ≡ length zones → Belong zones lists → Parted zones front zone others l
+  parted zones front zone lists others l zones_are lists_are count here =
+      let more_zones = ap length zones_are ∙ length-append front (zone ∷ []) in
+      let more_lists = ap length lists_are ∙ length-append others (l ∷ []) in
+      let same : length others ≡ length front = omega arith in
+      let b = subst (λ (zs : List (Index T X N)). Belong zs (others ++ l ∷ [])) zones_are (subst (Belong zones) lists_are here) in
+      record { fewer = omega arith; same = same; others_belong = fewer_belong front zone others l b; belongs = last_belongs front zone others l same b }
 
   pub one_more_end : (zones : List (Index T X N)) (zone : Index T X N) (lists : List (Vec (Pass X N) Global)) (l : Vec (Pass X N) Global) (numbers : List ℕ) (number : ℕ) → length lists ≡ length zones → length zones + 1 < length numbers
       → AreEnded zones lists numbers → IsEnd zone.shared.table.shared.key.passes (map (λ p. known_at p.seat) l.items) number → AreEnded (zones ++ zone ∷ []) (lists ++ l ∷ []) (set numbers (length zones + 1) number)

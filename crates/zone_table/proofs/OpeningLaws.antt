@@ -79,3 +79,16 @@ module _ {B : Type 0} (key : B → TableSize) (zones : List ZoneItems) (blanks f
         all = ap (λ (l : List B). places_of zones (map key l)) is ∙ ap (places_of zones) (map-append key front (blank ∷ []))
             ∙ places_more zones (map key front) (record { zone = z; size = key blank }) (ap (slice_get zones) count ∙ there);
       }
+
+-- it is opened too, or memory is wanting
+pub opens_last : {B X Y : Type 0} {N : Ghosts Y} {key : B → TableSize} {zones : List ZoneItems} {blanks front : List B} {blank : B} {last : ℕ} {z : ZoneItems} → IsLast key zones blanks front blank last z → (others : List (Opened X Y N)) (o : Opened X Y N) (r : Result (Vec (Opened X Y N) Global) ZonesRefusal) → MatchResult r (λ all. all.items ≡ others ++ o ∷ []) (λ e. e ≡ Memory)
+    → AreBegun (places_of zones (map key front)) others → IsBegun (last + 1) (key blank) (entries_in z) o → OpensZones (places_of zones (map key blanks)) r
+opens_last {key = key} {zones = zones} {front = front} {blank = blank} {z = z} l others o r told h b =
+    subst (λ (places : List Place). OpensZones places r) (sym l.all)
+    (opens_more (places_of zones (map key front)) (record { zone = z; size = key blank }) others o r told h (subst (λ (n : ℕ). IsBegun (n + 1) (key blank) (entries_in z) o) (sym l.many) b))
+
+-- it may fit, and the others are refused
+pub refuses_still : {B : Type 0} {key : B → TableSize} {zones : List ZoneItems} {blanks front : List B} {blank : B} {last : ℕ} {z : ZoneItems} → IsLast key zones blanks front blank last z → (e : ZonesRefusal)
+    → RefusesZones (places_of zones (map key front)) e → MayFit (record { zone = z; size = key blank }) → RefusesZones (places_of zones (map key blanks)) e
+refuses_still {key = key} {zones = zones} {front = front} {blank = blank} {z = z} l e h fits =
+    subst (λ (places : List Place). RefusesZones places e) (sym l.all) (kept (places_of zones (map key front)) (record { zone = z; size = key blank }) e h fits)

@@ -5,10 +5,10 @@ use Rattle.trie_write.specs.Entries.{entries_of_items}
 use Rattle.shared_index.specs.Openings.{Refuses, room_in}
 use Rattle.zone_table.specs.declared.opening.Opened.{Opened}
 use Rattle.zone_table.specs.declared.opening.ZoneItems.{ZoneItems}
-use Rattle.zone_table.specs.Openings.{Place, places_of, entries_in, MayFit, OpensZones, RefusesZones, IsBegun}
+use Rattle.zone_table.specs.Openings.{Place, places_of, RefusesZones, IsBegun}
 use Rattle.zone_table.proofs.Lists.{at_seam, get_front, none_left}
-use Rattle.zone_table.proofs.RefusalLaws.{no_places, kept}
-use Rattle.zone_table.proofs.OpeningLaws.{none_begun, so_far_is, opens_more, is_last}
+use Rattle.zone_table.proofs.RefusalLaws.{no_places}
+use Rattle.zone_table.proofs.OpeningLaws.{none_begun, so_far_is, is_last, opens_last, refuses_still}
 use Rattle.zone_table.proofs.opening.+open_each.Goals as goal
 
 pub returns-in_default : goal.returns-in_default
@@ -57,37 +57,26 @@ pub returns-in-Ok-others : goal.returns-in-Ok-others
 returns-in-Ok-others g t c =
     let l = is_last (λ b. b.shared.table.shared.key) c.args.zones.now c.args.blanks.items c.pop.new.self.items c.in-Some.blank c.len-last.result c.index-zones-last.result
     c.in-Some.ensures.items c.requires.enough (let e = c.len-last.ensures in omega arith) c.index-zones-last.is in
-    let sizes = map (λ b. b.shared.table.shared.key) c.pop.new.self.items in
-    let front = places_of c.args.zones.now sizes in
-    let p : Place = record { zone = c.index-zones-last.result; size = c.in-Some.blank.shared.table.shared.key } in
     let items = c.deref.ensures.value ∙ ap (λ (x : ZoneItems). x.items.items) (sym c.index-zones-last.is) in
     let o : Opened g.row.L.Denot g.row.N.Denot g.N.Named = record { index = c.in-Ok.index; passes = c.in-Ok.passes } in
-    let number : c.len-last.result + 1 ≡ length front + 1 = ap (λ n. n + 1) (sym l.many) in
-    let begun : IsBegun (length front + 1) p.size (entries_in p.zone) o = subst (λ n. IsBegun n p.size (entries_in p.zone) o) number
-    (subst (λ xs. IsBegun (c.len-last.result + 1) p.size (entries_of_items xs) o) items
-    (record { place = c.in-Ok.ensures.place; size_is = c.in-Ok.ensures.size; passes = c.in-Ok.ensures.passes; unused = c.in-Ok.ensures.unused; count = c.in-Ok.ensures.count; all = c.in-Ok.ensures.all; fits = c.in-Ok.ensures.fits })) in
-    subst (λ (places : List Place). OpensZones places c.with_last.result) (sym l.all)
-    (opens_more front p c.in-Ok-others.others.items o c.with_last.result c.with_last.ensures c.in-Ok-others.ensures begun)
+    opens_last l c.in-Ok-others.others.items o c.with_last.result c.with_last.ensures c.in-Ok-others.ensures
+    (subst (λ xs. IsBegun (c.len-last.result + 1) c.in-Some.blank.shared.table.shared.key (entries_of_items xs) o) items
+    (record { place = c.in-Ok.ensures.place; size_is = c.in-Ok.ensures.size; passes = c.in-Ok.ensures.passes; unused = c.in-Ok.ensures.unused; count = c.in-Ok.ensures.count; all = c.in-Ok.ensures.all; fits = c.in-Ok.ensures.fits }))
 
 pub returns-in-Err-others : goal.returns-in-Err-others
 returns-in-Err-others g t c =
     let l = is_last (λ b. b.shared.table.shared.key) c.args.zones.now c.args.blanks.items c.pop.new.self.items c.in-Some.blank c.len-last.result c.index-zones-last.result
     c.in-Some.ensures.items c.requires.enough (let e = c.len-last.ensures in omega arith) c.index-zones-last.is in
-    let sizes = map (λ b. b.shared.table.shared.key) c.pop.new.self.items in
-    let front = places_of c.args.zones.now sizes in
-    let p : Place = record { zone = c.index-zones-last.result; size = c.in-Some.blank.shared.table.shared.key } in
     let items = c.deref.ensures.value ∙ ap (λ (x : ZoneItems). x.items.items) (sym c.index-zones-last.is) in
-    let fits : MayFit p = inl (subst (λ xs. cells (entries_of_items xs) ≤ room_in p.size.chunks) items c.in-Ok.ensures.fits) in
-    subst (λ (places : List Place). RefusesZones places c.in-Err-others.refusal) (sym l.all) (kept front p c.in-Err-others.refusal c.in-Err-others.ensures fits)
+    refuses_still l c.in-Err-others.refusal c.in-Err-others.ensures (inl (subst (λ xs. cells (entries_of_items xs) ≤ room_in c.in-Some.blank.shared.table.shared.key.chunks) items c.in-Ok.ensures.fits))
 
 pub returns-in-Err : goal.returns-in-Err
 returns-in-Err g t c =
     let l = is_last (λ b. b.shared.table.shared.key) c.args.zones.now c.args.blanks.items c.pop.new.self.items c.in-Some.blank c.len-last.result c.index-zones-last.result
     c.in-Some.ensures.items c.requires.enough (let e = c.len-last.ensures in omega arith) c.index-zones-last.is in
-    let sizes = map (λ b. b.shared.table.shared.key) c.pop.new.self.items in
-    let front = places_of c.args.zones.now sizes in
-    let p : Place = record { zone = c.index-zones-last.result; size = c.in-Some.blank.shared.table.shared.key } in
     let items = c.deref.ensures.value ∙ ap (λ (x : ZoneItems). x.items.items) (sym c.index-zones-last.is) in
-    let so_far : RefusesZones front c.refusal_of.result = so_far_is front c.open_each-others.result c.refusal_of.result c.refusal_of.ensures c.open_each-others.ensures in
-    let last_told : Refuses p.size.chunks (entries_in p.zone) c.in-Err.refusal = subst (λ xs. Refuses p.size.chunks (entries_of_items xs) c.in-Err.refusal) items c.in-Err.ensures.full in
-    subst (λ (places : List Place). RefusesZones places c.told.result) (sym l.all) (c.told.ensures sizes p l.count l.there so_far last_told)
+    let p : Place = record { zone = c.index-zones-last.result; size = c.in-Some.blank.shared.table.shared.key } in
+    let sizes = map (λ b. b.shared.table.shared.key) c.pop.new.self.items in
+    let so_far : RefusesZones (places_of c.args.zones.now sizes) c.refusal_of.result = so_far_is (places_of c.args.zones.now sizes) c.open_each-others.result c.refusal_of.result c.refusal_of.ensures c.open_each-others.ensures in
+    subst (λ (places : List Place). RefusesZones places c.told.result) (sym l.all)
+    (c.told.ensures sizes p l.count l.there so_far (subst (λ xs. Refuses p.size.chunks (entries_of_items xs) c.in-Err.refusal) items c.in-Err.ensures.full))
