@@ -14,7 +14,7 @@ use Rattle.shared_index.specs.Closings.{AllSeen, Includes, AreAll, IsCommitOf, I
 use Rattle.job_commands.specs.Histories.{Setup, Commit}
 use Rattle.job_commands.specs.Closings.{Some', AreApart, Worker, second_view, workers_views, views_of, numbers_in, IsPass, Closed, MainSees}
 use Rattle.job_commands.proofs.HistoryLaws.{by-append, begins_more}
-use Rattle.job_commands.proofs.JobLaws.{behind, here, there, second_all}
+use Rattle.job_commands.proofs.JobLaws.{HasEntries, behind, here, there, second_all}
 
 abbrev Own : Type 0
 Own = PassView (List Operation)
@@ -29,7 +29,7 @@ each_rec : {A : Type 0} (P : A → Type 0) (xs : List A) → ((x : A) → Contai
 each_rec P [] h = tt
 each_rec P (x ∷ xs) h = (h x (here x xs), each_rec P xs (λ y c. h y (there x y xs c)))
 
-some_of : {A : Type 0} (P : A → Type 0) (xs : List A) (x : A) → Contains xs x → P x → Some' P xs
+pub some_of : {A : Type 0} (P : A → Type 0) (xs : List A) (x : A) → Contains xs x → P x → Some' P xs
 some_of P [] x c p = absurd (let l = c.1 in omega arith)
 some_of P (y ∷ ys) x c p = ⊎_elim (λ e. inl (subst P (sym e) p)) (λ more. inr (some_of P ys x more p)) (contains_cases y x ys c)
 
@@ -102,12 +102,16 @@ exact_entries author own all committed more mine front =
     nil [] = refl
     nil (x ∷ l) = ap (λ (m : List Commit). x ∷ m) (nil l)
 
-module _ (s : Setup) (last : AllSeen) (main : Known) where
-  abbrev HasEntries : Known → Type 0
-  HasEntries v = (own : Own) → v.pass ≡ Some own → own.entries ≡ entries_by own.number last.history
+pub pass_of : (v : Known) (number : ℕ) → number_of v.pass ≡ number + 1 → IsPass number v
+pass_of v number e = by_pass v.pass refl e
+  where
+    by_pass : (p : Option Own) → v.pass ≡ p → number_of p ≡ number + 1 → IsPass number v
+    by_pass None is h = absurd (omega arith)
+    by_pass (Some own) is h = (own, is, omega arith)
 
+module _ (last : AllSeen) where
   -- a pass that has committed nothing
-  none_entries : (v : Known) (own : Own) → v.pass ≡ Some own → own.entries ≡ [] → Includes last v → HasEntries v
+  pub none_entries : (v : Known) (own : Own) → v.pass ≡ Some own → own.entries ≡ [] → Includes last v → HasEntries last.history v
   none_entries v own is none i = λ own' is'.
       let same : own'.entries ≡ [] = ap (λ (p : Option Own). entries_of p) (sym is' ∙ is) ∙ none in
       exact_entries own'.number own'.entries last.history [] (i.commits own' is') same (last.history, refl)
@@ -116,44 +120,37 @@ module _ (s : Setup) (last : AllSeen) (main : Known) where
       entries_of None = []
       entries_of (Some o) = o.entries
 
-  asker_entries : (w : Worker s) → Includes last w.station.asks → HasEntries w.station.asks
-  asker_entries w i = λ own is.
-      let k = w.ran.work in
-      let same : ◌≡◌ {A = Option Own} (Some k.asker) (Some own) = sym k.is_asker ∙ is in
-      let exact : k.asker.entries ≡ entries_by k.asker.number last.history =
-      exact_entries k.asker.number k.asker.entries last.history k.committed (i.commits k.asker k.is_asker) k.mine (begins_more last.history w.station.asks.seen.history k.committed i.seen.history k.front) in
-      let one : k.asker ≡ own = cc in
-      subst (λ (x : Own). x.entries ≡ entries_by x.number last.history) one exact
+  -- one whose commits are those of a part that it has seen
+  pub part_entries : (v : Known) (asker : Own) (committed : List Commit) → v.pass ≡ Some asker → StartsWith v.seen.history committed → asker.entries ≡ entries_by asker.number committed → Includes last v → HasEntries last.history v
+  part_entries v asker committed is_asker front mine i = λ own is.
+      let same : ◌≡◌ {A = Option Own} (Some asker) (Some own) = sym is_asker ∙ is in
+      let one : asker ≡ own = cc in
+      subst (λ (x : Own). x.entries ≡ entries_by x.number last.history) one
+      (exact_entries asker.number asker.entries last.history committed (i.commits asker is_asker) mine (begins_more last.history v.seen.history committed i.seen.history front))
 
+  pub seen_all : (views : List Known) → AllByRecursion (Includes last) views → AllByRecursion (λ (v : Known). StartsWith last.history v.seen.history) views × AllByRecursion (λ (v : Known). StartsWith last.namings v.seen.namings) views
+  seen_all [] i = (tt, tt)
+  seen_all (v ∷ views) i = let more = seen_all views i.1 in ((i.0.seen.history, more.0), (i.0.seen.namings, more.1))
+
+module _ (s : Setup) (last : AllSeen) (main : Known) where
   -- a fact of a worker's second pass, if it has one, and of all behind it
   with_second : (P : Known → Type 0) (two : Bool) (second : Known) (others : List Known) → (two ≡ true → P second) → AllByRecursion P (others ++ main ∷ []) → AllByRecursion P ((second_view two second ++ others) ++ main ∷ [])
   with_second P true second others here all = (here refl, all)
   with_second P false second others here all = all
 
-  all_entries : (ws : List (Worker s)) (own : Own) → main.pass ≡ Some own → own.entries ≡ [] → AllByRecursion (Includes last) (views_of main ws) → AllByRecursion HasEntries (views_of main ws)
-  all_entries [] own is none i = (none_entries main own is none i.0, tt)
+  all_entries : (ws : List (Worker s)) (own : Own) → main.pass ≡ Some own → own.entries ≡ [] → AllByRecursion (Includes last) (views_of main ws) → AllByRecursion (HasEntries last.history) (views_of main ws)
+  all_entries [] own is none i = (none_entries last main own is none i.0, tt)
   all_entries (w ∷ ws) own is none i = (
-    asker_entries w i.0,
-    with_second HasEntries w.has_second w.station.holds (workers_views ws)
-        (λ two. none_entries w.station.holds w.ran.work.holder w.ran.work.is_holder w.ran.work.none_held (second_all (Includes last) w.has_second w.station.holds (workers_views ws) main two i.1))
+    (let k = w.ran.work in part_entries last w.station.asks k.asker k.committed k.is_asker k.front k.mine i.0),
+    with_second (HasEntries last.history) w.has_second w.station.holds (workers_views ws)
+        (λ two. none_entries last w.station.holds w.ran.work.holder w.ran.work.is_holder w.ran.work.none_held (second_all (Includes last) w.has_second w.station.holds (workers_views ws) main two i.1))
         (all_entries ws own is none (behind main (Includes last) w ws i)),
   )
-
-  seen_all : (views : List Known) → AllByRecursion (Includes last) views → AllByRecursion (λ (v : Known). StartsWith last.history v.seen.history) views × AllByRecursion (λ (v : Known). StartsWith last.namings v.seen.namings) views
-  seen_all [] i = (tt, tt)
-  seen_all (v ∷ views) i = let more = seen_all views i.1 in ((i.0.seen.history, more.0), (i.0.seen.namings, more.1))
-
-  pass_of : (v : Known) (number : ℕ) → number_of v.pass ≡ number + 1 → IsPass number v
-  pass_of v number e = by_pass v.pass refl e
-    where
-      by_pass : (p : Option Own) → v.pass ≡ p → number_of p ≡ number + 1 → IsPass number v
-      by_pass None is h = absurd (omega arith)
-      by_pass (Some own) is h = (own, is, omega arith)
 
   pub closed : (count version : ℕ) (ws : List (Worker s)) → MainSees main ws → Ends count (views_of main ws) version last → AreAll count (views_of main ws) → length (views_of main ws) ≡ count → Closed (views_of main ws) last.history last.namings
   closed count version ws m e all long =
       let each = all_rec (Includes last) (views_of main ws) e.each in
-      let seen = seen_all (views_of main ws) each in
+      let seen = seen_all last (views_of main ws) each in
       record {
         begins = seen.0;
         names = seen.1;

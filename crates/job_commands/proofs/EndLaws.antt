@@ -28,12 +28,12 @@ use Rattle.job_commands.proofs.CloseLaws.{in_map, closed}
 abbrev Own : Type 0
 Own = PassView (List Operation)
 
-out_of : {A B : Type 0} (f : A → B) (xs : List A) (y : B) → Contains (map f xs) y → (x : A) × Contains xs x × (f x ≡ y)
+pub out_of : {A B : Type 0} (f : A → B) (xs : List A) (y : B) → Contains (map f xs) y → (x : A) × Contains xs x × (f x ≡ y)
 out_of f [] y c = absurd (let l = c.1 in omega arith)
 out_of f (x ∷ xs) y c =
     ⊎_elim (λ (e : f x ≡ y). (x, here x xs, e)) (λ (more : Contains (map f xs) y). let r = out_of f xs y more in (r.0, there x r.0 xs r.1, r.2)) (contains_cases (f x) y (map f xs) c)
 
-numbers_same : (vs : List Known) (a b : Known) → number_of a.pass ≡ number_of b.pass → numbers_in (vs ++ a ∷ []) ≡ numbers_in (vs ++ b ∷ [])
+pub numbers_same : (vs : List Known) (a b : Known) → number_of a.pass ≡ number_of b.pass → numbers_in (vs ++ a ∷ []) ≡ numbers_in (vs ++ b ∷ [])
 numbers_same [] a b e = ap (λ (n : ℕ). n ∷ []) e
 numbers_same (v ∷ vs) a b e = ap (λ (ks : List ℕ). number_of v.pass ∷ ks) (numbers_same vs a b e)
 

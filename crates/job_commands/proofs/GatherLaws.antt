@@ -1,10 +1,9 @@
 -- Workers that are done, one after another.
-use Rattle.std.proofs.Common.{true, false, ◌≡◌, ◌∙◌, ⊎_elim, ℕ, suc, ◌+◌, List, [], ◌∷◌, ◌++◌, length, map, Result, Ok, IfOk, refl, sym, ap, subst, arith, length-append}
+use Rattle.std.proofs.Common.{true, false, ◌≡◌, ◌∙◌, ⊎_elim, ℕ, suc, ◌+◌, List, [], ◌∷◌, ◌++◌, length, map, Result, Ok, IfOk, refl, sym, ap, subst, arith, append_assoc, length-append}
 use Rattle.std.specs.Prelude.{Contains}
 use Rattle.std.specs.List.{All}
 use Rattle.std.proofs.lemmas.List.{map-append}
-use Rattle.std.proofs.lemmas.List.Elements.{All-cons, Contains-append_cases}
-use Rattle.pin_core.proofs.Lists.{contains_cases}
+use Rattle.std.proofs.lemmas.List.Elements.{All-cons, Contains-append_left, Contains-append_right, Contains-append_cases}
 use Rattle.zone_model.specs.Names.{Name}
 use Rattle.job_model.specs.Commands.{Command}
 use Rattle.job_script.specs.declared.outcomes.Outcomes.{Outcomes}
@@ -15,9 +14,8 @@ use Rattle.shared_index.specs.Passes.{Known, Learnt}
 use Rattle.job_commands.specs.Histories.{Setup, Entries}
 use Rattle.job_commands.specs.Commands.{IsIndex, IsSetup}
 use Rattle.job_commands.specs.Works.{IsNew, AreNew, WorkerRan, ended, only}
-use Rattle.job_commands.specs.Closings.{Worker, workers_views, views_of, numbers_in, Gathers}
+use Rattle.job_commands.specs.Closings.{Worker, worker_views, workers_views, views_of, numbers_in, Gathers}
 use Rattle.job_commands.proofs.HistoryLaws.{begins_more, opened_same}
-use Rattle.job_commands.proofs.JobLaws.{here, there}
 use Rattle.job_commands.proofs.WorkLaws.{all_weaker}
 
 -- main's pass alone
@@ -55,25 +53,24 @@ pub numbers_main : (main after : Known) → after.pass ≡ main.pass → (vs : L
 numbers_main main after same [] = ap (λ p. number_of p ∷ []) (sym same)
 numbers_main main after same (v ∷ vs) = ap (λ (ks : List ℕ). number_of v.pass ∷ ks) (numbers_main main after same vs)
 
--- another worker, whose only pass was the last one
-pub gathers_one : (s : Setup) (before : List Known) (pass : Known) (ws : List (List Command)) (os : List Outcomes) (views : List Known) (main after pass' : Known) (number : ℕ) (w : List Command) (o : Outcomes)
-    → Gathers s before ws os views main → WorkerRan s (only number) (ended pass' pass) w o.list.items → number_of pass.pass ≡ number_of pass'.pass → is_told main.seen.opening ≡ true → Learnt main after pass'.seen
-    → Gathers s (before ++ pass ∷ []) (w ∷ ws) (o ∷ os) (pass' ∷ views) after
-gathers_one s before pass ws os views main after pass' number w o g r same told l =
+-- another worker, whose passes were the last ones
+pub gathers_with : (s : Setup) (before mine : List Known) (ws : List (List Command)) (os : List Outcomes) (views : List Known) (main after : Known) (u : Worker s) → Gathers s before ws os views main → length mine ≡ length (worker_views u)
+    → ((m : ℕ) → Contains (numbers_in mine) m → Contains (numbers_in (worker_views u)) m) → is_told main.seen.opening ≡ true → Learnt main after u.station.asks.seen
+    → Gathers s (before ++ mine) (u.commands ∷ ws) (u.outcomes ∷ os) (worker_views u ++ views) after
+gathers_with s before mine ws os views main after u g long back told l =
+    let numbers : numbers_in (views_of after (u ∷ g.done)) ≡ numbers_in (worker_views u) ++ numbers_in (views_of after g.done) =
+    ap numbers_in (append_assoc (worker_views u) (workers_views g.done) (after ∷ [])) ∙ numbers_append (worker_views u) (views_of after g.done) in
     record {
-      done = record { numbers = only number; station = ended pass' pass; has_second = false; commands = w; outcomes = o; ran = r } ∷ g.done;
-      commands_are = ap (λ (ls : List (List Command)). w ∷ ls) g.commands_are;
-      outcomes_are = ap (λ (ls : List Outcomes). o ∷ ls) g.outcomes_are;
-      views_are = ap (λ (vs : List Known). pass' ∷ vs) g.views_are;
-      as_many = (let many = g.as_many in omega (arith, many, length-append before (pass ∷ [])));
-      all_back = λ m c.
-          ⊎_elim
-          (λ (old : Contains (numbers_in before) m).
-          there (number_of pass'.pass) m (numbers_in (views_of after g.done)) (subst (λ (ks : List ℕ). Contains ks m) (numbers_main main after l.pass (workers_views g.done)) (g.all_back m old)))
-          (λ (new : Contains (number_of pass.pass ∷ []) m). ⊎_elim
-          (λ (is : number_of pass.pass ≡ m). subst (λ (k : ℕ). Contains (number_of pass'.pass ∷ numbers_in (views_of after g.done)) k) (sym same ∙ is) (here (number_of pass'.pass) (numbers_in (views_of after g.done))))
-          (λ (none : Contains [] m). absurd (let lt = none.1 in omega arith)) (contains_cases (number_of pass.pass) m [] new))
-          (Contains-append_cases (numbers_in before) (number_of pass.pass ∷ []) m (subst (λ (ks : List ℕ). Contains ks m) (numbers_append before (pass ∷ [])) c));
+      done = u ∷ g.done;
+      commands_are = ap (λ (ls : List (List Command)). u.commands ∷ ls) g.commands_are;
+      outcomes_are = ap (λ (ls : List Outcomes). u.outcomes ∷ ls) g.outcomes_are;
+      views_are = ap (λ (vs : List Known). worker_views u ++ vs) g.views_are;
+      as_many = (let many = g.as_many in omega (arith, many, long, length-append before mine, length-append (worker_views u) views));
+      all_back = λ m c. subst (λ (ks : List ℕ). Contains ks m) (sym numbers) (⊎_elim
+          (λ (old : Contains (numbers_in before) m). Contains-append_right (numbers_in (worker_views u)) (numbers_in (views_of after g.done)) m
+          (subst (λ (ks : List ℕ). Contains ks m) (numbers_main main after l.pass (workers_views g.done)) (g.all_back m old)))
+          (λ (new : Contains (numbers_in mine) m). Contains-append_left (numbers_in (worker_views u)) (numbers_in (views_of after g.done)) m (back m new))
+          (Contains-append_cases (numbers_in before) (numbers_in mine) m (subst (λ (ks : List ℕ). Contains ks m) (numbers_append before mine) c)));
       own = g.own;
       is_own = l.pass ∙ g.is_own;
       none = g.none;
@@ -85,6 +82,14 @@ gathers_one s before pass ws os views main after pass' number w o g r same told 
             (λ u b. begins_more after.seen.history main.seen.history u.station.asks.seen.history l.grows.history b) g.learnt,
       );
     }
+
+-- it had one
+gathers_one : (s : Setup) (before : List Known) (pass : Known) (ws : List (List Command)) (os : List Outcomes) (views : List Known) (main after pass' : Known) (number : ℕ) (w : List Command) (o : Outcomes)
+    → Gathers s before ws os views main → WorkerRan s (only number) (ended pass' pass) w o.list.items → number_of pass.pass ≡ number_of pass'.pass → is_told main.seen.opening ≡ true → Learnt main after pass'.seen
+    → Gathers s (before ++ pass ∷ []) (w ∷ ws) (o ∷ os) (pass' ∷ views) after
+gathers_one s before pass ws os views main after pass' number w o g r same told l =
+    gathers_with s before (pass ∷ []) ws os views main after (record { numbers = only number; station = ended pass' pass; has_second = false; commands = w; outcomes = o; ran = r }) g refl
+    (λ m c. subst (λ (k : ℕ). Contains (k ∷ []) m) same c) told l
 
 -- ---- passes taken from the end of a list, and put in in front of one
 

@@ -32,18 +32,18 @@ here x xs = Contains-append_left (x ∷ []) xs x (Contains-push [] x)
 pub there : {A : Type 0} (y x : A) (xs : List A) → Contains xs x → Contains (y ∷ xs) x
 there y x xs h = Contains-append_right (y ∷ []) xs x h
 
-all-append : {X : Type 0} (P : X → Type 0) (xs ys : List X) → AllByRecursion P xs → AllByRecursion P ys → AllByRecursion P (xs ++ ys)
+pub all-append : {X : Type 0} (P : X → Type 0) (xs ys : List X) → AllByRecursion P xs → AllByRecursion P ys → AllByRecursion P (xs ++ ys)
 all-append P [] ys a b = b
 all-append P (x ∷ xs) ys a b = (a.0, all-append P xs ys a.1 b)
 
 -- ---- the commit that made a version
 
-record Author (history : List Commit) (j : ℕ) : Type 0 where
-  commit : Commit
-  inside : Contains history commit
-  times : (author : ℕ) → times_by author j history ≡ cond (eqb commit.author author) 1 0
+pub record Author (history : List Commit) (j : ℕ) : Type 0 where
+  pub commit : Commit
+  pub inside : Contains history commit
+  pub times : (author : ℕ) → times_by author j history ≡ cond (eqb commit.author author) 1 0
 
-author_of : (history : List Commit) (j : ℕ) → 0 < j → j ≤ length history → Author history j
+pub author_of : (history : List Commit) (j : ℕ) → 0 < j → j ≤ length history → Author history j
 author_of [] j some le = absurd (omega arith)
 author_of (e ∷ history) zero some le = absurd (omega arith)
 author_of (e ∷ history) (suc zero) some le = record { commit = e; inside = here e history; times = λ author. refl }
@@ -51,6 +51,35 @@ author_of (e ∷ history) (suc (suc j)) some le = further (author_of history (su
   where
     further : Author history (suc j) → Author (e ∷ history) (suc (suc j))
     further a = record { commit = a.commit; inside = there e a.commit history a.inside; times = a.times }
+
+-- ---- what a history has of a pass
+
+-- the pass has told of just its commits in it
+abbrev pub HasEntries : List Commit → Known → Type 0
+HasEntries history v = (own : Own) → v.pass ≡ Some own → own.entries ≡ entries_by own.number history
+
+abbrev pub number_in : Option Own → ℕ
+number_in None = 0
+number_in (Some o) = o.number
+
+-- a pass that has committed nothing made no version
+pub no_commits : (history : List Commit) (j : ℕ) (v : Known) (own : Own) (a : Author history j) → v.pass ≡ Some own → own.entries ≡ [] → HasEntries history v → IsPass a.commit.author v → ⊥
+no_commits history j v own a is none entries pass =
+    let same : own.number ≡ a.commit.author = ap number_in (sym is ∙ pass.1) ∙ pass.2 in
+    let empty : entries_by own.number history ≡ [] = sym (entries own is) ∙ none in
+    let zero_times : times_by own.number j history ≡ 0 = times_none own.number j history empty in
+    let one : times_by own.number j history ≡ 1 = a.times own.number ∙ ap (λ (b : Bool). cond b 1 0) (eq-eqb a.commit.author own.number (sym same)) in
+    absurd (let z : 0 ≡ 1 = sym zero_times ∙ one in cc)
+
+-- it is no longer than what was seen of it, if nothing comes behind that
+pub nothing_past : (history seen : List Commit) → StartsWith history seen → (0 < length history → length seen < length history → ⊥) → history ≡ seen
+nothing_past history seen front never = by_rest front.0 front.1
+  where
+    by_rest : (rest : List Commit) → history ≡ seen ++ rest → history ≡ seen
+    by_rest [] e = e ∙ append-nil seen
+    by_rest (x ∷ rest) e =
+        let long : length history ≡ length seen + suc (length rest) = ap length e ∙ length-append seen (x ∷ rest) in
+        absurd (never (omega (arith, long)) (omega (arith, long)))
 
 -- ---- passes, with a second one of a worker or without
 
@@ -85,14 +114,11 @@ module _ (s : Setup) (history : List Commit) (namings : List Naming) (main : Kno
   total j [] = 0
   total j (w ∷ ws) = times_by w.numbers.asker j history + total j ws
 
-  abbrev HasEntries : Known → Type 0
-  HasEntries v = (own : Own) → v.pass ≡ Some own → own.entries ≡ entries_by own.number history
-
   abbrev Sees : Known → Type 0
   Sees v = StartsWith history v.seen.history
 
   -- of a worker's commits the history has those up to its last one
-  whole_times : (w : Worker s) (j : ℕ) → HasEntries w.station.asks → Sees w.station.asks → times_made j (pairs_of w.commands w.outcomes.list.items) ≡ times_by w.numbers.asker j history
+  whole_times : (w : Worker s) (j : ℕ) → HasEntries history w.station.asks → Sees w.station.asks → times_made j (pairs_of w.commands w.outcomes.list.items) ≡ times_by w.numbers.asker j history
   whole_times w j entries sees =
       let k = w.ran.work in
       let all = entries k.asker k.is_asker in
@@ -103,37 +129,25 @@ module _ (s : Setup) (history : List Commit) (namings : List Naming) (main : Kno
   abbrev Made : List (Worker s) → Pairs
   Made ws = all_pairs (job_pairs (commands_in ws) (outcomes_in ws))
 
-  all_times : (ws : List (Worker s)) (j : ℕ) → AllByRecursion HasEntries (views_of main ws) → AllByRecursion Sees (views_of main ws) → times_made j (Made ws) ≡ total j ws
+  all_times : (ws : List (Worker s)) (j : ℕ) → AllByRecursion (HasEntries history) (views_of main ws) → AllByRecursion Sees (views_of main ws) → times_made j (Made ws) ≡ total j ws
   all_times [] j e b = refl
   all_times (w ∷ ws) j e b =
       times-append j (pairs_of w.commands w.outcomes.list.items) (Made ws)
       ∙ ap (λ (k : ℕ). k + times_made j (Made ws)) (whole_times w j e.0 b.0)
-      ∙ ap (λ (k : ℕ). times_by w.numbers.asker j history + k) (all_times ws j (behind main HasEntries w ws e) (behind main Sees w ws b))
+      ∙ ap (λ (k : ℕ). times_by w.numbers.asker j history + k) (all_times ws j (behind main (HasEntries history) w ws e) (behind main Sees w ws b))
 
   -- a commit's pass is one of the workers' first passes
   abbrev Among : ℕ → List (Worker s) → Type 0
   Among author ws = Some' (λ (w : Worker s). w.numbers.asker ≡ author) ws
 
-  abbrev number_in : Option Own → ℕ
-  number_in None = 0
-  number_in (Some o) = o.number
-
-  no_commits : (author j : ℕ) (v : Known) (own : Own) (a : Author history j) → v.pass ≡ Some own → own.entries ≡ [] → HasEntries v → IsPass a.commit.author v → ⊥
-  no_commits author j v own a is none entries pass =
-      let same : own.number ≡ a.commit.author = ap number_in (sym is ∙ pass.1) ∙ pass.2 in
-      let empty : entries_by own.number history ≡ [] = sym (entries own is) ∙ none in
-      let zero_times : times_by own.number j history ≡ 0 = times_none own.number j history empty in
-      let one : times_by own.number j history ≡ 1 = a.times own.number ∙ ap (λ (b : Bool). cond b 1 0) (eq-eqb a.commit.author own.number (sym same)) in
-      absurd (let z : 0 ≡ 1 = sym zero_times ∙ one in cc)
-
-  among : (ws : List (Worker s)) (j : ℕ) (a : Author history j) (own : Own) → main.pass ≡ Some own → own.entries ≡ [] → AllByRecursion HasEntries (views_of main ws) → Some' (IsPass a.commit.author) (views_of main ws) → Among a.commit.author ws
-  among [] j a own is none e (inl pass) = absurd (no_commits 0 j main own a is none e.0 pass)
+  among : (ws : List (Worker s)) (j : ℕ) (a : Author history j) (own : Own) → main.pass ≡ Some own → own.entries ≡ [] → AllByRecursion (HasEntries history) (views_of main ws) → Some' (IsPass a.commit.author) (views_of main ws) → Among a.commit.author ws
+  among [] j a own is none e (inl pass) = absurd (no_commits history j main own a is none e.0 pass)
   among [] j a own is none e (inr more) = absurd more
   among (w ∷ ws) j a own is none e (inl pass) = inl (sym w.ran.asker ∙ ap number_in (sym w.ran.work.is_asker ∙ pass.1) ∙ pass.2)
   among (w ∷ ws) j a own is none e (inr more) = ⊎_elim
       (λ (second : (w.has_second ≡ true) × IsPass a.commit.author w.station.holds).
-      absurd (no_commits 0 j w.station.holds w.ran.work.holder a w.ran.work.is_holder w.ran.work.none_held (second_all HasEntries w.has_second w.station.holds (workers_views ws) main second.0 e.1) second.1))
-      (λ (further : Some' (IsPass a.commit.author) (views_of main ws)). inr (among ws j a own is none (behind main HasEntries w ws e) further))
+      absurd (no_commits history j w.station.holds w.ran.work.holder a w.ran.work.is_holder w.ran.work.none_held (second_all (HasEntries history) w.has_second w.station.holds (workers_views ws) main second.0 e.1) second.1))
+      (λ (further : Some' (IsPass a.commit.author) (views_of main ws)). inr (among ws j a own is none (behind main (HasEntries history) w ws e) further))
       (rest_some (IsPass a.commit.author) w.has_second w.station.holds (workers_views ws) main more)
 
   -- once, since their numbers are apart
@@ -194,7 +208,7 @@ module _ (s : Setup) (history : List Commit) (namings : List Naming) (main : Kno
 
   -- ---- the history ends with what main has seen
 
-  beyond : (ws : List (Worker s)) (j most : ℕ) → AllByRecursion HasEntries (views_of main ws) → AllByRecursion Sees (views_of main ws) → AllByRecursion (λ (w : Worker s). length w.station.asks.seen.history ≤ most) ws → most < j → total j ws ≡ 0
+  beyond : (ws : List (Worker s)) (j most : ℕ) → AllByRecursion (HasEntries history) (views_of main ws) → AllByRecursion Sees (views_of main ws) → AllByRecursion (λ (w : Worker s). length w.station.asks.seen.history ≤ most) ws → most < j → total j ws ≡ 0
   beyond [] j most e b l past = refl
   beyond (w ∷ ws) j most e b l past =
       let k = w.ran.work in
@@ -202,7 +216,7 @@ module _ (s : Setup) (history : List Commit) (namings : List Naming) (main : Kno
       let long = l.0 in
       let beyond_it : length k.committed < j = omega (arith, short, long, past) in
       let none : times_by w.numbers.asker j history ≡ 0 = sym (whole_times w j e.0 b.0) ∙ k.made j ∙ times_past k.asker.number j k.committed beyond_it in
-      let rest : total j ws ≡ 0 = beyond ws j most (behind main HasEntries w ws e) (behind main Sees w ws b) l.1 past in
+      let rest : total j ws ≡ 0 = beyond ws j most (behind main (HasEntries history) w ws e) (behind main Sees w ws b) l.1 past in
       omega (arith, none, rest)
 
   main_sees : (ws : List (Worker s)) → AllByRecursion Sees (views_of main ws) → Sees main
@@ -210,19 +224,14 @@ module _ (s : Setup) (history : List Commit) (namings : List Naming) (main : Kno
   main_sees (w ∷ ws) b = main_sees ws (behind main Sees w ws b)
 
   pub ends_there : (ws : List (Worker s)) → Closed (views_of main ws) history namings → MainSees main ws → history ≡ main.seen.history
-  ends_there ws c m = let b = main_sees ws c.begins in by_rest b.0 b.1
-    where
-      by_rest : (rest : List Commit) → history ≡ main.seen.history ++ rest → history ≡ main.seen.history
-      by_rest [] e = e ∙ append-nil main.seen.history
-      by_rest (x ∷ rest) e =
-          let long : length history ≡ length main.seen.history + suc (length rest) = ap length e ∙ length-append main.seen.history (x ∷ rest) in
-          let some : 0 < length history = omega (arith, long) in
-          let past : length main.seen.history < length history = omega (arith, long) in
-          let le : length history ≤ length history = omega arith in
-          let one = made_once ws m.own m.is_own m.none c (length history) some le in
-          let none = beyond ws (length history) (length main.seen.history) c.entries c.begins
-          (all_weaker (λ (w : Worker s). StartsWith main.seen.history w.station.asks.seen.history) (λ (w : Worker s). length w.station.asks.seen.history ≤ length main.seen.history) ws (λ w b. begins_length main.seen.history w.station.asks.seen.history b) m.learnt) past in
-          absurd (let z : 1 ≡ 0 = sym one ∙ all_times ws (length history) c.entries c.begins ∙ none in cc)
+  ends_there ws c m =
+      let b = main_sees ws c.begins in
+      nothing_past history main.seen.history b (λ some past.
+      let le : length history ≤ length history = omega arith in
+      let one = made_once ws m.own m.is_own m.none c (length history) some le in
+      let none = beyond ws (length history) (length main.seen.history) c.entries c.begins
+      (all_weaker (λ (w : Worker s). StartsWith main.seen.history w.station.asks.seen.history) (λ (w : Worker s). length w.station.asks.seen.history ≤ length main.seen.history) ws (λ w b. begins_length main.seen.history w.station.asks.seen.history b) m.learnt) past in
+      absurd (let z : 1 ≡ 0 = sym one ∙ all_times ws (length history) c.entries c.begins ∙ none in cc))
 
   -- ---- the versions that the outcomes make are those of the history
 

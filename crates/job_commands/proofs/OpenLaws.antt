@@ -1,18 +1,33 @@
 -- An index that was opened on the entries of a zone's version.
-use Rattle.std.proofs.Common.{◌≡◌, ◌∙◌, ℕ, List, [], ◌∷◌, map, Option, refl, sym, ap, subst}
+use Rattle.std.proofs.Common.{◌≡◌, ◌∙◌, ℕ, List, [], ◌∷◌, map, Option, Some, refl, sym, ap, subst}
 use Rattle.std.specs.Prelude.{IsSome}
 use Rattle.std.specs.List.{All, AllByRecursion}
 use Rattle.zone_model.specs.Names.{Name}
-use Rattle.shared_index.specs.Passes.{commits_in, pinned_in, known_at}
+use Rattle.shared_index.specs.Passes.{Known, commits_in, first_version, pinned_in, known_at}
 use Rattle.shared_index.specs.Openings.{SeesFirst}
 use Rattle.job_commands.specs.Histories.{BeginsAt, Entries, IsZone}
 use Rattle.job_commands.specs.Commands.{OpensAt, Seat}
 use Rattle.job_commands.specs.Works.{IsNew, AreNew}
 use Rattle.job_commands.proofs.ShowLaws.{seat_pass}
 use Rattle.job_commands.proofs.CloseLaws.{all_rec}
+use Rattle.job_commands.proofs.WorkLaws.{Own}
 use Rattle.job_commands.proofs.ZoneLaws.{zone_begins}
 
 -- ---- its passes have asked and committed nothing
+
+pub new_view : (opening : Entries) (v : Known) → (own : Own) × (v.pass ≡ Some own) → commits_in v.pass ≡ [] → pinned_in v.pass ≡ [] → first_version v.seen ≡ opening → v.seen.history ≡ [] → (number : ℕ) × IsNew number opening v
+new_view opening v own none unpinned opened no_history = (
+  own.0.number,
+  record {
+    own = own.0;
+    is_own = own.1;
+    numbered = refl;
+    none = ap commits_in (sym own.1) ∙ none;
+    unpinned = ap pinned_in (sym own.1) ∙ unpinned;
+    opened = opened;
+    no_history = no_history;
+  },
+)
 
 module _ {A : Type 0} (ps : List A) (seat_of : A → Option Seat) (es : Entries) where
   abbrev pub IsFirst : A → Type 0
@@ -22,19 +37,7 @@ module _ {A : Type 0} (ps : List A) (seat_of : A → Option Seat) (es : Entries)
   IsUnused p = (commits_in (known_at (seat_of p)).pass ≡ []) × (pinned_in (known_at (seat_of p)).pass ≡ [])
 
   new_pass : (p : A) → IsFirst p → IsUnused p → (number : ℕ) × IsNew number es (known_at (seat_of p))
-  new_pass p first unused =
-      let own = seat_pass (seat_of p) first.0 in (
-        own.0.number,
-        record {
-          own = own.0;
-          is_own = own.1;
-          numbered = refl;
-          none = ap commits_in (sym own.1) ∙ unused.0;
-          unpinned = ap pinned_in (sym own.1) ∙ unused.1;
-          opened = first.1.opening;
-          no_history = first.1.history;
-        },
-      )
+  new_pass p first unused = new_view es (known_at (seat_of p)) (seat_pass (seat_of p) first.0) unused.0 unused.1 first.1.opening first.1.history
 
   new_each : (xs : List A) → AllByRecursion IsFirst xs → AllByRecursion IsUnused xs → AreNew es (map (λ p. known_at (seat_of p)) xs)
   new_each [] first unused = tt

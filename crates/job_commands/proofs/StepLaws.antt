@@ -10,10 +10,10 @@ use Rattle.job_model.specs.declared.Ending.TheVariants.{Commit}
 use Rattle.job_model.specs.declared.Weight.{Weight}
 use Rattle.job_model.specs.declared.Weight.TheVariants.{Heavy}
 use Rattle.job_model.specs.declared.Question.{Question}
-use Rattle.job_model.specs.Commands.{Command, Ask, Block, Compact}
+use Rattle.job_model.specs.Commands.{Command, Ask, Block, Compact, held_after}
 use Rattle.job_model.specs.Replies.{reply_of}
 use Rattle.job_model.specs.Outcomes.{Ended, Shown, Committed, RolledBack, Refused, is_committed, Sight, Shows, Causes, BlockEnds, EndsLawfully, shown_by, sight_after}
-use Rattle.job_script.specs.Outcomes.{ended_view, Replies, EndsBlock, EndsCompaction}
+use Rattle.job_script.specs.Outcomes.{ended_view, Replies, Tells, EndsBlock, EndsCompaction}
 use Rattle.job_script.specs.declared.outcomes.Told.{Told}
 use Rattle.job_script.specs.declared.outcomes.Told.TheVariants.{Compacted}
 use Rattle.job_script.specs.declared.outcomes.Outcome.{Outcome}
@@ -101,29 +101,7 @@ module _ (s : Setup) (o : Outcome) (old new : Station) (opened : first_version o
     opened_now : first_version new.asks.seen ≡ s.opening
     opened_now = opened_same new.asks.seen old.asks.seen told_asks grows ∙ opened
 
-    pub ask_step : (question : Question) → Asked s.origin question old.asks new.asks o → Step s (Ask question) o old new
-    ask_step question a =
-        let replies : (set : ℕ → Version) → AreVersions s new.asks.seen.history set → Replies (reply_of s.origin (set o.version) question) o.told =
-        λ set are. a.replies (set o.version) (seen_stands s set new.asks new.asks o.version opened_now (begins_same new.asks.seen.history) a.version are) in
-        let long = begins_length new.asks.seen.history old.asks.seen.history grows.history in
-        record {
-          asks = a.grows;
-          holds = still_part;
-          under = still_under;
-          held = held;
-          tells = replies;
-          ends = λ sight is set deeds are explains.
-              let seen = is.seen in
-              let le : sight.seen ≤ o.version = omega (arith, seen, long, a.version) in
-              shows_at (sight.seen ≤ o.version) (ended_view o.told) a.shown le;
-          below = omega (arith, a.version);
-          holding = λ sight is. record { seen = omega (arith, a.version); held = still_holds sight.held is.held };
-          writes = λ own is. writes_nothing s own (Ask question) o.version (is_committed (ended_view o.told)) old.asks new.asks (shown_plain (ended_view o.told) a.shown) (stays_pinned (Ask question) o.version own old.asks new.asks refl is a.pass);
-          kept = still_kept (Ask question);
-          moves = λ is. absurd (shown_alone o.told a.shown is);
-        }
-
-    -- what a transaction's step is, whatever is told of it
+    -- what a step is that leaves the second pass alone, whatever is told of it
     record Rest (c : Command) : Type 0 where
       asks : IsPartOf new.asks.seen old.asks.seen
       ends : (sight : Sight) → IsSight old sight → (set : ℕ → Version) (deeds : Deeds) → AreVersions s new.asks.seen.history set → Explains deeds new.asks.seen
@@ -131,6 +109,37 @@ module _ (s : Setup) (o : Outcome) (old new : Station) (opened : first_version o
       below : o.version ≤ length new.asks.seen.history
       holding : (sight : Sight) → IsSight old sight → IsSight new (sight_after sight c o.version)
       writes : (own : Own) → old.asks.pass ≡ Some own → Writes s own c o.version (is_committed (ended_view o.told)) old.asks new.asks
+
+    rest_step : (c : Command) → Rest c → held_after old.held c ≡ old.held → ((set : ℕ → Version) → AreVersions s new.asks.seen.history set → Tells s.origin set c o) → (o.told ≡ Compacted → Moved s old.asks new.asks) → Step s c o old new
+    rest_step c rest stays tells moves = record {
+      asks = rest.asks;
+      holds = still_part;
+      under = still_under;
+      held = held ∙ sym stays;
+      tells = tells;
+      ends = rest.ends;
+      below = rest.below;
+      holding = rest.holding;
+      writes = rest.writes;
+      kept = still_kept c;
+      moves = moves;
+    }
+
+    pub ask_step : (question : Question) → Asked s.origin question old.asks new.asks o → Step s (Ask question) o old new
+    ask_step question a =
+        let replies : (set : ℕ → Version) → AreVersions s new.asks.seen.history set → Replies (reply_of s.origin (set o.version) question) o.told =
+        λ set are. a.replies (set o.version) (seen_stands s set new.asks new.asks o.version opened_now (begins_same new.asks.seen.history) a.version are) in
+        let long = begins_length new.asks.seen.history old.asks.seen.history grows.history in
+        rest_step (Ask question) (record {
+          asks = a.grows;
+          ends = λ sight is set deeds are explains.
+              let seen = is.seen in
+              let le : sight.seen ≤ o.version = omega (arith, seen, long, a.version) in
+              shows_at (sight.seen ≤ o.version) (ended_view o.told) a.shown le;
+          below = omega (arith, a.version);
+          holding = λ sight is. record { seen = omega (arith, a.version); held = still_holds sight.held is.held };
+          writes = λ own is. writes_nothing s own (Ask question) o.version (is_committed (ended_view o.told)) old.asks new.asks (shown_plain (ended_view o.told) a.shown) (stays_pinned (Ask question) o.version own old.asks new.asks refl is a.pass);
+        }) refl replies (λ is. absurd (shown_alone o.told a.shown is))
 
     block_rest : (weight : Weight) (asked : Transaction) (ending : Ending) (own : Own) → old.asks.pass ≡ Some own → BlockRan s asked ending old.asks new.asks o → Rest (Block weight asked ending)
     block_rest weight asked ending own is b = record {
@@ -190,39 +199,19 @@ module _ (s : Setup) (o : Outcome) (old new : Station) (opened : first_version o
         by_write own' is' (Refused cause) t = stays_same (Block weight asked ending) o.version own' new.asks (t.0 ∙ is')
 
     pub block_step : (weight : Weight) (asked : Transaction) (ending : Ending) (own : Own) → old.asks.pass ≡ Some own → EndsBlock o.told → BlockRan s asked ending old.asks new.asks o → Step s (Block weight asked ending) o old new
-    block_step weight asked ending own is ends b =
-        let rest = block_rest weight asked ending own is b in
-        record {
-          asks = rest.asks;
-          holds = still_part;
-          under = still_under;
-          held = held;
-          tells = λ set are. ends;
-          ends = rest.ends;
-          below = rest.below;
-          holding = rest.holding;
-          writes = rest.writes;
-          kept = still_kept (Block weight asked ending);
-          moves = λ is. absurd (block_alone o.told ends is);
-        }
+    block_step weight asked ending own is ends b = rest_step (Block weight asked ending) (block_rest weight asked ending own is b) refl (λ set are. ends) (λ is. absurd (block_alone o.told ends is))
 
     -- a compaction ends as a block without asked does
     pub compact_step : (own : Own) → old.asks.pass ≡ Some own → EndsCompaction o.told → (o.told ≡ Compacted → Moved s old.asks new.asks) → BlockRan s no_changes Commit old.asks new.asks o → Step s Compact o old new
     compact_step own is ends moves b =
         let rest = block_rest Heavy no_changes Commit own is b in
-        record {
+        rest_step Compact (record {
           asks = rest.asks;
-          holds = still_part;
-          under = still_under;
-          held = held;
-          tells = λ set are. ends;
           ends = rest.ends;
           below = rest.below;
           holding = rest.holding;
           writes = λ own' is'. writes_as own' (is_committed (ended_view o.told)) (rest.writes own' is');
-          kept = still_kept Compact;
-          moves = moves;
-        }
+        }) refl (λ set are. ends) moves
       where
         stays_as : (own' : Own) (v : Known) → Stays (Block Heavy no_changes Commit) o.version own' v → Stays Compact o.version own' v
         stays_as own' v y = record { now = y.now; pass = y.pass; number = y.number; entries = y.entries; pinned = y.pinned }

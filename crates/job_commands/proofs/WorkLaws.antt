@@ -7,19 +7,20 @@ use Rattle.std.proofs.lemmas.List.Elements.{Contains-append_left, Contains-appen
 use Rattle.std.specs.List.{AllByRecursion}
 use Rattle.zone_model.specs.Names.{Name}
 use Rattle.zone_model.specs.Versions.{Version}
-use Rattle.job_model.specs.Commands.{Command, InTurn}
+use Rattle.job_model.specs.Commands.{Command, Ask, Hold, AskHeld, Release, Block, Compact, InTurn, MayCome, NeedsNoSnapshot}
 use Rattle.job_model.specs.Outcomes.{Setting, Pair, is_committed, made, asked_by, times_made, Sight, at_first, sight_after, EndsLawfully, Along, shown_by, shown_in}
 use Rattle.job_script.specs.Outcomes.{ended_view, outcome_view, pairs_of, Tells, EachTells}
 use Rattle.job_script.specs.declared.outcomes.Outcome.{Outcome as Told_outcome}
 use Rattle.shared_cells.specs.declared.view.PassView.{PassView}
 use Rattle.shared_cells.specs.History.{StartsWith, entries_by, entry_of, version_after}
+use Rattle.shared_cells.specs.Views.{is_told}
 use Rattle.shared_index.specs.declared.meaning.Operation.{Operation}
 use Rattle.shared_index.specs.Operations.{applied}
 use Rattle.shared_index.specs.Passes.{Known, first_version}
 use Rattle.job_commands.specs.Histories.{Setup, Commit, Entries, index_at, StandsAs, AreVersions, judged_by, times_by}
 use Rattle.job_commands.specs.Steps.{Station, HoldsLast, IsSight, IsUnder, Adds, Stays, Writes, Step}
 use Rattle.job_commands.specs.Works.{Replayed, Work, Numbers, Begins, WorkerRan, ended}
-use Rattle.job_commands.proofs.HistoryLaws.{begins_same, begins_more, begins_length, begins_other, last_commit, index_front, index_last, versions_front, explains_front, by-push, times_front, times_past, times_there, times_else}
+use Rattle.job_commands.proofs.HistoryLaws.{begins_same, begins_more, begins_length, begins_other, last_commit, opened_same, index_front, index_last, versions_front, explains_front, by-push, times_front, times_past, times_there, times_else}
 
 abbrev pub Pairs : Type 0
 Pairs = List Pair
@@ -204,37 +205,6 @@ grows : (s : Setup) (numbers : Numbers) (old new : Station) (pairs : Pairs) (p :
 grows s numbers old new pairs p w true number g c a = grows_more s numbers old new pairs p w number g c a
 grows s numbers old new pairs p w false number g c y = grows_same s numbers old new pairs p w number g c y
 
-pub worker_begins : (s : Setup) (t : Station) (asker holder : Own) (commands : List Command) → first_version t.asks.seen ≡ s.opening → t.asks.pass ≡ Some asker → t.holds.pass ≡ Some holder → asker.entries ≡ [] → holder.entries ≡ [] → asker.pinned ≡ [] → holder.pinned ≡ []
-    → IsUnder t.asks t.holds → t.held ≡ false → InTurn false commands → WorkerAt s (record { asker = asker.number; holder = holder.number }) t [] commands []
-worker_begins s t asker holder commands opened is_asker is_holder none none_held unpinned unpinned_held under free turn = record {
-  alike = refl;
-  sight = record { seen = omega arith; held = subst (λ (b : Bool). HoldsLast t b None) (sym free) refl };
-  under = under;
-  told = λ set are. tt;
-  work = record {
-    opened = opened;
-    along = λ set deeds are explains. tt;
-    none_above = tt;
-    replayed = tt;
-    asker = asker;
-    is_asker = is_asker;
-    holder = holder;
-    is_holder = is_holder;
-    committed = [];
-    front = (t.asks.seen.history, refl);
-    mine = none;
-    made = λ j. refl;
-    none_held = none_held;
-    pinned = λ v here. elim here [
-      | inl a ↦ subst (λ (l : List ℕ). Contains l v) unpinned a
-      | inr b ↦ subst (λ (l : List ℕ). Contains l v) unpinned_held b
-    ];
-  };
-  asker = refl;
-  holder = refl;
-  turn = subst (λ (b : Bool). InTurn b commands) (sym free) turn;
-}
-
 pub worker_goes_on : (s : Setup) (numbers : Numbers) (old new : Station) (done : List Command) (c : Command) (behind : List Command) (os : List Told_outcome) (o : Told_outcome) → first_version new.asks.seen ≡ first_version old.asks.seen
     → WorkerAt s numbers old done (c ∷ behind) os → Step s c o old new → WorkerAt s numbers new (done ++ c ∷ []) behind (os ++ o ∷ [])
 worker_goes_on s numbers old new done c behind os o opened w step =
@@ -282,28 +252,67 @@ worker_goes_on s numbers old new done c behind os o opened w step =
       turn = subst (λ (b : Bool). InTurn b behind) (sym step.held) w.turn.1;
     }
 
+-- a command that needs no snapshot may come while none is held
+may_come : (c : Command) → NeedsNoSnapshot c → MayCome false c
+may_come (Ask question) plain = tt
+may_come Hold plain = absurd plain
+may_come (AskHeld question) plain = absurd plain
+may_come Release plain = absurd plain
+may_come (Block _ asked ending) plain = tt
+may_come Compact plain = tt
+
+-- the next command of a worker that holds none, if it needs none
+pub plain_goes_on : (s : Setup) (numbers : Numbers) (old new : Station) (done : List Command) (c : Command) (os : List Told_outcome) (o : Told_outcome) → is_told old.asks.seen.opening ≡ true → old.held ≡ false → NeedsNoSnapshot c → WorkerAt s numbers old done [] os → Step s c o old new
+    → WorkerAt s numbers new (done ++ c ∷ []) [] (os ++ o ∷ [])
+plain_goes_on s numbers old new done c os o told free plain w step =
+    worker_goes_on s numbers old new done c [] os o (opened_same new.asks.seen old.asks.seen told step.asks) (record {
+      alike = w.alike;
+      sight = w.sight;
+      under = w.under;
+      told = w.told;
+      work = w.work;
+      asker = w.asker;
+      holder = w.holder;
+      turn = (subst (λ (b : Bool). MayCome b c) (sym free) (may_come c plain), tt);
+    }) step
+
 pub worker_ran : (s : Setup) (numbers : Numbers) (t : Station) (commands done ahead : List Command) (os : List Told_outcome) → done ≡ commands → WorkerAt s numbers t done ahead os → WorkerRan s numbers t commands os
 worker_ran s numbers t commands done ahead os all w =
     subst (λ (l : List Command). WorkerRan s numbers t l os) all (record { told = w.told; work = w.work; asker = w.asker; holder = w.holder })
 
 -- two passes that have done nothing, and no snapshot is held
 pub worker_starts : (s : Setup) (numbers : Numbers) (asks spare : Known) (commands : List Command) → Begins s numbers asks spare → InTurn false commands → WorkerAt s numbers (ended asks spare) [] commands []
-worker_starts s numbers asks spare commands b turn =
-    let under : IsUnder asks spare = record {
-      opening = b.holder.opened ∙ sym b.asker.opened;
-      history = (asks.seen.history, sym (ap (λ (l : List Commit). l ++ asks.seen.history) b.holder.no_history));
-    } in
-    let w = worker_begins s (ended asks spare) b.asker.own b.holder.own commands b.asker.opened b.asker.is_own b.holder.is_own b.asker.none b.holder.none b.asker.unpinned b.holder.unpinned under refl turn in
-    record {
-      alike = w.alike;
-      sight = w.sight;
-      under = w.under;
-      told = w.told;
-      work = w.work;
-      asker = w.asker ∙ b.asker.numbered;
-      holder = w.holder ∙ b.holder.numbered;
-      turn = w.turn;
-    }
+worker_starts s numbers asks spare commands b turn = record {
+  alike = refl;
+  sight = record { seen = omega arith; held = refl };
+  under = record {
+    opening = b.holder.opened ∙ sym b.asker.opened;
+    history = (asks.seen.history, sym (ap (λ (l : List Commit). l ++ asks.seen.history) b.holder.no_history));
+  };
+  told = λ set are. tt;
+  work = record {
+    opened = b.asker.opened;
+    along = λ set deeds are explains. tt;
+    none_above = tt;
+    replayed = tt;
+    asker = b.asker.own;
+    is_asker = b.asker.is_own;
+    holder = b.holder.own;
+    is_holder = b.holder.is_own;
+    committed = [];
+    front = (asks.seen.history, refl);
+    mine = b.asker.none;
+    made = λ j. refl;
+    none_held = b.holder.none;
+    pinned = λ v here. elim here [
+      | inl mine ↦ subst (λ (l : List ℕ). Contains l v) b.asker.unpinned mine
+      | inr held ↦ subst (λ (l : List ℕ). Contains l v) b.holder.unpinned held
+    ];
+  };
+  asker = b.asker.numbered;
+  holder = b.holder.numbered;
+  turn = turn;
+}
 
 -- ---- a list and its elements, as they are seen
 
