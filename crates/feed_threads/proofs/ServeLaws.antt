@@ -3,7 +3,7 @@ use Rattle.std.proofs.Common.{◌≡◌, ◌∙◌, ℕ, zero, suc, ◌-◌, ◌
 use Rattle.std.proofs.lemmas.List.{get_or-map, length-map, map-append}
 use Rattle.std.specs.List.{All, Any, AllByRecursion}
 use Rattle.std.proofs.lemmas.List.Folds.{Any-from_list_any}
-use Rattle.job_model.specs.Commands.{Command, Ask, Hold, AskHeld, Release, Block, Compact, MayCome, NeedsNoSnapshot}
+use Rattle.job_model.specs.Commands.{Command, Compact, NeedsNoSnapshot}
 use Rattle.job_script.specs.Views.{command_view}
 use Rattle.job_script.specs.declared.commands.Command.{Command as Said}
 use Rattle.job_script.specs.declared.outcomes.Outcome.{Outcome}
@@ -18,8 +18,7 @@ use Rattle.job_commands.specs.Closings.{Gathers}
 use Rattle.job_commands.specs.Works.{IsNew, Numbers, only}
 use Rattle.feed_threads.specs.Feeds.{command_at, commands_at, commands_served, done_seat, numbers_served, outcomes_served, seats_served}
 use Rattle.feed_threads.specs.declared.ordering.Served.{Served}
-use Rattle.job_commands.proofs.HistoryLaws.{opened_same}
-use Rattle.job_commands.proofs.WorkLaws.{WorkerAt, worker_goes_on, worker_starts}
+use Rattle.job_commands.proofs.WorkLaws.{WorkerAt, plain_goes_on, worker_starts}
 
 -- ---- the command of a number
 
@@ -39,14 +38,6 @@ so_here P commands number here all lt is =
 pub plain_here : (commands : List Said) (number : ℕ) (here : Said) → AllByRecursion NeedsNoSnapshot (map command_view commands) → number - 1 < length commands → here ≡ get_or commands (number - 1) here → NeedsNoSnapshot (command_view here)
 plain_here commands number here all lt is = so_here NeedsNoSnapshot commands number here all lt is
 
-may_come : (c : Command) → NeedsNoSnapshot c → MayCome false c
-may_come (Ask question) plain = tt
-may_come Hold plain = absurd plain
-may_come (AskHeld question) plain = absurd plain
-may_come Release plain = absurd plain
-may_come (Block _ asked ending) plain = tt
-may_come Compact plain = tt
-
 -- ---- how far the worker has come
 
 pub serve_starts : (s : Setup) (number : ℕ) (seat : Option Seat) → IsNew number s.opening (known_at seat) → WorkerAt s (only number) (station seat (Some seat) None) [] [] []
@@ -56,20 +47,10 @@ pub serve_next : (s : Setup) (numbers : Numbers) (seat after first : Option Seat
     → more ≡ taken ++ number ∷ [] → most ≡ os ++ o ∷ [] → WorkerAt s numbers (station seat (Some first) None) (commands_at all taken) [] os → Step s here o (station seat (Some first) None) (station after (Some first) None)
     → WorkerAt s numbers (station after (Some first) None) (commands_at all more) [] most
 serve_next s numbers seat after first all taken more number here os most o told is plain is_more is_most w step =
-    let ahead : WorkerAt s numbers (station seat (Some first) None) (commands_at all taken) (here ∷ []) os = record {
-      alike = w.alike;
-      sight = w.sight;
-      under = w.under;
-      told = w.told;
-      work = w.work;
-      asker = w.asker;
-      holder = w.holder;
-      turn = (may_come here plain, tt);
-    } in
     let commands : commands_at all more ≡ commands_at all taken ++ here ∷ [] = ap (commands_at all) is_more ∙ map-append (command_at all) taken (number ∷ []) ∙ ap (λ (c : Command). commands_at all taken ++ c ∷ []) is in
     subst (λ (l : List Outcome). WorkerAt s numbers (station after (Some first) None) (commands_at all more) [] l) (sym is_most)
     (subst (λ (l : List Command). WorkerAt s numbers (station after (Some first) None) l [] (os ++ o ∷ [])) (sym commands)
-    (worker_goes_on s numbers (station seat (Some first) None) (station after (Some first) None) (commands_at all taken) here [] os o (opened_same (known_at after).seen (known_at seat).seen told step.asks) ahead step))
+    (plain_goes_on s numbers (station seat (Some first) None) (station after (Some first) None) (commands_at all taken) here os o told refl plain w step))
 
 -- its seat is done
 pub seat_done : (old new : Takings) (feed : Handout) (numbers : List ℕ) → old.feed ≡ feed → old.taken ≡ numbers → new ≡ record old { done = true } → new ≡ done_seat feed numbers
