@@ -17,7 +17,8 @@ use zone_text::Token;
 // The name that a token says, at or under the origin.
 fn inner_name(line: Line, token: Token) -> Result<Name, JobRefusal>
     requires { IsPlaced line.bytes.now token }
-    ensures { Says result (λ name. name) (jobs.needed line.entry.number ScriptKind.BadName (jobs.inner_name line.entry.origin.now (token_view line.entry.bytes.now token))) }
+    ensures { Says result (λ name. name)
+        (jobs.needed line.entry.number ScriptKind.BadName (jobs.inner_name line.entry.origin.now (token_view line.entry.bytes.now token))) }
 {
     match name_word(line.bytes, line.origin, token) {
         Some(inner) if inner.is_under(line.origin) => Ok(inner),
@@ -47,7 +48,8 @@ pub fn prerequisite_of(
     requires owner { IsPlaced line.bytes.now owner }
     requires rtype { IfSome rtype (IsPlaced line.bytes.now) }
     ensures { Says result prerequisite_view
-        (jobs.prerequisite_of line.entry.origin.now line.entry.number wanted (token_view line.entry.bytes.now owner) (option_map (token_view line.entry.bytes.now) rtype)) }
+        (jobs.prerequisite_of line.entry.origin.now line.entry.number wanted (token_view line.entry.bytes.now owner)
+        (option_map (token_view line.entry.bytes.now) rtype)) }
 {
     let Some(rtype) = rtype else {
         let owner = inner_name(line, owner)?;
@@ -96,7 +98,8 @@ fn addition_of(
     requires rtype { IsPlaced line.bytes.now rtype }
     requires tokens { All (IsPlaced line.bytes.now) tokens.now }
     ensures { Says result operation_view
-        (jobs.addition_of line.entry.origin.now line.entry.number (token_view line.entry.bytes.now owner) (token_view line.entry.bytes.now ttl) (token_view line.entry.bytes.now rtype)
+        (jobs.addition_of line.entry.origin.now line.entry.number (token_view line.entry.bytes.now owner) (token_view line.entry.bytes.now ttl)
+        (token_view line.entry.bytes.now rtype)
         (map (token_view line.entry.bytes.now) tokens.now)) }
 {
     let owner = inner_name(line, owner)?;
@@ -138,7 +141,8 @@ fn deletion_of(line: Line, owner: Token, rest: &[Token]) -> Result<Operation, Jo
 /// The operation that a line says, if it says one.
 pub fn operation_of(line: Line, phrase: &Phrase) -> Result<Operation, JobRefusal>
     requires { PhrasePlaced line.bytes.now phrase.now }
-    ensures { Says result operation_view (operation_said line.entry.origin.now line.entry.number (phrase_view line.entry.origin.now line.entry.bytes.now phrase.now)) }
+    ensures { Says result operation_view
+        (operation_said line.entry.origin.now line.entry.number (phrase_view line.entry.origin.now line.entry.bytes.now phrase.now)) }
 {
     match phrase {
         Phrase::Adds(owner, ttl, rtype, tokens) => addition_of(line, *owner, *ttl, *rtype, tokens),

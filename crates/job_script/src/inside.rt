@@ -23,7 +23,8 @@ pub fn inside(
     requires none { script.old.block ≡ None }
     requires placed { PhrasePlaced line.bytes.now phrase.now }
     ensures { ScriptReads result (script_view script.new)
-        (jobs.inside line.entry.origin.now line.entry.number (unfinished_view block) (phrase_view line.entry.origin.now line.entry.bytes.now phrase.now) (script_view script.old)) }
+        (jobs.inside line.entry.origin.now line.entry.number (unfinished_view block)
+        (phrase_view line.entry.origin.now line.entry.bytes.now phrase.now) (script_view script.old)) }
 {
     match phrase {
         Phrase::Worker => Err(refused(block.start, ScriptKind::OpenBlock)),
@@ -56,7 +57,8 @@ fn need(
     requires owner { IsPlaced line.bytes.now owner }
     requires rtype { IfSome rtype (IsPlaced line.bytes.now) }
     ensures { ScriptReads result (script_view script.new) (jobs.needed_first line.entry.number (unfinished_view block) (script_view script.old)
-        (prerequisite_of line.entry.origin.now line.entry.number wanted (token_view line.entry.bytes.now owner) (option_map (token_view line.entry.bytes.now) rtype))) }
+        (prerequisite_of line.entry.origin.now line.entry.number wanted (token_view line.entry.bytes.now owner)
+        (option_map (token_view line.entry.bytes.now) rtype))) }
 {
     if !block.operations.is_empty() {
         return Err(refused(line.number, ScriptKind::BadCommand));
