@@ -9,9 +9,10 @@ use Rattle.trie_model.specs.Keys.{Rises}
 use Rattle.shared_cells.specs.declared.view.TableSize.{TableSize}
 use Rattle.shared_index.specs.declared.meaning.Named.{Ghosts}
 use Rattle.shared_index.specs.Closings.{AreAll}
-use Rattle.shared_index.specs.Passes.{commits_in, first_version, pinned_in}
+use Rattle.shared_index.specs.Passes.{first_version}
 use Rattle.job_commands.specs.Histories.{BeginsAt, IsLawful, IsZone}
 use Rattle.job_commands.specs.Works.{AreNew}
+use Rattle.job_commands.proofs.OpenLaws.{new_view}
 use Rattle.job_commands.proofs.ZoneLaws.{zone_rises, zone_begins, zone_lawful}
 use Rattle.job_commands.proofs.ShowLaws.{seat_pass}
 use Rattle.zone_table.specs.declared.opening.ZoneItems.{ZoneItems}
@@ -19,7 +20,7 @@ use Rattle.zone_table.specs.declared.pass.ZonesPass.{ZonesPass}
 use Rattle.zone_table.specs.declared.zones.Zones.{Zones}
 use Rattle.zone_table.specs.Dealings.{AreMade, IsNewPass}
 use Rattle.zone_table.specs.Openings.{entries_in, origins_of}
-use Rattle.zone_table.specs.Passes.{IsPassOf, table_known}
+use Rattle.zone_table.specs.Passes.{IsPassOf, table_known, zone_known}
 use Rattle.zone_table.proofs.Lists.{get_in, all_at, mapped_at, some_is}
 use Rattle.zones_threads.specs.Closings.{table_views, zone_views}
 use Rattle.zones_threads.specs.Openings.{StandFor}
@@ -59,20 +60,8 @@ module _ (items : List ZoneItems) (are : All (λ z. IsZone z.origin (entries_in 
     table_new [] a b c = tt
     table_new (p ∷ ps) a b c =
         let is = a 0 p (omega arith) in
-        let new = b 0 p (omega arith) in
-        let own = seat_pass p.table.seat is.table_here in (
-          (
-            own.0.number,
-            record {
-              own = own.0;
-              is_own = own.1;
-              numbered = refl;
-              none = ap commits_in (sym own.1) ∙ new.commits;
-              unpinned = ap pinned_in (sym own.1) ∙ new.pinned;
-              opened = c 0 p (omega arith);
-              no_history = new.history;
-            },
-          ),
+        let new = b 0 p (omega arith) in (
+          new_view made.opening (table_known p) (seat_pass p.table.seat is.table_here) new.commits new.pinned (c 0 p (omega arith)) new.history,
           table_new ps (λ k d lt. a (suc k) d (omega arith)) (λ k d lt. b (suc k) d (omega arith)) (λ k d lt. c (suc k) d (omega arith)),
         )
 
@@ -91,20 +80,8 @@ module _ (items : List ZoneItems) (are : All (λ z. IsZone z.origin (entries_in 
     zone_new number z there (p ∷ ps) a b =
         let new = (b 0 p (omega arith)) in
         let n = new.each number z there in
-        let lt : number < length (origins_of items) = (let l = slice_get_within items number z there in let m = length-map items (λ (x : ZoneItems). x.origin) in omega (arith, l, m)) in
-        let own = zone_pass (origins_of items) p (a 0 p (omega arith)) number lt in (
-          (
-            own.0.number,
-            record {
-              own = own.0;
-              is_own = own.1;
-              numbered = refl;
-              none = ap commits_in (sym own.1) ∙ n.commits;
-              unpinned = ap pinned_in (sym own.1) ∙ n.pinned;
-              opened = n.sees.opening;
-              no_history = n.sees.history;
-            },
-          ),
+        let lt : number < length (origins_of items) = (let l = slice_get_within items number z there in let m = length-map items (λ (x : ZoneItems). x.origin) in omega (arith, l, m)) in (
+          new_view (entries_in z) (zone_known p number) (zone_pass (origins_of items) p (a 0 p (omega arith)) number lt) n.commits n.pinned n.sees.opening n.sees.history,
           zone_new number z there ps (λ k d lt. a (suc k) d (omega arith)) (λ k d lt. b (suc k) d (omega arith)),
         )
 

@@ -20,7 +20,7 @@ use Rattle.job_commands.specs.Closings.{numbers_in}
 use Rattle.job_commands.specs.Histories.{IsLawful, Setup, StandsAs}
 use Rattle.job_commands.specs.Runs.{IsRun}
 use Rattle.job_commands.proofs.CloseLaws.{in_map}
-use Rattle.job_commands.proofs.EndLaws.{job_ends, number_with}
+use Rattle.job_commands.proofs.EndLaws.{job_ends, number_with, numbers_same, out_of}
 use Rattle.job_commands.proofs.HistoryLaws.{begins_more, opened_same}
 use Rattle.job_commands.proofs.JobLaws.{here, there}
 use Rattle.job_commands.proofs.WorkLaws.{all_weaker}
@@ -43,15 +43,6 @@ use Rattle.zones_threads.proofs.TellLaws.{workers_tell}
 use Rattle.zones_threads.proofs.ZoneCloseLaws.{zone_lawful, zone_names, zone_tells}
 
 -- ---- the table
-
-out_of : {A B : Type 0} (f : A → B) (xs : List A) (y : B) → Contains (map f xs) y → (x : A) × Contains xs x × (f x ≡ y)
-out_of f [] y c = absurd (let l = c.1 in omega arith)
-out_of f (x ∷ xs) y c =
-    ⊎_elim (λ (e : f x ≡ y). (x, here x xs, e)) (λ (more : Contains (map f xs) y). let r = out_of f xs y more in (r.0, there x r.0 xs r.1, r.2)) (contains_cases (f x) y (map f xs) c)
-
-numbers_same : (vs : List Known) (a b : Known) → number_of a.pass ≡ number_of b.pass → numbers_in (vs ++ a ∷ []) ≡ numbers_in (vs ++ b ∷ [])
-numbers_same [] a b e = ap (λ (n : ℕ). n ∷ []) e
-numbers_same (v ∷ vs) a b e = ap (λ (ks : List ℕ). number_of v.pass ∷ ks) (numbers_same vs a b e)
 
 entries_with : (p : Option (PassView (List Operation))) (own : PassView (List Operation)) (n : ℕ) → p ≡ Some own → with_pinned p n ≡ Some (record own { pinned = own.pinned ++ n ∷ [] })
 entries_with p own n e = ap (λ (x : Option (PassView (List Operation))). with_pinned x n) e

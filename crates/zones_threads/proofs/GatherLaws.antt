@@ -24,7 +24,7 @@ use Rattle.job_commands.specs.Works.{only, IsNew, AreNew, WorkerRan, ended}
 use Rattle.job_commands.proofs.HistoryLaws.{begins_more, opened_same}
 use Rattle.job_commands.proofs.JobLaws.{here, there}
 use Rattle.job_commands.proofs.WorkLaws.{all_weaker}
-use Rattle.job_commands.proofs.GatherLaws.{gathers_main, gathers_server}
+use Rattle.job_commands.proofs.GatherLaws.{gathers_main, gathers_server, numbers_append, numbers_main}
 use Rattle.zones_model.specs.Commands as model
 use Rattle.zones_model.specs.Commands.{Command}
 use Rattle.zones_model.specs.Outcomes as model_outcomes
@@ -131,14 +131,6 @@ table_starts passes [] main known b dones is long none new =
       learnt = tt;
     })
 table_starts passes (p ∷ front) main known b dones is long none new = absurd (omega (arith, long, ap length is, length-append front (main ∷ [])))
-
-numbers_append : (xs ys : List Known) → numbers_in (xs ++ ys) ≡ numbers_in xs ++ numbers_in ys
-numbers_append xs ys = map-append (λ (v : Known). number_of v.pass) xs ys
-
--- main's pass has the same number
-numbers_main : (main after : Known) → after.pass ≡ main.pass → (vs : List Known) → numbers_in (vs ++ main ∷ []) ≡ numbers_in (vs ++ after ∷ [])
-numbers_main main after same [] = ap (λ p. number_of p ∷ []) (sym same)
-numbers_main main after same (v ∷ vs) = ap (λ (ks : List ℕ). number_of v.pass ∷ ks) (numbers_main main after same vs)
 
 -- another worker, whose pass was the last one
 table_one : (b : TableSetup) (before : List Known) (pass : Known) (dones : List (List model_outcomes.Done)) (views : List Known) (main after pass' : Known) (number : ℕ) (d : List model_outcomes.Done)

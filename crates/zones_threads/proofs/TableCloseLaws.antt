@@ -15,9 +15,9 @@ use Rattle.shared_index.specs.Passes.{Known, first_version, version_seen}
 use Rattle.shared_index.specs.Closings.{AllSeen, Includes, AreAll, IsCommitOf, Ends}
 use Rattle.job_commands.specs.Closings.{Some', AreApart as NumbersApart, IsPass, numbers_in}
 use Rattle.job_commands.specs.Histories.{Commit, Entries, index_at, times_by}
-use Rattle.job_commands.proofs.CloseLaws.{all_rec, apart, exact_entries}
+use Rattle.job_commands.proofs.CloseLaws.{all_rec, apart, none_entries, part_entries, pass_of, seen_all, some_of}
 use Rattle.job_commands.proofs.HistoryLaws.{begins_more, begins_length, index_last, times_none, times_front, times_past}
-use Rattle.job_commands.proofs.JobLaws.{here, there}
+use Rattle.job_commands.proofs.JobLaws.{Author, HasEntries, all-append, author_of, no_commits, nothing_past, number_in}
 use Rattle.job_commands.proofs.WorkLaws.{all_weaker}
 use Rattle.zones_model.specs.Outcomes as model
 use Rattle.zones_model.specs.Tables.{Change, Attaches, Detaches, attached_after, attached_count}
@@ -32,35 +32,6 @@ use Rattle.zones_threads.proofs.CountLaws.{attached_many}
 use Rattle.zones_threads.proofs.TableLaws.{Own, attached_front, replayed_more, times-append}
 use Rattle.zones_threads.proofs.ZoneForLaws.{once, some_same}
 
--- ---- lists
-
-all-append : {X : Type 0} (P : X → Type 0) (xs ys : List X) → AllByRecursion P xs → AllByRecursion P ys → AllByRecursion P (xs ++ ys)
-all-append P [] ys a b = b
-all-append P (x ∷ xs) ys a b = (a.0, all-append P xs ys a.1 b)
-
-some_of : {A : Type 0} (P : A → Type 0) (xs : List A) (x : A) → Contains xs x → P x → Some' P xs
-some_of P [] x c p = absurd (let l = c.1 in omega arith)
-some_of P (y ∷ ys) x c p = ⊎_elim (λ e. inl (subst P (sym e) p)) (λ more. inr (some_of P ys x more p)) (contains_cases y x ys c)
-
--- ---- the commit that made a version
-
-record Author (history : List Commit) (t : ℕ) : Type 0 where
-  commit : Commit
-  inside : Contains history commit
-  times : (author : ℕ) → times_by author t history ≡ cond (eqb commit.author author) 1 0
-
-there' : (y x : Commit) (xs : List Commit) → Contains xs x → Contains (y ∷ xs) x
-there' y x xs h = there y x xs h
-
-author_of : (history : List Commit) (t : ℕ) → 0 < t → t ≤ length history → Author history t
-author_of [] t some le = absurd (omega arith)
-author_of (e ∷ history) zero some le = absurd (omega arith)
-author_of (e ∷ history) (suc zero) some le = record { commit = e; inside = here e history; times = λ author. refl }
-author_of (e ∷ history) (suc (suc t)) some le = further (author_of history (suc t) (omega arith) (omega arith))
-  where
-    further : Author history (suc t) → Author (e ∷ history) (suc (suc t))
-    further a = record { commit = a.commit; inside = there' e a.commit history a.inside; times = a.times }
-
 -- ---- all passes of the table were handed in
 
 -- There is one history, which begins with what each pass has seen; of each pass it has just the commits that it made, and each is by one
@@ -71,42 +42,11 @@ pub record TableClosed (views : List Known) (history : List Commit) : Type 0 whe
   pub authors : (e : Commit) → Contains history e → Some' (IsPass e.author) views
   pub apart : NumbersApart (numbers_in views)
 
-pass_of : (v : Known) (number : ℕ) → number_of v.pass ≡ number + 1 → IsPass number v
-pass_of v number e = by_pass v.pass refl e
-  where
-    by_pass : (p : Option Own) → v.pass ≡ p → number_of p ≡ number + 1 → IsPass number v
-    by_pass None is h = absurd (omega arith)
-    by_pass (Some own) is h = (own, is, omega arith)
-
 module _ (b : TableSetup) (last : AllSeen) (main : Known) where
-  abbrev HasEntries : Known → Type 0
-  HasEntries v = (own : Own) → v.pass ≡ Some own → own.entries ≡ entries_by own.number last.history
-
-  none_entries : (v : Known) (own : Own) → v.pass ≡ Some own → own.entries ≡ [] → Includes last v → HasEntries v
-  none_entries v own is none i = λ own' is'.
-      let same : own'.entries ≡ [] = ap (λ (p : Option Own). entries_of p) (sym is' ∙ is) ∙ none in
-      exact_entries own'.number own'.entries last.history [] (i.commits own' is') same (last.history, refl)
-    where
-      entries_of : Option Own → List Commit
-      entries_of None = []
-      entries_of (Some o) = o.entries
-
-  worker_entries : (w : TableWorker b) → Includes last w.view → HasEntries w.view
-  worker_entries w i = λ own is.
-      let k = w.work in
-      let same : ◌≡◌ {A = Option Own} (Some k.asker) (Some own) = sym k.is_asker ∙ is in
-      let exact : k.asker.entries ≡ entries_by k.asker.number last.history =
-      exact_entries k.asker.number k.asker.entries last.history k.committed (i.commits k.asker k.is_asker) k.mine (begins_more last.history w.view.seen.history k.committed i.seen.history k.front) in
-      let one : k.asker ≡ own = some_same k.asker own same in
-      subst (λ (x : Own). x.entries ≡ entries_by x.number last.history) one exact
-
-  all_entries : (ws : List (TableWorker b)) (own : Own) → main.pass ≡ Some own → own.entries ≡ [] → AllByRecursion (Includes last) (worker_views ws ++ main ∷ []) → AllByRecursion HasEntries (worker_views ws ++ main ∷ [])
-  all_entries [] own is none i = (none_entries main own is none i.0, tt)
-  all_entries (w ∷ ws) own is none i = (worker_entries w i.0, all_entries ws own is none i.1)
-
-  seen_all : (views : List Known) → AllByRecursion (Includes last) views → AllByRecursion (λ (v : Known). StartsWith last.history v.seen.history) views
-  seen_all [] i = tt
-  seen_all (v ∷ views) i = (i.0.seen.history, seen_all views i.1)
+  all_entries : (ws : List (TableWorker b)) (own : Own) → main.pass ≡ Some own → own.entries ≡ [] → AllByRecursion (Includes last) (worker_views ws ++ main ∷ []) → AllByRecursion (HasEntries last.history) (worker_views ws ++ main ∷ [])
+  all_entries [] own is none i = (none_entries last main own is none i.0, tt)
+  all_entries (w ∷ ws) own is none i =
+      let k = w.work in (part_entries last w.view k.asker k.committed k.is_asker k.front k.mine i.0, all_entries ws own is none i.1)
 
   pub table_closed : (count version : ℕ) (ws : List (TableWorker b)) (own : Own) → main.pass ≡ Some own → own.entries ≡ [] → Ends count (worker_views ws ++ main ∷ []) version last → AreAll count (worker_views ws ++ main ∷ []) → length (worker_views ws ++ main ∷ []) ≡ count
       → TableClosed (worker_views ws ++ main ∷ []) last.history
@@ -114,7 +54,7 @@ module _ (b : TableSetup) (last : AllSeen) (main : Known) where
       let views = worker_views ws ++ main ∷ [] in
       let each = all_rec (Includes last) views e.each in
       record {
-        begins = seen_all views each;
+        begins = (seen_all last views each).0;
         entries = all_entries ws own is none each;
         authors = λ x inside.
             let c = All-contains (IsCommitOf views) last.history x (e.commits all) inside in
@@ -128,9 +68,6 @@ module _ (b : TableSetup) (history : List Commit) (main : Known) where
   abbrev Views : List (TableWorker b) → List Known
   Views ws = worker_views ws ++ main ∷ []
 
-  abbrev HasEntries' : Known → Type 0
-  HasEntries' v = (own : Own) → v.pass ≡ Some own → own.entries ≡ entries_by own.number history
-
   abbrev Sees : Known → Type 0
   Sees v = StartsWith history v.seen.history
 
@@ -141,7 +78,7 @@ module _ (b : TableSetup) (history : List Commit) (main : Known) where
   abbrev Made : List (TableWorker b) → List model.Done
   Made ws = model.all_done (dones_in ws)
 
-  whole_times : (w : TableWorker b) (t : ℕ) → HasEntries' w.view → Sees w.view → model.times_made t w.done ≡ times_by w.number t history
+  whole_times : (w : TableWorker b) (t : ℕ) → HasEntries history w.view → Sees w.view → model.times_made t w.done ≡ times_by w.number t history
   whole_times w t entries sees =
       let k = w.work in
       let all = entries k.asker k.is_asker in
@@ -149,7 +86,7 @@ module _ (b : TableSetup) (history : List Commit) (main : Known) where
       ∙ sym (times_front k.asker.number t history k.committed (begins_more history w.view.seen.history k.committed sees k.front) (sym all ∙ k.mine))
       ∙ ap (λ (m : ℕ). times_by m t history) k.numbered
 
-  all_times : (ws : List (TableWorker b)) (t : ℕ) → AllByRecursion HasEntries' (Views ws) → AllByRecursion Sees (Views ws) → model.times_made t (Made ws) ≡ total t ws
+  all_times : (ws : List (TableWorker b)) (t : ℕ) → AllByRecursion (HasEntries history) (Views ws) → AllByRecursion Sees (Views ws) → model.times_made t (Made ws) ≡ total t ws
   all_times [] t e s = refl
   all_times (w ∷ ws) t e s =
       times-append t w.done (Made ws)
@@ -159,20 +96,8 @@ module _ (b : TableSetup) (history : List Commit) (main : Known) where
   abbrev Among : ℕ → List (TableWorker b) → Type 0
   Among author ws = Some' (λ (w : TableWorker b). w.number ≡ author) ws
 
-  abbrev number_in : Option Own → ℕ
-  number_in None = 0
-  number_in (Some o) = o.number
-
-  no_commits : (t : ℕ) (v : Known) (own : Own) (a : Author history t) → v.pass ≡ Some own → own.entries ≡ [] → HasEntries' v → IsPass a.commit.author v → ⊥
-  no_commits t v own a is none entries pass =
-      let same : own.number ≡ a.commit.author = ap number_in (sym is ∙ pass.1) ∙ pass.2 in
-      let empty : entries_by own.number history ≡ [] = sym (entries own is) ∙ none in
-      let zero_times : times_by own.number t history ≡ 0 = times_none own.number t history empty in
-      let one : times_by own.number t history ≡ 1 = a.times own.number ∙ ap (λ (x : Bool). cond x 1 0) (eq-eqb a.commit.author own.number (sym same)) in
-      absurd (let z : 0 ≡ 1 = sym zero_times ∙ one in cc)
-
-  among : (ws : List (TableWorker b)) (t : ℕ) (a : Author history t) (own : Own) → main.pass ≡ Some own → own.entries ≡ [] → AllByRecursion HasEntries' (Views ws) → Some' (IsPass a.commit.author) (Views ws) → Among a.commit.author ws
-  among [] t a own is none e (inl pass) = absurd (no_commits t main own a is none e.0 pass)
+  among : (ws : List (TableWorker b)) (t : ℕ) (a : Author history t) (own : Own) → main.pass ≡ Some own → own.entries ≡ [] → AllByRecursion (HasEntries history) (Views ws) → Some' (IsPass a.commit.author) (Views ws) → Among a.commit.author ws
+  among [] t a own is none e (inl pass) = absurd (no_commits history t main own a is none e.0 pass)
   among [] t a own is none e (inr more) = absurd more
   among (w ∷ ws) t a own is none e (inl pass) = inl (sym w.work.numbered ∙ ap number_in (sym w.work.is_asker ∙ pass.1) ∙ pass.2)
   among (w ∷ ws) t a own is none e (inr more) = inr (among ws t a own is none e.1 more)
@@ -225,7 +150,7 @@ module _ (b : TableSetup) (history : List Commit) (main : Known) where
 
   -- ---- the history ends with what main has seen
 
-  beyond : (ws : List (TableWorker b)) (t most : ℕ) → AllByRecursion HasEntries' (Views ws) → AllByRecursion Sees (Views ws) → AllByRecursion (λ (w : TableWorker b). length w.view.seen.history ≤ most) ws → most < t → total t ws ≡ 0
+  beyond : (ws : List (TableWorker b)) (t most : ℕ) → AllByRecursion (HasEntries history) (Views ws) → AllByRecursion Sees (Views ws) → AllByRecursion (λ (w : TableWorker b). length w.view.seen.history ≤ most) ws → most < t → total t ws ≡ 0
   beyond [] t most e s l past = refl
   beyond (w ∷ ws) t most e s l past =
       let k = w.work in
@@ -241,19 +166,14 @@ module _ (b : TableSetup) (history : List Commit) (main : Known) where
   main_sees (w ∷ ws) s = main_sees ws s.1
 
   pub ends_there : (ws : List (TableWorker b)) (own : Own) → main.pass ≡ Some own → own.entries ≡ [] → AllByRecursion (λ (w : TableWorker b). StartsWith main.seen.history w.view.seen.history) ws → TableClosed (Views ws) history → history ≡ main.seen.history
-  ends_there ws own is none learnt c = let s = main_sees ws c.begins in by_rest s.0 s.1
-    where
-      by_rest : (rest : List Commit) → history ≡ main.seen.history ++ rest → history ≡ main.seen.history
-      by_rest [] e = e ∙ append-nil main.seen.history
-      by_rest (x ∷ rest) e =
-          let long : length history ≡ length main.seen.history + suc (length rest) = ap length e ∙ length-append main.seen.history (x ∷ rest) in
-          let some : 0 < length history = omega (arith, long) in
-          let past : length main.seen.history < length history = omega (arith, long) in
-          let le : length history ≤ length history = omega arith in
-          let one = made_once ws own is none c (length history) some le in
-          let nothing = beyond ws (length history) (length main.seen.history) c.entries c.begins
-          (all_weaker (λ (w : TableWorker b). StartsWith main.seen.history w.view.seen.history) (λ (w : TableWorker b). length w.view.seen.history ≤ length main.seen.history) ws (λ w s. begins_length main.seen.history w.view.seen.history s) learnt) past in
-          absurd (let z : 1 ≡ 0 = sym one ∙ all_times ws (length history) c.entries c.begins ∙ nothing in cc)
+  ends_there ws own is none learnt c =
+      let s = main_sees ws c.begins in
+      nothing_past history main.seen.history s (λ some past.
+      let le : length history ≤ length history = omega arith in
+      let one = made_once ws own is none c (length history) some le in
+      let nothing = beyond ws (length history) (length main.seen.history) c.entries c.begins
+      (all_weaker (λ (w : TableWorker b). StartsWith main.seen.history w.view.seen.history) (λ (w : TableWorker b). length w.view.seen.history ≤ length main.seen.history) ws (λ w s. begins_length main.seen.history w.view.seen.history s) learnt) past in
+      absurd (let z : 1 ≡ 0 = sym one ∙ all_times ws (length history) c.entries c.begins ∙ nothing in cc))
 
   -- ---- which zones are attached
 

@@ -6,7 +6,7 @@ use Rattle.std.proofs.lemmas.Option.{slice_get_within}
 use Rattle.zone_model.specs.Names.{Name}
 use Rattle.job_model.specs.Commands as jobs
 use Rattle.job_model.specs.declared.Question.TheVariants as question
-use Rattle.job_model.specs.Commands.{NeedsNoSnapshot, MayCome, InTurn}
+use Rattle.job_model.specs.Commands.{NeedsNoSnapshot, InTurn}
 use Rattle.job_script.specs.declared.outcomes.Outcome.{Outcome}
 use Rattle.shared_cells.specs.Views.{is_told}
 use Rattle.shared_cells.specs.History.{IsPartOf}
@@ -18,7 +18,7 @@ use Rattle.job_commands.specs.Works.{only, IsNew, ended}
 use Rattle.job_commands.specs.Steps.{Station}
 use Rattle.job_commands.proofs.HistoryLaws.{opened_same, part_same}
 use Rattle.job_commands.proofs.StepLaws.{under_itself}
-use Rattle.job_commands.proofs.WorkLaws.{WorkerAt, worker_starts, worker_goes_on, worker_ran}
+use Rattle.job_commands.proofs.WorkLaws.{WorkerAt, plain_goes_on, worker_starts, worker_ran}
 use Rattle.job_commands.proofs.ZoneLaws.{opens_still}
 use Rattle.zones_model.specs.Commands as model
 use Rattle.zones_model.specs.Commands.{Command}
@@ -88,14 +88,6 @@ plain_part zone (model.Block changed w asked ending) (done.Detached table refuse
 plain_part zone (model.Attach changed) d = tt
 plain_part zone (model.Detach changed) d = tt
 
-may_come : (c : jobs.Command) → NeedsNoSnapshot c → MayCome false c
-may_come (jobs.Ask question) plain = tt
-may_come jobs.Hold plain = absurd plain
-may_come (jobs.AskHeld question) plain = absurd plain
-may_come jobs.Release plain = absurd plain
-may_come (jobs.Block _ asked ending) plain = tt
-may_come jobs.Compact plain = tt
-
 -- ---- one zone
 
 -- a worker of one zone that has come so far
@@ -107,17 +99,7 @@ goes_on s number old new first parts [] told plain w same =
     subst (IsAt s number new first) (sym (append-nil parts)) (subst (λ (t : Station). WorkerAt s (only number) t (commands_of parts) [] (outcomes_of parts)) (sym same) w)
 goes_on s number old new first parts (p ∷ q ∷ more) told plain w step = absurd step
 goes_on s number old new first parts (p ∷ []) told plain w step =
-    let ahead : WorkerAt s (only number) (ended old first) (commands_of parts) (p.command ∷ []) (outcomes_of parts) = record {
-      alike = w.alike;
-      sight = w.sight;
-      under = w.under;
-      told = w.told;
-      work = w.work;
-      asker = w.asker;
-      holder = w.holder;
-      turn = (may_come p.command plain.0, tt);
-    } in
-    let next = worker_goes_on s (only number) (ended old first) (ended new first) (commands_of parts) p.command [] (outcomes_of parts) p.outcome (opened_same new.seen old.seen told step.asks) ahead step in
+    let next = plain_goes_on s (only number) (ended old first) (ended new first) (commands_of parts) p.command (outcomes_of parts) p.outcome told refl plain.0 w step in
     subst (λ (cs : List jobs.Command). WorkerAt s (only number) (ended new first) cs [] (outcomes_of (parts ++ p ∷ []))) (sym (map-append (λ (x : Part). x.command) parts (p ∷ [])))
     (subst (λ (os : List Outcome). WorkerAt s (only number) (ended new first) (commands_of parts ++ p.command ∷ []) [] os) (sym (map-append (λ (x : Part). x.outcome) parts (p ∷ []))) next)
 

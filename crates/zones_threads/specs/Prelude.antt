@@ -1,18 +1,12 @@
 -- The words that this crate's clauses cite, passed on from one place. Declares nothing.
-pub use Rattle.std.specs.List.{AllByRecursion, IsDistinct}
 pub use Rattle.std.specs.Thread.{IsSync}
 pub use Rattle.zone_model.specs.MasterFile.{Zone}
-pub use Rattle.zone_model.specs.Names.{same_name}
-pub use Rattle.job_script.specs.Views.{asked_view}
 pub use Rattle.zones_model.specs.Commands.{origins_of}
 pub use Rattle.zones_model.specs.Outcomes.{passes_for}
 pub use Rattle.zones_script.specs.Views.{command_view, worker_view}
 pub use Rattle.zones_report.specs.Telling.{last_of}
-pub use Rattle.shared_index.specs.Passes.{Learnt, known_at}
-pub use Rattle.zone_table.specs.Openings.{entries_in, places_of}
-pub use Rattle.zone_table.specs.Passes.{IsPassOf, table_known, zone_known}
-pub use Rattle.job_commands.specs.Calls.{AreHeard}
-pub use Rattle.job_commands.specs.Histories.{IsZone}
+pub use Rattle.zone_table.specs.Prelude.{AllByRecursion, IsDistinct, IsPassOf, entries_in, places_of, same_name, table_known, zone_known}
+pub use Rattle.job_commands.specs.Prelude.{AreHeard, IsZone, Learnt, asked_view, known_at}
 pub use Rattle.zones_threads.specs.Calls.{AllHeard}
 pub use Rattle.zones_threads.specs.Changes.{cause_told, version_told}
 pub use Rattle.zones_threads.specs.Closings.{table_views, zone_views}
