@@ -1,10 +1,9 @@
 -- How a run over several zones ends.
-use Rattle.std.proofs.Common.{◌≡◌, ◌∙◌, ⊎_elim, ℕ, ◌+◌, true, List, [], ◌∷◌, ◌++◌, length, map, Option, Some, refl, sym, ap, subst, arith, length-append}
+use Rattle.std.proofs.Common.{◌≡◌, ◌∙◌, ℕ, ◌+◌, true, List, [], ◌∷◌, ◌++◌, length, map, Option, Some, refl, sym, ap, subst, arith, length-append}
 use Rattle.std.specs.Prelude.{Contains}
 use Rattle.std.specs.List.{AllByRecursion, slice_get}
 use Rattle.std.proofs.lemmas.List.{map-append}
 use Rattle.std.proofs.lemmas.Option.{slice_get_within, get_or_from_slice_get}
-use Rattle.pin_core.proofs.Lists.{contains_cases}
 use Rattle.zone_model.specs.MasterFile.{Zone}
 use Rattle.zone_model.specs.Names.{Name}
 use Rattle.job_model.specs.Outcomes as one
@@ -22,11 +21,11 @@ use Rattle.job_commands.specs.Runs.{IsRun}
 use Rattle.job_commands.proofs.CloseLaws.{in_map}
 use Rattle.job_commands.proofs.EndLaws.{job_ends, number_with, numbers_same, out_of}
 use Rattle.job_commands.proofs.HistoryLaws.{begins_more, opened_same}
-use Rattle.job_commands.proofs.JobLaws.{here, there}
+use Rattle.job_commands.proofs.JobLaws.{there}
 use Rattle.job_commands.proofs.WorkLaws.{all_weaker}
 use Rattle.zones_model.specs.Commands.{Command, origins_of}
 use Rattle.zones_model.specs.Outcomes as model
-use Rattle.zones_model.specs.Outcomes.{Last, TableLawful, ZonesLawful}
+use Rattle.zones_model.specs.Outcomes.{Last}
 use Rattle.zones_model.specs.Reports.{no_zone, set_of}
 use Rattle.zone_table.specs.Tables.{IsAmong, IsTable}
 use Rattle.zones_report.specs.declared.outcomes.DoneList.{DoneList}

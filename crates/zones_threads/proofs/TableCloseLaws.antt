@@ -1,12 +1,11 @@
 -- What all workers together have made of the table.
-use Rattle.std.proofs.Common.{◌≡◌, ◌∙◌, ◌≢◌, inl, inr, ⊎_elim, ℕ, zero, suc, ◌+◌, ◌-◌, ◌<◌, ◌≤◌, Bool, true, false, cond, eqb, List, [], ◌∷◌, ◌++◌, length, Option, Some, None, refl, sym, ap, subst, arith, append-nil, length-append, eq-eqb}
+use Rattle.std.proofs.Common.{◌≡◌, ◌∙◌, ◌≢◌, inl, inr, ℕ, zero, suc, ◌+◌, ◌-◌, ◌<◌, ◌≤◌, Bool, true, false, cond, eqb, List, [], ◌∷◌, ◌++◌, length, Option, Some, None, refl, sym, ap, subst, arith, eq-eqb}
 use Rattle.std.specs.Prelude.{Contains}
 use Rattle.std.specs.Option.{option_map}
 use Rattle.std.specs.List.{AllByRecursion, slice_get}
 use Rattle.std.proofs.lemmas.Bool.{cases_eq}
 use Rattle.std.proofs.lemmas.Bool.Decides.{nat_tests}
 use Rattle.std.proofs.lemmas.List.Elements.{All-contains}
-use Rattle.pin_core.proofs.Lists.{contains_cases}
 use Rattle.zone_model.specs.Names.{Name, IsName}
 use Rattle.shared_cells.specs.History.{StartsWith, entries_by, version_after}
 use Rattle.shared_cells.specs.Views.{number_of}
@@ -16,7 +15,7 @@ use Rattle.shared_index.specs.Closings.{AllSeen, Includes, AreAll, IsCommitOf, E
 use Rattle.job_commands.specs.Closings.{Some', AreApart as NumbersApart, IsPass, numbers_in}
 use Rattle.job_commands.specs.Histories.{Commit, Entries, index_at, times_by}
 use Rattle.job_commands.proofs.CloseLaws.{all_rec, apart, none_entries, part_entries, pass_of, seen_all, some_of}
-use Rattle.job_commands.proofs.HistoryLaws.{begins_more, begins_length, index_last, times_none, times_front, times_past}
+use Rattle.job_commands.proofs.HistoryLaws.{begins_more, begins_length, index_last, times_front, times_past}
 use Rattle.job_commands.proofs.JobLaws.{Author, HasEntries, all-append, author_of, no_commits, nothing_past, number_in}
 use Rattle.job_commands.proofs.WorkLaws.{all_weaker}
 use Rattle.zones_model.specs.Outcomes as model

@@ -6,7 +6,7 @@ use Rattle.std.proofs.lemmas.Option.{slice_get_within}
 use Rattle.zone_model.specs.Names.{Name}
 use Rattle.job_model.specs.Commands as jobs
 use Rattle.job_model.specs.declared.Question.TheVariants as question
-use Rattle.job_model.specs.Commands.{NeedsNoSnapshot, InTurn}
+use Rattle.job_model.specs.Commands.{NeedsNoSnapshot}
 use Rattle.job_script.specs.declared.outcomes.Outcome.{Outcome}
 use Rattle.shared_cells.specs.Views.{is_told}
 use Rattle.shared_cells.specs.History.{IsPartOf}
@@ -16,7 +16,7 @@ use Rattle.job_commands.specs.Histories.{Setup}
 use Rattle.job_commands.specs.Commands.{IsSetup}
 use Rattle.job_commands.specs.Works.{only, IsNew, ended}
 use Rattle.job_commands.specs.Steps.{Station}
-use Rattle.job_commands.proofs.HistoryLaws.{opened_same, part_same}
+use Rattle.job_commands.proofs.HistoryLaws.{part_same}
 use Rattle.job_commands.proofs.StepLaws.{under_itself}
 use Rattle.job_commands.proofs.WorkLaws.{WorkerAt, plain_goes_on, worker_starts, worker_ran}
 use Rattle.job_commands.proofs.ZoneLaws.{opens_still}

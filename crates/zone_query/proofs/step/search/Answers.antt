@@ -1,4 +1,4 @@
-use Rattle.std.proofs.Common.{rules, ◌∙◌, ℕ, List, [], ◌++◌, map, sym, ap, subst, append-nil, None}
+use Rattle.std.proofs.Common.{rules, ◌∙◌, [], ◌++◌, map, sym, ap, subst, append-nil, None}
 use Rattle.zone_model.specs.Versions.{owned}
 use Rattle.trie_model.specs.Order.{chain}
 use Rattle.trie_read.specs.Above.{AreAncestors}
