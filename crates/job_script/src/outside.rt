@@ -71,6 +71,7 @@ fn has_room(script: &Script, line: u32) -> Result<(), JobRefusal>
 }
 
 // A command joins the worker's.
+#[inline(always)]
 fn add(script: &mut Script, command: Command) -> Result<(), JobRefusal>
     ensures { ScriptReads result (script_view script.new) (Ok (jobs.with_command (script_view script.old) (command_view command))) }
 {
