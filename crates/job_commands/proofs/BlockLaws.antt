@@ -31,7 +31,8 @@ use Rattle.zone_edit.specs.Stores.{WorksOnSome, EditsOne}
 use Rattle.zone_edit.specs.Blocks.{Edited, Executes, most_done}
 use Rattle.zone_edit.specs.declared.applying.Halt.{Halt}
 use Rattle.zone_edit.specs.declared.applying.Halt.TheVariants as halts
-use Rattle.zone_edit.proofs.EditLaws.{Both, both, edits_some, some_weaker}
+use Rattle.shared_index.proofs.WorkLaws.{Both, both}
+use Rattle.zone_edit.proofs.EditLaws.{edits_some, some_weaker}
 use Rattle.job_commands.specs.Histories.{IsLawful, Setup, StandsAs}
 use Rattle.job_commands.specs.Commands.{Transacts, Accepts, BlockRan, BlockWants, OpensAt, StoppedBy}
 use Rattle.job_commands.proofs.TransactLaws.{begun_some, lawful_block, commits_block, commits_grow, commits_version, back_grows, back_pass, back_version, memory_wants, full_wants, rolled_back, rule_broken, spent_block, full_block}
