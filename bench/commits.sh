@@ -157,7 +157,7 @@ theirs() {
 counted() {
     input "$1" "$2" "$3" >"$folder/input"
     rm -rf "$folder/db" && mkdir "$folder/db"
-    valgrind --tool=callgrind --callgrind-out-file=/dev/null --toggle-collect='*commits::commit::*' --toggle-collect=transaction "${@:4}" <"$folder/input" 2>&1 >/dev/null | sed -n 's/.*Collected : //p'
+    valgrind --tool=callgrind --callgrind-out-file=/dev/null --toggle-collect='*commits::commit::*' --toggle-collect='transaction*' "${@:4}" <"$folder/input" 2>&1 >/dev/null | sed -n 's/.*Collected : //p'
 }
 # NAMES KIND HELD, and a name with what runs it, and the program with its words: a line of the table
 told() {
