@@ -1,25 +1,22 @@
 -- Workers with two passes that are done, one after another.
-use Rattle.std.proofs.Common.{true, ◌≡◌, ◌∙◌, ⊎_elim, ℕ, ◌+◌, ◌*◌, List, [], ◌∷◌, ◌++◌, length, map, Result, Ok, Err, IfOk, refl, sym, ap, subst, arith, append_assoc, length-append}
+use Rattle.std.proofs.Common.{true, ◌≡◌, ◌∙◌, ⊎_elim, ℕ, ◌+◌, ◌*◌, List, [], ◌∷◌, ◌++◌, length, map, Result, Ok, Err, IfOk, refl, sym, ap, subst, arith, append_assoc}
 use Rattle.std.specs.Prelude.{Contains}
 use Rattle.std.specs.List.{All}
 use Rattle.std.proofs.lemmas.List.{map-append}
-use Rattle.std.proofs.lemmas.List.Elements.{All-cons, Contains-append_cases}
+use Rattle.std.proofs.lemmas.List.Elements.{All-cons}
 use Rattle.pin_core.proofs.Lists.{contains_cases}
 use Rattle.zone_model.specs.Names.{Name}
 use Rattle.job_model.specs.Commands.{Command}
 use Rattle.job_script.specs.declared.outcomes.Outcomes.{Outcomes}
 use Rattle.shared_cells.specs.declared.view.TableSize.{TableSize}
-use Rattle.shared_cells.specs.History.{StartsWith}
 use Rattle.shared_cells.specs.Views.{number_of, is_told}
 use Rattle.shared_index.specs.Passes.{Known, Learnt}
 use Rattle.job_commands.specs.Histories.{Setup}
 use Rattle.job_commands.specs.Commands.{IsIndex, IsSetup}
 use Rattle.job_commands.specs.Works.{AreNew, Begins, Numbers, WorkerRan, ended}
-use Rattle.job_commands.specs.Closings.{Worker, workers_views, views_of, numbers_in, Gathers}
-use Rattle.job_commands.proofs.HistoryLaws.{begins_more, opened_same}
+use Rattle.job_commands.specs.Closings.{Gathers}
 use Rattle.job_commands.proofs.JobLaws.{here, there}
-use Rattle.job_commands.proofs.WorkLaws.{all_weaker}
-use Rattle.job_commands.proofs.GatherLaws.{gathers_main, numbers_append, numbers_main, new_split}
+use Rattle.job_commands.proofs.GatherLaws.{gathers_main, gathers_with, new_split}
 
 -- no worker is left, and of the passes main's alone
 pub gathers_start : {A B : Type 0} (passes front : List A) (asks : A) (known : A → Known) (workers : List B) (view : B → List Command) (s : Setup) (os : List Outcomes) → passes ≡ front ++ asks ∷ [] → length passes ≡ 2 * length workers + 1 → length workers ≡ 0 → os ≡ [] → AreNew s.opening (map known passes)
@@ -32,36 +29,13 @@ pub gathers_more : (s : Setup) (before : List Known) (spare asks : Known) (ws : 
     → Gathers s before ws os views main → WorkerRan s n (ended asks' spare') w o.list.items → number_of asks.pass ≡ number_of asks'.pass → number_of spare.pass ≡ number_of spare'.pass → is_told main.seen.opening ≡ true → Learnt main after asks'.seen
     → Gathers s (before ++ spare ∷ asks ∷ []) (w ∷ ws) (o ∷ os) (asks' ∷ spare' ∷ views) after
 gathers_more s before spare asks ws os views main after spare' asks' n w o g r same_asks same_spare told l =
-    record {
-      done = record { numbers = n; station = ended asks' spare'; has_second = true; commands = w; outcomes = o; ran = r } ∷ g.done;
-      commands_are = ap (λ (ls : List (List Command)). w ∷ ls) g.commands_are;
-      outcomes_are = ap (λ (ls : List Outcomes). o ∷ ls) g.outcomes_are;
-      views_are = ap (λ (vs : List Known). asks' ∷ spare' ∷ vs) g.views_are;
-      as_many = (let many = g.as_many in omega (arith, many, length-append before (spare ∷ asks ∷ [])));
-      all_back = λ m c.
-          ⊎_elim
-          (λ (old : Contains (numbers_in before) m).
-          there (number_of asks'.pass) m (number_of spare'.pass ∷ numbers_in (views_of after g.done)) (there (number_of spare'.pass) m (numbers_in (views_of after g.done))
-          (subst (λ (ks : List ℕ). Contains ks m) (numbers_main main after l.pass (workers_views g.done)) (g.all_back m old))))
-          (λ (new : Contains (number_of spare.pass ∷ number_of asks.pass ∷ []) m). ⊎_elim
-          (λ (is : number_of spare.pass ≡ m). there (number_of asks'.pass) m (number_of spare'.pass ∷ numbers_in (views_of after g.done))
-          (subst (λ (k : ℕ). Contains (number_of spare'.pass ∷ numbers_in (views_of after g.done)) k) (sym same_spare ∙ is) (here (number_of spare'.pass) (numbers_in (views_of after g.done)))))
-          (λ (more : Contains (number_of asks.pass ∷ []) m). ⊎_elim
-          (λ (is : number_of asks.pass ≡ m). subst (λ (k : ℕ). Contains (number_of asks'.pass ∷ number_of spare'.pass ∷ numbers_in (views_of after g.done)) k) (sym same_asks ∙ is) (here (number_of asks'.pass) (number_of spare'.pass ∷ numbers_in (views_of after g.done))))
-          (λ (none : Contains [] m). absurd (let lt = none.1 in omega arith)) (contains_cases (number_of asks.pass) m [] more))
-          (contains_cases (number_of spare.pass) m (number_of asks.pass ∷ []) new))
-          (Contains-append_cases (numbers_in before) (number_of spare.pass ∷ number_of asks.pass ∷ []) m (subst (λ (ks : List ℕ). Contains ks m) (numbers_append before (spare ∷ asks ∷ [])) c));
-      own = g.own;
-      is_own = l.pass ∙ g.is_own;
-      none = g.none;
-      unpinned = g.unpinned;
-      opened = opened_same after.seen main.seen told l.grows ∙ g.opened;
-      learnt = (
-        l.learns.history,
-        all_weaker (λ (u : Worker s). StartsWith main.seen.history u.station.asks.seen.history) (λ (u : Worker s). StartsWith after.seen.history u.station.asks.seen.history) g.done
-            (λ u b. begins_more after.seen.history main.seen.history u.station.asks.seen.history l.grows.history b) g.learnt,
-      );
-    }
+    gathers_with s before (spare ∷ asks ∷ []) ws os views main after (record { numbers = n; station = ended asks' spare'; has_second = true; commands = w; outcomes = o; ran = r }) g refl
+    (λ m c. ⊎_elim
+    (λ (is : number_of spare.pass ≡ m). there (number_of asks'.pass) m (number_of spare'.pass ∷ []) (subst (λ (k : ℕ). Contains (number_of spare'.pass ∷ []) k) (sym same_spare ∙ is) (here (number_of spare'.pass) [])))
+    (λ (more : Contains (number_of asks.pass ∷ []) m). ⊎_elim
+    (λ (is : number_of asks.pass ≡ m). subst (λ (k : ℕ). Contains (number_of asks'.pass ∷ number_of spare'.pass ∷ []) k) (sym same_asks ∙ is) (here (number_of asks'.pass) (number_of spare'.pass ∷ [])))
+    (λ (none : Contains [] m). absurd (let lt = none.1 in omega arith)) (contains_cases (number_of asks.pass) m [] more))
+    (contains_cases (number_of spare.pass) m (number_of asks.pass ∷ []) c)) told l
 
 -- ---- passes put in in front of a list
 

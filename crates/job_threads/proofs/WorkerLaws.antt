@@ -2,7 +2,6 @@
 use Rattle.std.proofs.Common.{◌≡◌, ◌∙◌, ℕ, ◌+◌, ◌<◌, Bool, true, List, [], ◌∷◌, ◌++◌, length, map, take, drop, get_or, sym, subst}
 use Rattle.std.specs.List.{AllByRecursion}
 use Rattle.job_model.specs.Commands.{Command, held_after, InTurn, MayCome}
-use Rattle.job_model.specs.Outcomes.{made}
 use Rattle.job_script.specs.Views.{command_view}
 use Rattle.job_script.specs.declared.commands.Command.{Command as Said}
 use Rattle.job_script.specs.declared.outcomes.Outcome.{Outcome as Told_outcome}

@@ -11,7 +11,7 @@ use Rattle.shared_cells.specs.Views.{with_pinned}
 use Rattle.shared_index.specs.Openings.{room_in}
 use Rattle.shared_index.specs.Passes.{Known, version_seen}
 use Rattle.zone_dump.specs.declared.refusal.DumpRefusal.{DumpRefusal}
-use Rattle.job_commands.specs.Histories.{StandsAs}
+use Rattle.job_commands.specs.Histories.{Entries, StandsAs}
 use Rattle.job_threads.specs.declared.dumping.Dumped.{Dumped}
 use Rattle.job_threads.specs.declared.dumping.Dumped.TheVariants.{Written, DoesNotFit}
 
@@ -21,10 +21,14 @@ pub record Visited (old new : Known) : Type 0 where
   pub version : ℕ
   pub pass : new.pass ≡ with_pinned old.pass version
 
--- the version that a pass has seen last was written, or a front of it
-pub record Writes (style : Style) (origin : Name) (before now : Held) (result : Result ℕ DumpRefusal) (v : Known) : Type 0 where
-  pub ok : (zone : Version) → StandsAs (version_seen v.seen) zone → OnOk result (Grows before now (dump style origin zone))
-  pub err : (zone : Version) → StandsAs (version_seen v.seen) zone → OnErr result (GrowsByFront before now (dump style origin zone))
+-- a version of these entries was written, or a front of it
+pub record Writes (style : Style) (origin : Name) (before now : Held) (result : Result ℕ DumpRefusal) (version : Entries) : Type 0 where
+  pub ok : (zone : Version) → StandsAs version zone → OnOk result (Grows before now (dump style origin zone))
+  pub err : (zone : Version) → StandsAs version zone → OnErr result (GrowsByFront before now (dump style origin zone))
+
+-- so was the version that a pass has seen last
+pub record WritesSeen (style : Style) (origin : Name) (before now : Held) (result : Result ℕ DumpRefusal) (v : Known) : Type 0 where
+  pub last : Writes style origin before now result (version_seen v.seen)
 
 -- the zone fits, and the whole file was written; or it doesn't, both numbers are told, and nothing was written
 abbrev pub DumpedOn : ℕ → Style → Name → Version → Held → Held → Dumped → Type 0

@@ -1,4 +1,5 @@
 pub mod Snapshots
 pub mod Zones
 pub mod Dumps
+pub mod Passes
 pub mod Prelude

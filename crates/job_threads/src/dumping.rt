@@ -1,7 +1,7 @@
 //! A zone that is written as a master file.
-ghost use Rattle.std.specs.Prelude.{◌≡◌, ◌≤◌, ℕ, All, IsSome, IsErrOf, List, IfOk, OnOk, OnErr, length, map, Some, slice_get};
-ghost use Rattle.job_threads.specs.Prelude.{Grows, GrowsByFront, Rose, Version, dump, entries_of_items, known_at, AreAll};
-ghost use Rattle.job_threads.specs.Prelude.{Entries, IsZone, StandsAs, AreNew, DumpedOn, StopsOn, Visited, Writes};
+ghost use Rattle.std.specs.Prelude.{◌≡◌, ◌≤◌, ℕ, All, IsSome, IsErrOf, List, IfOk, OnErr, length, map, Some, slice_get};
+ghost use Rattle.job_threads.specs.Prelude.{Rose, Version, entries_of_items, known_at, AreAll};
+ghost use Rattle.job_threads.specs.Prelude.{Entries, IsZone, StandsAs, AreNew, DumpedOn, StopsOn, Visited, Writes, WritesSeen};
 
 use dns_name::Name;
 use job_commands::ZoneLaw;
@@ -36,7 +36,7 @@ fn dump_current<N: Named, K: Sink>(
     ensures here { IsSome pass.new.seat }
     ensures place { pass.new.place ≡ pass.old.place }
     ensures visited { Visited (known_at pass.old.seat) (known_at pass.new.seat) }
-    ensures writes { Writes style origin.now (K.held sink.old) (K.held sink.new) result (known_at pass.new.seat) }
+    ensures writes { WritesSeen style origin.now (K.held sink.old) (K.held sink.new) result (known_at pass.new.seat) }
     ensures fault { IsErrOf result DumpRefusal.Fault → Rose (K.faults sink.old) (K.faults sink.new) }
     ensures quiet { (IsErrOf result DumpRefusal.Fault → ⊥) → K.faults sink.new ≡ K.faults sink.old }
 {
@@ -57,10 +57,7 @@ fn dump_opened<N: Named, K: Sink>(
     requires size { index.shared.table.shared.key.passes ≡ 1 }
     requires all { AreAll 1 (map (λ p. known_at p.seat) passes.items) }
     requires here { All (λ p. (IsSome p.seat) × (p.place ≡ index.place)) passes.items }
-    ensures ok { (opening : Entries) (zone : Version) → AreNew opening (map (λ p. known_at p.seat) passes.items) → StandsAs opening zone
-        → OnOk result (Grows (K.held sink.old) (K.held sink.new) (dump style origin.now zone)) }
-    ensures err { (opening : Entries) (zone : Version) → AreNew opening (map (λ p. known_at p.seat) passes.items) → StandsAs opening zone
-        → OnErr result (GrowsByFront (K.held sink.old) (K.held sink.new) (dump style origin.now zone)) }
+    ensures writes { (opening : Entries) → AreNew opening (map (λ p. known_at p.seat) passes.items) → Writes style origin.now (K.held sink.old) (K.held sink.new) result opening }
     ensures fault { IsErrOf result DumpRefusal.Fault → Rose (K.faults sink.old) (K.faults sink.new) }
     ensures quiet { (IsErrOf result DumpRefusal.Fault → ⊥) → K.faults sink.new ≡ K.faults sink.old }
 {

@@ -1,7 +1,7 @@
 //! A worker's two passes: one asks and writes, and the other is with the snapshot while one is held.
 ghost use Rattle.std.specs.Prelude.{◌≡◌, IsSome, IfSome, IfOk, None, true, false};
-ghost use Rattle.job_threads.specs.Prelude.{option_map, is_some, Hold, AskHeld, Release, IsPartOf, known_at};
-ghost use Rattle.job_threads.specs.Prelude.{first_version, Setup, IsUnder, Step, IsPlaced, holder_view, station};
+ghost use Rattle.job_threads.specs.Prelude.{Hold, AskHeld, Release, IsPartOf, known_at, first_version, Setup};
+ghost use Rattle.job_threads.specs.Prelude.{IsUnder, Step, ArePlaced, holder_of, holds_one, station_of};
 
 use crate::holding::{ask_held, hold, release};
 use dns_name::Name;
@@ -27,20 +27,18 @@ pub fn take_snapshot<'i, N: Named>(
     requires here { IsSome passes.old.asks.seat }
     requires place { passes.old.asks.place ≡ index.now.place }
     requires places { IfSome passes.old.spare (λ p. p.place ≡ index.now.place) }
-    requires placed { IsPlaced (option_map (λ p. p.seat) passes.old.spare) (option_map (λ s. s.seat) passes.old.held) }
-    requires free { is_some (option_map (λ s. s.seat) passes.old.held) ≡ false }
+    requires placed { ArePlaced passes.old }
+    requires free { holds_one passes.old ≡ false }
     ensures here { IsSome passes.new.asks.seat }
     ensures place { passes.new.asks.place ≡ index.now.place }
     ensures places { IfSome passes.new.spare (λ p. p.place ≡ index.now.place) }
-    ensures placed { IsPlaced (option_map (λ p. p.seat) passes.new.spare) (option_map (λ s. s.seat) passes.new.held) }
+    ensures placed { ArePlaced passes.new }
     ensures held_at { IfSome passes.new.held (λ s. s.place ≡ index.now.place) }
-    ensures held { is_some (option_map (λ s. s.seat) passes.new.held) ≡ true }
+    ensures held { holds_one passes.new ≡ true }
     ensures grows { IsPartOf (known_at passes.new.asks.seat).seen (known_at passes.old.asks.seat).seen }
     ensures steps { (s : Setup) → first_version (known_at passes.old.asks.seat).seen ≡ s.opening
-        → IsUnder (known_at passes.old.asks.seat) (holder_view (option_map (λ p. p.seat) passes.old.spare) (option_map (λ s. s.seat) passes.old.held))
-        → Step s Hold result
-        (station passes.old.asks.seat (option_map (λ p. p.seat) passes.old.spare) (option_map (λ s. s.seat) passes.old.held))
-        (station passes.new.asks.seat (option_map (λ p. p.seat) passes.new.spare) (option_map (λ s. s.seat) passes.new.held)) }
+        → IsUnder (known_at passes.old.asks.seat) (holder_of passes.old)
+        → Step s Hold result (station_of passes.old) (station_of passes.new) }
 {
     let Some(second) = passes.spare.take() else {
         // Nothing is held.
@@ -60,14 +58,12 @@ pub fn ask_snapshot<N: Named>(
     room: &mut Room,
 ) -> Result<Outcome, AllocError>
     requires here { IsSome passes.old.asks.seat }
-    requires placed { IsPlaced (option_map (λ p. p.seat) passes.old.spare) (option_map (λ s. s.seat) passes.old.held) }
-    requires taken { is_some (option_map (λ s. s.seat) passes.old.held) ≡ true }
+    requires placed { ArePlaced passes.old }
+    requires taken { holds_one passes.old ≡ true }
     ensures same { IfOk result (λ _. passes.new ≡ passes.old) }
     ensures steps { (s : Setup) → s.origin ≡ origin.now → first_version (known_at passes.old.asks.seat).seen ≡ s.opening
-        → IsUnder (known_at passes.old.asks.seat) (holder_view (option_map (λ p. p.seat) passes.old.spare) (option_map (λ s. s.seat) passes.old.held))
-        → IfOk result (λ o. Step s (AskHeld question.now) o
-        (station passes.old.asks.seat (option_map (λ p. p.seat) passes.old.spare) (option_map (λ s. s.seat) passes.old.held))
-        (station passes.old.asks.seat (option_map (λ p. p.seat) passes.old.spare) (option_map (λ s. s.seat) passes.old.held))) }
+        → IsUnder (known_at passes.old.asks.seat) (holder_of passes.old)
+        → IfOk result (λ o. Step s (AskHeld question.now) o (station_of passes.old) (station_of passes.old)) }
 {
     let Some(mut snapshot) = passes.held.take() else {
         // A script asks a snapshot only while one is held.
@@ -81,18 +77,16 @@ pub fn ask_snapshot<N: Named>(
 /// Gives the snapshot back.
 pub fn give_back<N: Named>(passes: &mut Passes<'_, N>) -> Outcome
     requires here { IsSome passes.old.asks.seat }
-    requires placed { IsPlaced (option_map (λ p. p.seat) passes.old.spare) (option_map (λ s. s.seat) passes.old.held) }
+    requires placed { ArePlaced passes.old }
     requires place { IfSome passes.old.held (λ s. s.place ≡ passes.old.asks.place) }
-    requires taken { is_some (option_map (λ s. s.seat) passes.old.held) ≡ true }
+    requires taken { holds_one passes.old ≡ true }
     ensures same { passes.new.asks ≡ passes.old.asks }
     ensures places { IfSome passes.new.spare (λ p. p.place ≡ passes.old.asks.place) }
-    ensures placed { IsPlaced (option_map (λ p. p.seat) passes.new.spare) (option_map (λ s. s.seat) passes.new.held) }
+    ensures placed { ArePlaced passes.new }
     ensures held { passes.new.held ≡ None }
     ensures steps { (s : Setup) → first_version (known_at passes.old.asks.seat).seen ≡ s.opening
-        → IsUnder (known_at passes.old.asks.seat) (holder_view (option_map (λ p. p.seat) passes.old.spare) (option_map (λ s. s.seat) passes.old.held))
-        → Step s Release result
-        (station passes.old.asks.seat (option_map (λ p. p.seat) passes.old.spare) (option_map (λ s. s.seat) passes.old.held))
-        (station passes.new.asks.seat (option_map (λ p. p.seat) passes.new.spare) (option_map (λ s. s.seat) passes.new.held)) }
+        → IsUnder (known_at passes.old.asks.seat) (holder_of passes.old)
+        → Step s Release result (station_of passes.old) (station_of passes.new) }
 {
     let Some(snapshot) = passes.held.take() else {
         // A script gives a snapshot back only while one is held.
@@ -105,14 +99,14 @@ pub fn give_back<N: Named>(passes: &mut Passes<'_, N>) -> Outcome
 
 /// Both passes. A snapshot that is still held is given back.
 pub fn second_pass<N: Named>(passes: Passes<'_, N>) -> (Pass<N>, Pass<N>)
-    requires placed { IsPlaced (option_map (λ p. p.seat) passes.spare) (option_map (λ s. s.seat) passes.held) }
+    requires placed { ArePlaced passes }
     requires place { IfSome passes.spare (λ p. p.place ≡ passes.asks.place) }
     requires held_at { IfSome passes.held (λ s. s.place ≡ passes.asks.place) }
     ensures same { result.0 ≡ passes.entry.asks }
     ensures here { IsSome result.1.seat }
     ensures place { result.1.place ≡ passes.entry.asks.place }
-    ensures seen { (known_at result.1.seat).seen ≡ (holder_view (option_map (λ p. p.seat) passes.entry.spare) (option_map (λ s. s.seat) passes.entry.held)).seen }
-    ensures pass { (known_at result.1.seat).pass ≡ (holder_view (option_map (λ p. p.seat) passes.entry.spare) (option_map (λ s. s.seat) passes.entry.held)).pass }
+    ensures seen { (known_at result.1.seat).seen ≡ (holder_of passes.entry).seen }
+    ensures pass { (known_at result.1.seat).pass ≡ (holder_of passes.entry).pass }
 {
     let Passes { asks, spare, held } = passes;
     if let Some(snapshot) = held {

@@ -1,8 +1,8 @@
 //! A worker that runs its commands.
 ghost use Rattle.std.specs.Prelude.{◌≡◌, IsSome, IfSome, IfOk, length, map, false};
-ghost use Rattle.job_threads.specs.Prelude.{option_map, is_some, AllByRecursion, InTurn, MayCome, held_after};
+ghost use Rattle.job_threads.specs.Prelude.{AllByRecursion, InTurn, MayCome, held_after};
 ghost use Rattle.job_threads.specs.Prelude.{command_view, AllAsked, known_at, Setup, AreHeard, IsSetup, OpensAt, IsUnder};
-ghost use Rattle.job_threads.specs.Prelude.{Step, IsPlaced, holder_view, station, Begins, Numbers, WorkerRan, ended};
+ghost use Rattle.job_threads.specs.Prelude.{Step, Begins, Numbers, WorkerRan, ended, ArePlaced, holder_of, holds_one, station_of};
 
 use crate::passes::{Passes, ask_snapshot, give_back, second_pass, take_snapshot};
 use dns_name::Name;
@@ -42,23 +42,21 @@ fn run_command<'i, R: Wait, N: Named>(
     requires here { IsSome passes.old.asks.seat }
     requires place { passes.old.asks.place ≡ index.now.place }
     requires places { IfSome passes.old.spare (λ p. p.place ≡ index.now.place) }
-    requires placed { IsPlaced (option_map (λ p. p.seat) passes.old.spare) (option_map (λ s. s.seat) passes.old.held) }
+    requires placed { ArePlaced passes.old }
     requires held_at { IfSome passes.old.held (λ s. s.place ≡ index.now.place) }
-    requires may { MayCome (is_some (option_map (λ s. s.seat) passes.old.held)) (command_view command.now) }
+    requires may { MayCome (holds_one passes.old) (command_view command.now) }
     requires opens { OpensAt origin.now (known_at passes.old.asks.seat) }
     requires said { AllAsked origin.now (command_view command.now) }
     ensures here { IfOk result (λ _. IsSome passes.new.asks.seat) }
     ensures place { IfOk result (λ _. passes.new.asks.place ≡ index.now.place) }
     ensures places { IfOk result (λ _. IfSome passes.new.spare (λ p. p.place ≡ index.now.place)) }
-    ensures placed { IfOk result (λ _. IsPlaced (option_map (λ p. p.seat) passes.new.spare) (option_map (λ s. s.seat) passes.new.held)) }
+    ensures placed { IfOk result (λ _. ArePlaced passes.new) }
     ensures held_at { IfOk result (λ _. IfSome passes.new.held (λ s. s.place ≡ index.now.place)) }
     ensures opens { IfOk result (λ _. OpensAt origin.now (known_at passes.new.asks.seat)) }
-    ensures held { IfOk result (λ _. is_some (option_map (λ s. s.seat) passes.new.held) ≡ held_after (is_some (option_map (λ s. s.seat) passes.old.held)) (command_view command.now)) }
+    ensures held { IfOk result (λ _. holds_one passes.new ≡ held_after (holds_one passes.old) (command_view command.now)) }
     ensures steps { (s : Setup) → IsSetup s origin.now index.now.shared.table.shared.key (known_at passes.old.asks.seat)
-        → IsUnder (known_at passes.old.asks.seat) (holder_view (option_map (λ p. p.seat) passes.old.spare) (option_map (λ s. s.seat) passes.old.held))
-        → IfOk result (λ o. Step s (command_view command.now) o
-        (station passes.old.asks.seat (option_map (λ p. p.seat) passes.old.spare) (option_map (λ s. s.seat) passes.old.held))
-        (station passes.new.asks.seat (option_map (λ p. p.seat) passes.new.spare) (option_map (λ s. s.seat) passes.new.held))) }
+        → IsUnder (known_at passes.old.asks.seat) (holder_of passes.old)
+        → IfOk result (λ o. Step s (command_view command.now) o (station_of passes.old) (station_of passes.new)) }
 {
     match command {
         Command::Hold => Ok(take_snapshot(index, passes)),

@@ -60,12 +60,16 @@ within_limit : (n : ℕ) → n ≤ 16777216 → leb n 16777216 ≡ true
 within_limit n h = grind (arith, nat_tests)
 
 -- an input that was read whole
-pub read_due : (i : Invocation) (before now : Option (List ℕ)) (bytes : List ℕ) (s : Status) (text : List ℕ) → Consumes before now bytes → IsAtEnd now → length bytes ≤ 16777216 → DueInput i.verb i.chunks i.origin bytes s text → DueGiven i before s text
+read_due : (i : Invocation) (before now : Option (List ℕ)) (bytes : List ℕ) (s : Status) (text : List ℕ) → Consumes before now bytes → IsAtEnd now → length bytes ≤ 16777216 → DueInput i.verb i.chunks i.origin bytes s text → DueGiven i before s text
 read_due i None now bytes s text c e le h = tt
 read_due i (Some all) None bytes s text c e le h = absurd c
 read_due i (Some all) (Some rest) bytes s text c e le h =
     let whole : all ≡ bytes = c ∙ ap (λ (l : List ℕ). bytes ++ l) e ∙ append-nil bytes in
     subst (λ (l : List ℕ). DueBytes i l (leb (length l) 16777216) s text) (sym whole) (subst (λ (b : Bool). DueBytes i bytes b s text) (sym (within_limit (length bytes) le)) h)
+
+-- so that is due for the words
+pub source_due : (i : Invocation) (before now : Option (List ℕ)) (bytes : List ℕ) → input_of i.verb before ≡ before → Consumes before now bytes → IsAtEnd now → length bytes ≤ 16777216 → (s : Status) (text : List ℕ) → DueInput i.verb i.chunks i.origin bytes s text → Due (Some i) before s text
+source_due i before now bytes same c e le s text h = given_due i before s text same (read_due i before now bytes s text c e le h)
 
 -- an input that was made
 pub made_due : (i : Invocation) (load : Load) (bytes : List ℕ) (s : Status) (text : List ℕ) (left : Option (List ℕ)) → i.verb ≡ Make load → bytes ≡ made_text load → length bytes ≤ 16777216 → DueInput i.verb i.chunks i.origin bytes s text → Due (Some i) left s text
@@ -155,10 +159,6 @@ whole_job origin bytes zone workers z w =
     ap (λ r. zone_refused r >>= (λ version. script_refused (script_of origin (script_start bytes) (script_lines bytes)) >>= (λ ws. Ok (record { origin = origin; zone = version; workers = ws })))) z
     ∙ ap (λ r. script_refused r >>= (λ ws. Ok (record { origin = origin; zone = zone; workers = ws }))) w
 
-pub no_zone : (origin : Name) (bytes : List ℕ) (e : Refused ZoneKind) → zone_of origin (zone_lines bytes) ≡ Err e → job_of origin bytes ≡ Err (ZoneRefused e)
-unfolding job_of_lines
-no_zone origin bytes e z = ap (λ r. zone_refused r >>= (λ version. script_refused (script_of origin (script_start bytes) (script_lines bytes)) >>= (λ ws. Ok (record { origin = origin; zone = version; workers = ws })))) z
-
 answers_as : (telling : Telling) (chunks : ℕ) (q r : Result Job JobRefusal) (s : Status) (text : List ℕ) → q ≡ r → Answers telling chunks r s text → Answers telling chunks q s text
 answers_as telling chunks q r s text e h = subst (λ (x : Result Job JobRefusal). Answers telling chunks x s text) (sym e) h
 
@@ -166,13 +166,6 @@ answers_as telling chunks q r s text e h = subst (λ (x : Result Job JobRefusal)
 pub job_answers : (telling : Telling) (chunks : ℕ) (origin : Name) (bytes : List ℕ) (zone : Version) (workers : List (List Command)) → zone_of origin (zone_lines bytes) ≡ Ok zone → script_of origin (script_start bytes) (script_lines bytes) ≡ Ok workers
     → (s : Status) (text : List ℕ) → Answers telling chunks (Ok (record { origin = origin; zone = zone; workers = workers })) s text → Answers telling chunks (job_of origin bytes) s text
 job_answers telling chunks origin bytes zone workers z w s text h = answers_as telling chunks (job_of origin bytes) (Ok (record { origin = origin; zone = zone; workers = workers })) s text (whole_job origin bytes zone workers z w) h
-
--- a job whose script is refused
-pub whole_refusal : (origin : Name) (bytes : List ℕ) (zone : Version) (e : Refused ScriptKind) → zone_of origin (zone_lines bytes) ≡ Ok zone → script_of origin (script_start bytes) (script_lines bytes) ≡ Err e → job_of origin bytes ≡ Err (ScriptRefused e)
-unfolding job_of_lines
-whole_refusal origin bytes zone e z w =
-    ap (λ r. zone_refused r >>= (λ version. script_refused (script_of origin (script_start bytes) (script_lines bytes)) >>= (λ ws. Ok (record { origin = origin; zone = version; workers = ws })))) z
-    ∙ ap (λ r. script_refused r >>= (λ ws. Ok (record { origin = origin; zone = zone; workers = ws }))) w
 
 -- the same of what a job needs
 
@@ -219,16 +212,6 @@ whole_list : (origin : Name) (bytes : List ℕ) (zone : Version) (commands : Lis
     → fed_job_of origin bytes ≡ Ok (record { origin = origin; zone = zone; commands = commands })
 unfolding fed_job_of_lines
 whole_list origin bytes zone commands z w =
-    ap (λ r. zone_refused r >>= (λ version. script_refused (list_of origin (script_start bytes) (script_lines bytes)) >>= (λ cs. Ok (record { origin = origin; zone = version; commands = cs })))) z
-    ∙ ap (λ r. script_refused r >>= (λ cs. Ok (record { origin = origin; zone = zone; commands = cs }))) w
-
-pub no_fed_zone : (origin : Name) (bytes : List ℕ) (e : Refused ZoneKind) → zone_of origin (zone_lines bytes) ≡ Err e → fed_job_of origin bytes ≡ Err (ZoneRefused e)
-unfolding fed_job_of_lines
-no_fed_zone origin bytes e z = ap (λ r. zone_refused r >>= (λ version. script_refused (list_of origin (script_start bytes) (script_lines bytes)) >>= (λ cs. Ok (record { origin = origin; zone = version; commands = cs })))) z
-
-pub whole_list_refusal : (origin : Name) (bytes : List ℕ) (zone : Version) (e : Refused ScriptKind) → zone_of origin (zone_lines bytes) ≡ Ok zone → list_of origin (script_start bytes) (script_lines bytes) ≡ Err e → fed_job_of origin bytes ≡ Err (ScriptRefused e)
-unfolding fed_job_of_lines
-whole_list_refusal origin bytes zone e z w =
     ap (λ r. zone_refused r >>= (λ version. script_refused (list_of origin (script_start bytes) (script_lines bytes)) >>= (λ cs. Ok (record { origin = origin; zone = version; commands = cs })))) z
     ∙ ap (λ r. script_refused r >>= (λ cs. Ok (record { origin = origin; zone = zone; commands = cs }))) w
 

@@ -1,5 +1,5 @@
 -- Several zones that are opened with their items: whether each of them fits.
-use Rattle.std.proofs.Common.{◌≡◌, ◌∙◌, inl, inr, ℕ, zero, suc, ◌<◌, ◌≤◌, leb, Bool, true, false, ◌&&◌, List, [], ◌∷◌, ◌++◌, length, Some, Ok, refl, sym, ap, subst, arith, codes}
+use Rattle.std.proofs.Common.{◌≡◌, ◌∙◌, inl, inr, ℕ, zero, suc, ◌<◌, ◌≤◌, leb, Bool, true, false, ◌&&◌, List, [], ◌∷◌, ◌++◌, length, map, Some, Ok, refl, sym, ap, subst, arith, codes}
 use Rattle.std.proofs.lemmas.List.{length-map}
 use Rattle.std.proofs.lemmas.Bool.Decides.{nat_tests}
 use Rattle.std.specs.Fmt.{decimal}
@@ -54,6 +54,10 @@ items_many [] [] are = refl
 items_many [] (z ∷ items) are = absurd are
 items_many (zone ∷ zones) [] are = absurd are
 items_many (zone ∷ zones) (z ∷ items) are = ap suc (items_many zones items are.1)
+
+-- as many as there are tables
+pub sizes_many : {B S : Type 0} (blanks : List B) (size_of : B → S) (zones : List Zone) (items : List ZoneItems) → AreAllItems zones items → length blanks ≡ length zones → length (map size_of blanks) ≡ length items
+sizes_many blanks size_of zones items are each = length-map blanks size_of ∙ each ∙ sym (items_many zones items are)
 
 origins_same : (zones : List Zone) (items : List ZoneItems) → AreAllItems zones items → model.origins_of zones ≡ origins_of items
 origins_same [] [] are = refl

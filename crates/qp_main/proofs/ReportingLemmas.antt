@@ -1,15 +1,13 @@
 -- What is reported of a job that was run.
-use Rattle.std.proofs.Common.{◌≡◌, ◌∙◌, ℕ, zero, suc, ◌+◌, ◌-◌, ◌≤◌, leb, Bool, true, cond, List, [], ◌++◌, length, map, take, drop, Result, Ok, refl, sym, ap, subst, arith}
+use Rattle.std.proofs.Common.{◌≡◌, ◌∙◌, ℕ, zero, suc, ◌+◌, ◌-◌, ◌≤◌, leb, Bool, true, cond, List, [], ◌++◌, length, map, take, drop, Ok, refl, sym, ap, subst, arith}
 use Rattle.std.proofs.lemmas.List.{take_all, length-drop}
 use Rattle.std.proofs.lemmas.Bool.Decides.{nat_tests}
 use Rattle.std.specs.List.{AllByRecursion, list_any, range_with_len}
 use Rattle.zone_model.specs.Names.{Name}
 use Rattle.zone_model.specs.Versions.{Version}
-use Rattle.zone_model.specs.Refusals.{Refused}
 use Rattle.zone_model.specs.Lines.{lines_of}
-use Rattle.job_model.specs.declared.ScriptKind.{ScriptKind}
 use Rattle.job_model.specs.Commands.{Command}
-use Rattle.job_model.specs.Jobs.{script_of, script_start, script_lines}
+use Rattle.job_model.specs.Jobs.{script_lines}
 use Rattle.job_model.specs.Outcomes.{AllAlong, Pair, Setting, all_pairs, is_refused, passes_for, setting_of, times_made, version_at}
 use Rattle.job_model.specs.Reports.{end_text}
 use Rattle.job_model.specs.Feeds.{by_worker, pairs_by, passes_fed}

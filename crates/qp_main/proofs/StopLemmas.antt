@@ -1,13 +1,13 @@
 -- What is told of an input that is refused is due for it.
-use Rattle.std.proofs.Common.{◌≡◌, ◌∙◌, ℕ, List, Result, Ok, Err, refl, sym, ap, subst}
+use Rattle.std.proofs.Common.{◌≡◌, ◌∙◌, ℕ, List, Result, Ok, Err, sym, ap, subst}
 use Rattle.zone_model.specs.Names.{Name}
 use Rattle.zone_model.specs.Versions.{Version}
-use Rattle.zone_model.specs.Refusals.{Refused}
+use Rattle.zone_model.specs.Refusals.{Refused, ◌>>=◌}
 use Rattle.zone_model.specs.MasterFile.{Zone, zone_of}
 use Rattle.zone_model.specs.declared.Style.{Style}
 use Rattle.zone_model.specs.declared.ZoneKind.{ZoneKind}
-use Rattle.job_model.specs.Commands.{FedJob, Job}
-use Rattle.job_model.specs.Jobs.{JobRefusal, ZoneRefused, ScriptRefused, zone_lines, script_lines, script_start, script_of, list_of, job_of, fed_job_of}
+use Rattle.job_model.specs.Commands.{Command, FedJob, Job}
+use Rattle.job_model.specs.Jobs.{JobRefusal, zone_lines, script_lines, script_start, script_of, list_of, zone_refused, script_refused, job_of, job_of_lines, fed_job_of, fed_job_of_lines}
 use Rattle.job_model.specs.declared.ScriptKind.{ScriptKind}
 use Rattle.zone_text.specs.Views.{Reads}
 use Rattle.zone_text.specs.declared.refusal.ZoneRefusal.{ZoneRefusal}
@@ -18,7 +18,7 @@ use Rattle.qp_main.specs.declared.refusing.Stop.{Stop}
 use Rattle.qp_main.specs.declared.refusing.Stop.TheVariants as stops
 use Rattle.qp_main.specs.declared.status.Status.{Status}
 use Rattle.qp_main.specs.declared.run_report.Telling.{Telling}
-use Rattle.qp_main.proofs.DueLemmas.{no_fed_zone, no_zone, stop_as, whole_list_refusal, whole_refusal}
+use Rattle.qp_main.proofs.DueLemmas.{stop_as}
 
 -- a zone that its reader refused, whose lines are those of some bytes
 pub zone_is_refused : (origin : Name) (lines wanted : List (List ℕ)) (r : ZoneRefusal) (s : Stop) → lines ≡ wanted → Reads {R = Zone} (Err r) (λ z. z.pairs) (zone_of origin lines) → ZoneStopsFor r s → IsStop (ZoneStops (zone_of origin wanted)) s
@@ -61,30 +61,41 @@ fed_answers_stop workers chunks (Ok job) stops.Memory h = tt
 fed_answers_stop workers chunks (Err e) (stops.Refused status text) h = h
 fed_answers_stop workers chunks (Err e) stops.Memory h = tt
 
--- what is refused of a job, by what that of its parts makes of it
-module _ {J : Type 0} (zone : Result Version (Refused ZoneKind)) (job : Result J JobRefusal) (no_zone : (e : Refused ZoneKind) → zone ≡ Err e → job ≡ Err (ZoneRefused e)) where
-  by_zone : (r : Result Version (Refused ZoneKind)) (s : Status) (text : List ℕ) → zone ≡ r → ZoneStops r s text → JobStops job s text
-  by_zone (Ok version) s text z h = absurd h
-  by_zone (Err e) s text z h = subst (λ (x : Result J JobRefusal). JobStops x s text) (sym (no_zone e z)) h
+-- a job is a zone and what is read behind it, or what is refused of these
+abbrev joined : {W J : Type 0} → Result Version (Refused ZoneKind) → Result W (Refused ScriptKind) → (Version → W → J) → Result J JobRefusal
+joined zone script make = zone_refused zone >>= (λ version. script_refused script >>= (λ read. Ok (make version read)))
 
-  by_script : (e : Refused ScriptKind) → ((version : Version) → zone ≡ Ok version → job ≡ Err (ScriptRefused e)) → (r : Result Version (Refused ZoneKind)) (s : Status) (text : List ℕ) → zone ≡ r → RefusesScript r e s text → JobStops job s text
-  by_script e refused (Ok version) s text z h = subst (λ (x : Result J JobRefusal). JobStops x s text) (sym (refused version z)) h
-  by_script e refused (Err why) s text z h = subst (λ (x : Result J JobRefusal). JobStops x s text) (sym (no_zone why z)) h
+module _ {W J : Type 0} (script : Result W (Refused ScriptKind)) (make : Version → W → J) where
+  by_zone : (zone : Result Version (Refused ZoneKind)) (s : Status) (text : List ℕ) → ZoneStops zone s text → JobStops (joined zone script make) s text
+  by_zone (Ok version) s text h = absurd h
+  by_zone (Err e) s text h = h
+
+  by_script : (e : Refused ScriptKind) → script ≡ Err e → (zone : Result Version (Refused ZoneKind)) (s : Status) (text : List ℕ) → RefusesScript zone e s text → JobStops (joined zone script make) s text
+  by_script e w (Ok version) s text h = subst (λ (x : Result W (Refused ScriptKind)). JobStops (joined (Ok version) x make) s text) (sym w) h
+  by_script e w (Err why) s text h = h
 
 module _ (origin : Name) (bytes : List ℕ) where
+  abbrev job_with : Version → List (List Command) → Job
+  job_with zone workers = record { origin = origin; zone = zone; workers = workers }
+
+  abbrev list_with : Version → List Command → FedJob
+  list_with zone commands = record { origin = origin; zone = zone; commands = commands }
+
   -- its zone is refused
   pub job_zone_stops : (s : Stop) → IsStop (ZoneStops (zone_of origin (zone_lines bytes))) s → IsStop (JobStops (job_of origin bytes)) s
-  job_zone_stops s h = stop_as (ZoneStops (zone_of origin (zone_lines bytes))) (JobStops (job_of origin bytes)) s (λ status text. by_zone (zone_of origin (zone_lines bytes)) (job_of origin bytes) (no_zone origin bytes) (zone_of origin (zone_lines bytes)) status text refl) h
+  unfolding job_of_lines
+  job_zone_stops s h = stop_as _ _ s (by_zone (script_of origin (script_start bytes) (script_lines bytes)) job_with (zone_of origin (zone_lines bytes))) h
 
   pub fed_zone_stops : (s : Stop) → IsStop (ZoneStops (zone_of origin (zone_lines bytes))) s → IsStop (JobStops (fed_job_of origin bytes)) s
-  fed_zone_stops s h = stop_as (ZoneStops (zone_of origin (zone_lines bytes))) (JobStops (fed_job_of origin bytes)) s (λ status text. by_zone (zone_of origin (zone_lines bytes)) (fed_job_of origin bytes) (no_fed_zone origin bytes) (zone_of origin (zone_lines bytes)) status text refl) h
+  unfolding fed_job_of_lines
+  fed_zone_stops s h = stop_as _ _ s (by_zone (list_of origin (script_start bytes) (script_lines bytes)) list_with (zone_of origin (zone_lines bytes))) h
 
   -- its script is
   module _ (e : Refused ScriptKind) (s : Stop) (told : IsStop (RefusesScript (zone_of origin (zone_lines bytes)) e) s) where
     pub job_script_stops : script_of origin (script_start bytes) (script_lines bytes) ≡ Err e → IsStop (JobStops (job_of origin bytes)) s
-    job_script_stops w = stop_as (RefusesScript (zone_of origin (zone_lines bytes)) e) (JobStops (job_of origin bytes)) s
-        (λ status text. by_script (zone_of origin (zone_lines bytes)) (job_of origin bytes) (no_zone origin bytes) e (λ version z. whole_refusal origin bytes version e z w) (zone_of origin (zone_lines bytes)) status text refl) told
+    unfolding job_of_lines
+    job_script_stops w = stop_as _ _ s (by_script (script_of origin (script_start bytes) (script_lines bytes)) job_with e w (zone_of origin (zone_lines bytes))) told
 
     pub fed_script_stops : list_of origin (script_start bytes) (script_lines bytes) ≡ Err e → IsStop (JobStops (fed_job_of origin bytes)) s
-    fed_script_stops w = stop_as (RefusesScript (zone_of origin (zone_lines bytes)) e) (JobStops (fed_job_of origin bytes)) s
-        (λ status text. by_script (zone_of origin (zone_lines bytes)) (fed_job_of origin bytes) (no_fed_zone origin bytes) e (λ version z. whole_list_refusal origin bytes version e z w) (zone_of origin (zone_lines bytes)) status text refl) told
+    unfolding fed_job_of_lines
+    fed_script_stops w = stop_as _ _ s (by_script (list_of origin (script_start bytes) (script_lines bytes)) list_with e w (zone_of origin (zone_lines bytes))) told

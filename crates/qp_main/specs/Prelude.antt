@@ -1,38 +1,26 @@
 -- The words that this crate's clauses cite, passed on from one place. Declares nothing.
 pub use Rattle.std.specs.Io.KnownBytes.{Consumes}
 pub use Rattle.std.specs.List.{AllByRecursion, flat_map}
-pub use Rattle.std.specs.String.{string_bytes}
-pub use Rattle.zone_model.specs.Lines.{lines_of}
-pub use Rattle.zone_model.specs.MasterFile.{zone_of}
-pub use Rattle.zone_model.specs.Names.{IsName}
 pub use Rattle.zone_model.specs.Records.{item_limit}
-pub use Rattle.zone_model.specs.Versions.{Version}
-pub use Rattle.outer_io.specs.Bytes.{Grows, GrowsByFront}
-pub use Rattle.outer_io.specs.Faults.{Rose}
 pub use Rattle.zone_text.specs.Views.{Reads}
-pub use Rattle.master_file.specs.Rows.{CanBeDumped}
+pub use Rattle.zone_dump.specs.Prelude.{Grows, GrowsByFront, Rose}
 pub use Rattle.zone_list.specs.Lists.{zones_of}
 pub use Rattle.zone_list.specs.Parts.{AreListed}
 pub use Rattle.trie_model.specs.Keys.{Rises}
-pub use Rattle.job_model.specs.Commands.{InTurn, Job as WholeJob, NeedsNoSnapshot}
+pub use Rattle.job_model.specs.Commands.{Job as WholeJob}
 pub use Rattle.job_model.specs.Feeds.{passes_fed}
-pub use Rattle.job_model.specs.Jobs.{fed_job_of, job_of, list_of, script_lines, script_of, script_start, zone_lines}
-pub use Rattle.job_model.specs.Loads.{made_origin}
-pub use Rattle.job_model.specs.Needs.{cells_of_workers, longest_of_workers}
 pub use Rattle.job_model.specs.Outcomes.{passes_for}
 pub use Rattle.job_model.specs.Replies.{size_text}
 pub use Rattle.job_model.specs.Sizes.{trie_entries}
-pub use Rattle.job_script.specs.Scripts.{Says}
-pub use Rattle.job_script.specs.Views.{job_view, list_view}
+pub use Rattle.job_script.specs.Prelude.{InTurn, NeedsNoSnapshot, Says, cells_of_workers, job_view, lines_of, list_view, longest_of_workers}
+pub use Rattle.job_script.specs.Prelude.{script_lines, script_start, zone_lines}
 pub use Rattle.zones_model.specs.Commands.{origins_of}
 pub use Rattle.zones_script.specs.Jobs.{zones_job_of}
 pub use Rattle.zones_script.specs.Views.{workers_view}
-pub use Rattle.report_laws.specs.Changes.{AllAsked}
-pub use Rattle.job_make.specs.Views.{load_view}
+pub use Rattle.report_laws.specs.Prelude.{AllAsked, CanBeDumped, IsName, Version, fed_job_of, job_of, list_of, script_of, zone_of}
 pub use Rattle.job_report.specs.Pieces.{pieces_text}
 pub use Rattle.command_line.specs.Invocations.{IsUnder, Make}
-pub use Rattle.command_line.specs.Views.{invocation_view, verb_view}
-pub use Rattle.command_line.specs.Words.{invocation_of}
+pub use Rattle.command_line.specs.Prelude.{invocation_of, invocation_view, load_view, made_origin, string_bytes, verb_view}
 pub use Rattle.trie_write.specs.Entries.{entries_of_items}
 pub use Rattle.trie_size.specs.Sizes.{IsSizeOf}
 pub use Rattle.job_commands.specs.Histories.{IsZone, StandsAs}

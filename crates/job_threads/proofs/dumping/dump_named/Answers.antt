@@ -20,12 +20,12 @@ returns-in_err-dump_opened-in-Ok-clause-err g c = λ zone stands.
     let es = entries_of_items c.args.items.now in
     let chunks = c.args.blank.shared.table.shared.key.chunks in
     let fits : cells (trie_entries zone) ≤ room_in c.args.blank.shared.table.shared.key.chunks = subst (λ es. cells es ≤ room_in c.args.blank.shared.table.shared.key.chunks) (sym stands.entries) c.in-Ok.ensures.fits in
-    let front = c.in_err-dump_opened-in-Ok.ensures.err es zone (new_passes c.in-Ok.passes.items (λ p. p.seat) es (λ p. p.place ≡ 0) c.in-Ok.ensures.passes c.in-Ok.ensures.unused) stands in
+    let front = (c.in_err-dump_opened-in-Ok.ensures.writes es (new_passes c.in-Ok.passes.items (λ p. p.seat) es (λ p. p.place ≡ 0) c.in-Ok.ensures.passes c.in-Ok.ensures.unused)).err zone stands in
     on_any_err {P = StopsOn chunks c.args.style c.args.origin.now zone (g.K.Sink.held c.args.sink.now) (g.K.Sink.held c.dump_opened.new.sink)} c.from_residual.result (inl (fits, front))
 
 pub returns-in_ok-dump_opened-in-Ok-clause-ok : goal.returns-in_ok-dump_opened-in-Ok-clause-ok
 returns-in_ok-dump_opened-in-Ok-clause-ok g c = λ zone stands.
     let es = entries_of_items c.args.items.now in (
       subst (λ es. cells es ≤ room_in c.args.blank.shared.table.shared.key.chunks) (sym stands.entries) c.in-Ok.ensures.fits,
-      c.in_ok-dump_opened-in-Ok.ensures.ok es zone (new_passes c.in-Ok.passes.items (λ p. p.seat) es (λ p. p.place ≡ 0) c.in-Ok.ensures.passes c.in-Ok.ensures.unused) stands,
+      (c.in_ok-dump_opened-in-Ok.ensures.writes es (new_passes c.in-Ok.passes.items (λ p. p.seat) es (λ p. p.place ≡ 0) c.in-Ok.ensures.passes c.in-Ok.ensures.unused)).ok zone stands,
     )

@@ -66,8 +66,8 @@ returns-in_default-split_first-clause-heard g t c =
 
 pub returns-clause-heard : goal.returns-clause-heard
 returns-clause-heard g t c =
-    let mine = at_ok _ c.in_ok-done.field-0 _ c.in_ok-done.was c.join-done.ensures.first.1.1.1 in
-    let theirs = at_ok _ c.in_ok-others.field-0 _ c.in_ok-others.was c.join-done.ensures.second.1.1.1 in
     any_ok c.with_done.result
-    (subst (λ ws. AllHeard (g.G.Gate.hears c.args.gate.now) c.args.number (workers_view ws)) (sym c.in-Some-split_first.ensures.cases.0)
-    (mine, subst (λ n. AllHeard (g.G.Gate.hears c.args.gate.now) n (workers_view c.in-Some-split_first.others.now)) c.saturating_add-next.ensures theirs))
+    (subst (λ ws. AllHeard (g.G.Gate.hears c.args.gate.now) c.args.number (workers_view ws)) (sym c.in-Some-split_first.ensures.cases.0) (
+      at_ok _ c.in_ok-done.field-0 _ c.in_ok-done.was c.join-done.ensures.first.1.1.1,
+      subst (λ n. AllHeard (g.G.Gate.hears c.args.gate.now) n (workers_view c.in-Some-split_first.others.now)) c.saturating_add-next.ensures (at_ok _ c.in_ok-others.field-0 _ c.in_ok-others.was c.join-done.ensures.second.1.1.1),
+    ))

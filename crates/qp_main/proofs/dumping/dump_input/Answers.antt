@@ -1,7 +1,7 @@
 use Rattle.std.proofs.Common.{rules, true, subst}
 use Rattle.zone_model.specs.MasterFile.{zone_of}
 use Rattle.job_model.specs.Jobs.{zone_lines}
-use Rattle.qp_main.specs.Due.{Dumps, MayBeShort}
+use Rattle.qp_main.specs.Due.{Dumps}
 use Rattle.qp_main.specs.Stops.{IsStop}
 use Rattle.qp_main.proofs.DueLemmas.{nothing_yet, short_is, some_dump}
 use Rattle.qp_main.proofs.StopLemmas.{dump_stops}

@@ -1,10 +1,8 @@
 use Rattle.std.proofs.Common.{rules}
-use Rattle.zone_model.specs.MasterFile.{zone_of}
-use Rattle.job_model.specs.Jobs.{fed_job_of, zone_lines}
+use Rattle.job_model.specs.Jobs.{fed_job_of}
 use Rattle.job_script.specs.Views.{list_view}
 use Rattle.job_commands.specs.Histories.{StandsAs}
 use Rattle.trie_write.specs.Entries.{entries_of_items}
-use Rattle.qp_main.specs.Due.{FedAnswers}
 use Rattle.qp_main.proofs.DueLemmas.{list_answers}
 use Rattle.qp_main.proofs.StopLemmas.{fed_answers_stop, fed_zone_stops}
 use Rattle.qp_main.proofs.feeding.answer_list.Goals as goal

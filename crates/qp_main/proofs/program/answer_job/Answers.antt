@@ -3,7 +3,6 @@ use Rattle.job_model.specs.Jobs.{job_of}
 use Rattle.job_script.specs.Views.{job_view}
 use Rattle.job_commands.specs.Histories.{StandsAs}
 use Rattle.trie_write.specs.Entries.{entries_of_items}
-use Rattle.qp_main.specs.Due.{Answers}
 use Rattle.qp_main.proofs.DueLemmas.{job_answers}
 use Rattle.qp_main.proofs.StopLemmas.{answers_stop, job_zone_stops}
 use Rattle.qp_main.proofs.program.answer_job.Goals as goal

@@ -1,10 +1,10 @@
-use Rattle.std.proofs.Common.{rules, ◌≡◌, ◌≤◌, ℕ, List, Some, length, codes, subst, sym}
-use Rattle.std.specs.Io.KnownBytes.{Consumes, IsAtEnd}
+use Rattle.std.proofs.Common.{rules, ◌≡◌, ℕ, List, Some, length, codes, subst, sym}
+use Rattle.std.specs.Io.KnownBytes.{Consumes}
 use Rattle.command_line.specs.Views.{invocation_view}
 use Rattle.qp_main.specs.declared.status.Status.TheVariants as status
 use Rattle.qp_main.specs.Due.{Due, DueInput, IsWritten, is_streamed}
 use Rattle.qp_main.specs.declared.status.Status.{Status}
-use Rattle.qp_main.proofs.DueLemmas.{IsAnswer, cut_as, given_due, nothing_yet, read_due, short_is, some_words, too_long, written_answers, written_as}
+use Rattle.qp_main.proofs.DueLemmas.{IsAnswer, cut_as, given_due, nothing_yet, short_is, some_words, source_due, too_long, written_answers, written_as}
 use Rattle.qp_main.proofs.program.serve.Goals as goal
 
 pub returns-in-Err-TooLong-clause-cut_short : goal.returns-in-Err-TooLong-clause-cut_short
@@ -42,21 +42,15 @@ pub returns-clause-written : goal.returns-clause-written
 returns-clause-written g c = λ w.
     let i = invocation_view c.args.invocation.now in
     let left = g.S.Source.left c.args.source.now in
-    let taken : Consumes (g.S.Source.left c.args.source.now) (g.S.Source.left c.read_all.new.source) c.in-Ok.bytes.items = search rules in
-    let end : IsAtEnd (g.S.Source.left c.read_all.new.source) = search rules in
-    let within : length c.in-Ok.bytes.items ≤ 16777216 = search rules in
-    written_as (DueInput i.verb i.chunks i.origin c.in-Ok.bytes.items) (Due (Some i) left) _ _ c.serve_input.result
-    (λ s text h. given_due i left s text (c.requires left) (read_due i left (g.S.Source.left c.read_all.new.source) c.in-Ok.bytes.items s text taken end within h)) (c.serve_input.ensures.written w)
+    let due = source_due i left (g.S.Source.left c.read_all.new.source) c.in-Ok.bytes.items (c.requires left) (search rules) (search rules) (search rules) in
+    written_as (DueInput i.verb i.chunks i.origin c.in-Ok.bytes.items) (Due (Some i) left) _ _ c.serve_input.result due (c.serve_input.ensures.written w)
 
 pub returns-clause-cut_short : goal.returns-clause-cut_short
 returns-clause-cut_short g c = λ short.
     let i = invocation_view c.args.invocation.now in
     let left = g.S.Source.left c.args.source.now in
-    let taken : Consumes (g.S.Source.left c.args.source.now) (g.S.Source.left c.read_all.new.source) c.in-Ok.bytes.items = search rules in
-    let end : IsAtEnd (g.S.Source.left c.read_all.new.source) = search rules in
-    let within : length c.in-Ok.bytes.items ≤ 16777216 = search rules in
-    cut_as (DueInput i.verb i.chunks i.origin c.in-Ok.bytes.items) (Due (Some i) left) _ _
-    (λ s text h. given_due i left s text (c.requires left) (read_due i left (g.S.Source.left c.read_all.new.source) c.in-Ok.bytes.items s text taken end within h)) (c.serve_input.ensures.cut_short short)
+    let due = source_due i left (g.S.Source.left c.read_all.new.source) c.in-Ok.bytes.items (c.requires left) (search rules) (search rules) (search rules) in
+    cut_as (DueInput i.verb i.chunks i.origin c.in-Ok.bytes.items) (Due (Some i) left) _ _ due (c.serve_input.ensures.cut_short short)
 
 pub returns-clause-taken : goal.returns-clause-taken
 returns-clause-taken g c = λ e.

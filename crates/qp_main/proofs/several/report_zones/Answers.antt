@@ -1,5 +1,4 @@
-use Rattle.std.proofs.Common.{◌≡◌, ◌∙◌, List, length, map, arith, rules, sym, ap, subst}
-use Rattle.std.proofs.lemmas.List.{length-map}
+use Rattle.std.proofs.Common.{◌≡◌, ◌∙◌, List, map, arith, rules, sym, ap, subst}
 use Rattle.std.proofs.lemmas.List.Elements.{All-from_recursion}
 use Rattle.std.specs.List.{AllByRecursion}
 use Rattle.zone_model.specs.Names.{Name}
@@ -14,7 +13,7 @@ use Rattle.zones_threads.specs.Openings.{ZonesRanOn}
 use Rattle.zones_threads.specs.Sites.{IsSaid}
 use Rattle.zones_threads.specs.declared.opening.ZonesRan.TheVariants as ran
 use Rattle.qp_main.specs.Opens.{AreAllItems}
-use Rattle.qp_main.proofs.OpensLemmas.{all_zones, different, first_told, items_many, run_answers, they_stand}
+use Rattle.qp_main.proofs.OpensLemmas.{all_zones, different, first_told, items_many, run_answers, sizes_many, they_stand}
 use Rattle.qp_main.proofs.ZonesLemmas.{zones_reported}
 use Rattle.qp_main.proofs.several.report_zones.Goals as goal
 
@@ -65,13 +64,7 @@ returns-in-Finished g c =
     let text = pieces_text c.in_ok-text-in-Finished.text in
     let are : AreAllItems zones items = subst (AreAllItems zones) (sym c.deref-2.ensures.value) c.in_ok-items.ensures in
     let all = c.in_ok-blanks.ensures.chunks in
-    let many : length sizes ≡ length items =
-    let sized = length-map c.in_ok-blanks.blanks.items (λ b. b.shared.table.shared.key) in
-    let blanks = c.in_ok-blanks.ensures.each in
-    let counted = c.len-2.ensures in
-    let held = c.args.zones.ok.0 in
-    let itemized = items_many zones items are in omega arith
-    in
+    let many = sizes_many c.in_ok-blanks.blanks.items (λ b. b.shared.table.shared.key) zones items are (let blanks = c.in_ok-blanks.ensures.each in let counted = c.len-2.ensures in let held = c.args.zones.ok.0 in omega arith) in
     let told : ZonesRanOn (opening.places_of items sizes) chunks zones (map worker_view c.deref-3.result.now) (ran.Finished f) = search (rules, c.in_ok-finished.ensures chunks zones all (they_stand zones items are)) in
     let run = subst (λ (ws : List (List Command)). ZonesRanOn (opening.places_of items sizes) chunks zones ws (ran.Finished f)) (ap (map worker_view) c.deref-3.ensures.value) told in
     let origins : c.deref-in-Finished-2.result.now ≡ origins_of zones = c.deref-in-Finished-2.ensures.value ∙ c.in_ok-origins.ensures ∙ ap origins_of c.deref.ensures.value in
@@ -89,12 +82,6 @@ returns g c =
     let text = pieces_text c.in_ok-no_room-in-DoesNotFit.field-0 in
     let are : AreAllItems zones items = subst (AreAllItems zones) (sym c.deref-2.ensures.value) c.in_ok-items.ensures in
     let all = c.in_ok-blanks.ensures.chunks in
-    let many : length sizes ≡ length items =
-    let sized = length-map c.in_ok-blanks.blanks.items (λ b. b.shared.table.shared.key) in
-    let blanks = c.in_ok-blanks.ensures.each in
-    let counted = c.len-2.ensures in
-    let held = c.args.zones.ok.0 in
-    let itemized = items_many zones items are in omega arith
-    in
+    let many = sizes_many c.in_ok-blanks.blanks.items (λ b. b.shared.table.shared.key) zones items are (let blanks = c.in_ok-blanks.ensures.each in let counted = c.len-2.ensures in let held = c.args.zones.ok.0 in omega arith) in
     let told : ZonesRanOn (opening.places_of items sizes) chunks zones (map worker_view c.deref-3.result.now) (ran.DoesNotFit c.in-DoesNotFit.zone c.in-DoesNotFit.cells c.in-DoesNotFit.limit) = search (rules, c.in_ok-finished.ensures chunks zones all (they_stand zones items are)) in
     first_told chunks zones items sizes are many all (workers_view c.args.script.now) c.in-DoesNotFit.zone c.in-DoesNotFit.cells c.in-DoesNotFit.limit text told c.in_ok-no_room-in-DoesNotFit.ensures

@@ -1,6 +1,5 @@
-use Rattle.std.proofs.Common.{◌≡◌, ◌∙◌, ◌+◌, List, ℕ, [], ◌++◌, drop, subst}
+use Rattle.std.proofs.Common.{◌∙◌, [], subst}
 use Rattle.std.proofs.lemmas.Result.{err_from_is_err_and}
-use Rattle.std.specs.List.{flat_map}
 use Rattle.outer_io.specs.Bytes.{Grows, GrowsByFront}
 use Rattle.zone_dump.proofs.WritingLaws.{part_more, part_stops}
 use Rattle.qp_main.proofs.WritingLemmas.{each_left, passes_by}

@@ -1,4 +1,4 @@
-use Rattle.std.proofs.Common.{◌≡◌, ◌∙◌, ℕ, List, Err, ap₂, sym}
+use Rattle.std.proofs.Common.{◌∙◌, ℕ, List, ap₂, sym}
 use Rattle.zone_model.specs.Lines.{lines_of}
 use Rattle.zone_model.specs.Refusals.{Refused}
 use Rattle.job_model.specs.Jobs.{script_of}

@@ -1,4 +1,3 @@
-use Rattle.std.proofs.Common.{rules}
 use Rattle.zone_model.specs.Lines.{lines_of}
 use Rattle.qp_main.proofs.DueLemmas.{script_stopped}
 use Rattle.qp_main.proofs.input.Input.refuse.Goals as goal

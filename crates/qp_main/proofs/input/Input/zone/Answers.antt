@@ -1,4 +1,3 @@
-use Rattle.std.proofs.Common.{rules}
 use Rattle.zone_model.specs.Lines.{lines_of}
 use Rattle.job_model.specs.Jobs.{zone_lines}
 use Rattle.qp_main.proofs.StopLemmas.{zone_is_refused}
