@@ -5,10 +5,10 @@ ghost use Rattle.qp_main.specs.Prelude.{pieces_text, list_kind_text, zone_kind_t
 use crate::line::{Line, refusal_line};
 use job_model::ScriptKind;
 use job_report::Pieces;
+use job_script::push_pair;
 use std::alloc::{AllocError, Global};
 use zone_list::ListKind;
 use zone_model::ZoneKind;
-use zone_text::push_decimal;
 
 fn zone_kind_name(kind: ZoneKind) -> &'static [u8]
     ensures text { result.now ≡ zone_kind_text kind }
@@ -88,10 +88,12 @@ pub fn no_room(alloc: Global, cells: u64, limit: u64) -> Result<Pieces, AllocErr
     ensures { IfOk result (λ text. pieces_text text ≡ codes "zone does not fit: " ++ decimal cells ++ codes " cells over " ++ decimal limit ++ codes "\n") }
 {
     let mut out = Vec::new(alloc);
-    out.extend_from_slice(b"zone does not fit: ")?;
-    push_decimal(&mut out, cells)?;
-    out.extend_from_slice(b" cells over ")?;
-    push_decimal(&mut out, limit)?;
-    out.extend_from_slice(b"\n")?;
+    push_pair(
+        &mut out,
+        b"zone does not fit: ",
+        cells,
+        b" cells over ",
+        limit,
+    )?;
     Ok(Pieces::of(alloc, out))
 }

@@ -3,7 +3,7 @@ ghost use Rattle.std.specs.Prelude.{◌≡◌, ◌++◌, OnOk, IfOk, codes};
 ghost use Rattle.qp_main.specs.Prelude.{size_text, pieces_text, chunks_text, needs_text};
 
 use job_report::Pieces;
-use job_script::push_size;
+use job_script::{push_pair, push_size};
 use std::alloc::{AllocError, Global};
 use zone_text::push_decimal;
 
@@ -39,10 +39,12 @@ pub fn needs_line(
     let mut out = Vec::new(alloc);
     out.extend_from_slice(b"chunks ")?;
     push_chunks(&mut out, chunks)?;
-    out.extend_from_slice(b" cells ")?;
-    push_decimal(&mut out, cells)?;
-    out.extend_from_slice(b" operations ")?;
-    push_decimal(&mut out, u64::from(operations))?;
-    out.extend_from_slice(b"\n")?;
+    push_pair(
+        &mut out,
+        b" cells ",
+        cells,
+        b" operations ",
+        u64::from(operations),
+    )?;
     Ok(Pieces::of(alloc, out))
 }
