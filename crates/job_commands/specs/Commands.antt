@@ -4,7 +4,7 @@ use Rattle.std.specs.declared.alloc.AllocError.{AllocError}
 use Rattle.zone_model.specs.Names.{Name}
 use Rattle.zone_model.specs.Versions.{Version, all_applied}
 use Rattle.zone_model.specs.Versions as zones
-use Rattle.zone_model.specs.Transactions.{Transaction, all_met, whole}
+use Rattle.zone_model.specs.Transactions.{Transaction, all_met, no_changes, whole}
 use Rattle.trie_model.specs.Keys as trie
 use Rattle.job_model.specs.declared.Ending.{Ending}
 use Rattle.job_model.specs.declared.Ending.TheVariants.{Commit, Rollback}
@@ -84,6 +84,10 @@ pub record BlockRan (s : Setup) (asked : Transaction) (ending : Ending) (old new
   pub grows : IsPartOf new.seen old.seen
   pub version : o.version ≡ length new.seen.history
   pub transacts : Transacts s asked ending old new (ended_view o.told)
+
+-- a compaction ran as a block without operations does
+abbrev pub CompactionRan : Known → Known → Outcome → Type 0
+CompactionRan old new o = (s : Setup) → first_version old.seen ≡ s.opening → BlockRan s no_changes Commit old new o
 
 -- A transaction's prerequisites are met, and its operations are accepted up to one of them.
 pub record Accepts (origin : Name) (asked : Transaction) (zone : Version) : Type 0 where

@@ -5,13 +5,14 @@ use Rattle.job_model.specs.Commands.{Command}
 use Rattle.job_script.specs.declared.outcomes.Outcomes.{Outcomes}
 use Rattle.shared_index.specs.Passes.{Known}
 use Rattle.shared_index.specs.Closings.{AreAll}
+use Rattle.job_commands.specs.declared.closing.Last.{Last}
 use Rattle.job_commands.specs.Histories.{Setup, StandsAs}
 use Rattle.job_commands.specs.Closings.{Gathers}
 use Rattle.job_commands.specs.Runs.{IsRun}
 
 -- An index of so many passes was closed with these and main's. Whichever job its workers were gathered of, on whichever zone it was
 -- opened: the job has come to this last version.
-abbrev pub EndsRun : ℕ → List Known → Known → ℕ → ℕ → ℕ → Type 0
-EndsRun count views main version names nodes =
+abbrev pub EndsRun : ℕ → List Known → Known → Last → Type 0
+EndsRun count views main last =
     (s : Setup) (zone : Version) (before : List Known) (ws : List (List Command)) (os : List Outcomes) → Gathers s before ws os views main
-    → length before ≡ count → AreAll count before → StandsAs s.opening zone → IsRun s.chunks s.passes s.origin zone ws os version names nodes
+    → length before ≡ count → AreAll count before → StandsAs s.opening zone → IsRun s.chunks s.passes s.origin zone ws os last.version last.names last.nodes

@@ -14,17 +14,17 @@ pub use Rattle.report_laws.specs.Prelude.{AllAsked, AllSaid}
 pub use Rattle.trie_write.specs.Entries.{entries_of_items}
 pub use Rattle.shared_index.specs.Closings.{AreAll}
 pub use Rattle.shared_index.specs.Compactions.{Compacts}
-pub use Rattle.shared_index.specs.Passes.{Learnt, version_seen}
+pub use Rattle.shared_index.specs.Passes.{Learnt}
 pub use Rattle.shared_index.specs.Prelude.{first_version, known_at, versions_in}
 pub use Rattle.zone_edit.specs.Blocks.{Edited}
-pub use Rattle.zone_edit.specs.Stores.{WorksOnSome}
+pub use Rattle.zone_edit.specs.Stores.{IsOfTheSame, WorksOnSome}
 pub use Rattle.job_commands.specs.Calls.{AllHeard, AreHeard, IsHeard}
 pub use Rattle.job_commands.specs.Closings.{Gathers}
-pub use Rattle.job_commands.specs.Commands.{Asked, BlockRan, BlockWants, IsIndex, IsSetup, OpensAt, Seat, StoppedBy}
+pub use Rattle.job_commands.specs.Commands.{Asked, BlockRan, BlockWants, CompactionRan, IsIndex, IsSetup, OpensAt, Seat, StoppedBy}
 pub use Rattle.job_commands.specs.Endings.{EndsRun}
 pub use Rattle.job_commands.specs.Histories.{Entries, IsLawful, IsZone, Setup, StandsAs}
 pub use Rattle.job_commands.specs.Runs.{IsRun}
 pub use Rattle.job_commands.specs.Stations.{IsHeld, IsPlaced, Pinned, holder_view, station}
-pub use Rattle.job_commands.specs.Steps.{IsUnder, Step}
+pub use Rattle.job_commands.specs.Steps.{IsUnder, MovedAt, Step}
 pub use Rattle.job_commands.specs.Weights.{IsOfWeight}
 pub use Rattle.job_commands.specs.Works.{AreNew, Begins, IsNew, Numbers, WorkerRan, ended, only}

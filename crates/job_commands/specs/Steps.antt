@@ -64,9 +64,13 @@ abbrev pub Writes : Setup → PassView (List Operation) → Command → ℕ → 
 Writes s own c version false old new = Stays c version own new
 Writes s own c version true old new = Adds s own c version old new
 
--- what lay in sparse chunks was moved by a compaction of the index, as its receipt says
+-- What lay in sparse chunks was moved by a compaction of the index, on a table for so many passes, as its receipt says.
+abbrev pub MovedAt : TableId → ℕ → Known → Known → Type 0
+MovedAt table passes old new = (receipt : Receipt) × Compacts IsLawful table passes old new receipt
+
+-- so it was on some table of a setup
 abbrev pub Moved : Setup → Known → Known → Type 0
-Moved s old new = (table : TableId) × (receipt : Receipt) × Compacts IsLawful table s.passes old new receipt
+Moved s old new = (table : TableId) × MovedAt table s.passes old new
 
 -- A command came to this outcome, which tells what is so and is lawful, whichever versions the history will have beside those that
 -- were seen.

@@ -23,7 +23,7 @@ pub fn close_index<N: Named>(
 ) -> Result<Last, AllocError>
     requires main { (IsSome main.seat) × (main.place ≡ index.place) }
     requires here { All (λ p. (IsSome p.seat) × (p.place ≡ index.place)) passes.items }
-    ensures { IfOk result (λ l. EndsRun index.shared.table.shared.key.passes (map (λ p. known_at p.seat) passes.items) (known_at main.seat) l.version l.names l.nodes) }
+    ensures { IfOk result (λ l. EndsRun index.shared.table.shared.key.passes (map (λ p. known_at p.seat) passes.items) (known_at main.seat) l) }
 {
     let mut query = main.query(&index);
     let names = query.count();

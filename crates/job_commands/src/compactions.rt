@@ -1,7 +1,7 @@
 //! Compactions.
 ghost use Rattle.std.specs.Prelude.{◌≡◌, IsOk, IsSome, IfOk, IfErr};
-ghost use Rattle.job_commands.specs.Prelude.{no_changes, Commit, Committed, Refused, NoNumber, ended_view, EndsCompaction};
-ghost use Rattle.job_commands.specs.Prelude.{first_version, known_at, Compacts, IsLawful, Setup, BlockRan};
+ghost use Rattle.job_commands.specs.Prelude.{Committed, Refused, NoNumber, ended_view, EndsCompaction};
+ghost use Rattle.job_commands.specs.Prelude.{CompactionRan, MovedAt, known_at};
 
 use crate::law::ZoneLaw;
 use job_script::{Cause, Outcome, Told};
@@ -38,10 +38,10 @@ pub fn run_compaction<R: Wait, N: Named>(
     ensures here { IsSome pass.new.seat }
     ensures place { pass.new.place ≡ pass.old.place }
     ensures ends { EndsCompaction result.told }
-    ensures ran { (s : Setup) → first_version (known_at pass.old.seat).seen ≡ s.opening → BlockRan s no_changes Commit (known_at pass.old.seat) (known_at pass.new.seat) result }
+    ensures ran { CompactionRan (known_at pass.old.seat) (known_at pass.new.seat) result }
     // What lay in sparse chunks was moved, as a receipt of the index says.
-    ensures moves { result.told ≡ Told.Compacted → (receipt : Receipt)
-        × Compacts IsLawful index.now.shared.table.shared.table_id index.now.shared.table.shared.key.passes (known_at pass.old.seat) (known_at pass.new.seat) receipt }
+    ensures moves { result.told ≡ Told.Compacted
+        → MovedAt index.now.shared.table.shared.table_id index.now.shared.table.shared.key.passes (known_at pass.old.seat) (known_at pass.new.seat) }
 {
     compacted(index.compact(rt, pass))
 }

@@ -1,7 +1,7 @@
 //! Transactions.
 ghost use Rattle.std.specs.Prelude.{◌≡◌, IsSome, IsSomeAnd, IfOk, IfErr, OnErr};
 ghost use Rattle.job_commands.specs.Prelude.{Committed, Refused, NoNumber, ended_view, EndsBlock, asked_view, AllSaid, known_at, versions_in};
-ghost use Rattle.job_commands.specs.Prelude.{WorksOnSome, Edited, Setup, IsSetup, BlockRan, BlockWants, OpensAt, StoppedBy, IsOfWeight};
+ghost use Rattle.job_commands.specs.Prelude.{WorksOnSome, IsOfTheSame, Edited, Setup, IsSetup, BlockRan, BlockWants, OpensAt, StoppedBy, IsOfWeight};
 
 use crate::law::ZoneLaw;
 use dns_name::Name;
@@ -74,7 +74,7 @@ fn edit<N: Named, K>(
 ) -> Result<(), Halt>
     requires works { IsSomeAnd transaction.old.locked.now.draft WorksOnSome }
     requires weight { IsSomeAnd transaction.old.locked.now.draft (IsOfWeight block.now.weight) }
-    ensures same_reference { (transaction.new.home.ghost_name ≡ transaction.old.home.ghost_name) × (transaction.new.locked.ghost_name ≡ transaction.old.locked.ghost_name) }
+    ensures same_reference { IsOfTheSame transaction.old transaction.new }
     ensures place { transaction.new.locked.now.place ≡ transaction.old.locked.now.place }
     ensures executes { Edited origin.now (asked_view block.now) result transaction.old.locked.now.draft transaction.new.locked.now.draft }
 {

@@ -44,7 +44,8 @@ pub fn zones_have_room()
 
 /// The least number of chunks that is enough is so, and so is each greater one.
 pub fn least_is_enough()
-    ensures { (passes cells operations least chunks : ℕ) → IsLeast passes cells operations (Some least) → least ≤ chunks → is_roomy passes cells operations chunks }
+    ensures { (passes cells operations least chunks : ℕ) → IsLeast passes cells operations (Some least) → least ≤ chunks
+        → is_roomy passes cells operations chunks }
 {}
 
 /// On an index of chunks that are enough for a job none of its transactions is refused as full. The outcomes are those that are lawful

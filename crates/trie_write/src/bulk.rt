@@ -131,7 +131,8 @@ fn build_branch<'a, C: CellWrite, U: Space>(
     first: Part<'a>,
     point: BranchPoint,
 ) -> Result<Part<'a>, Full>
-    requires first { (base : Account) × (es : List Entry) × BuiltFront (C.has cells.old) base (U.account usage.old) (suc point.offset) es (entries_of_items first.rest.now) (Some point) first.cell }
+    requires first { (base : Account) × (es : List Entry)
+        × BuiltFront (C.has cells.old) base (U.account usage.old) (suc point.offset) es (entries_of_items first.rest.now) (Some point) first.cell }
     requires point { first.next ≡ Some point }
     requires ready { Ready C.kept C.given U.account cells.old usage.old }
     ensures built { IfOk result (λ part. (base : Account) (es : List Entry)

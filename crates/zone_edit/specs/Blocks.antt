@@ -5,7 +5,7 @@ use Rattle.zone_model.specs.Versions.{Version, Operation, owned, apply, all_appl
 use Rattle.zone_model.specs.Transactions.{Prerequisite, Transaction, is_met_by, all_met, whole}
 use Rattle.shared_index.specs.declared.desk.Draft.{Draft}
 use Rattle.chunk_usage.specs.Keeping.{kept_versions}
-use Rattle.zone_edit.specs.Stores.{WorksOn, IsFullOn, Edits}
+use Rattle.zone_edit.specs.Stores.{WorksOn, IsFullOn, Edits, done_by}
 use Rattle.zone_edit.specs.declared.applying.Stopped.{Stopped}
 use Rattle.zone_edit.specs.declared.applying.Stopped.TheVariants as stops
 use Rattle.zone_edit.specs.declared.applying.Halt.{Halt}
@@ -61,6 +61,13 @@ most_done operations (Err halts.Memory) = length operations
 most_done operations (Err (halts.Refused refusal)) = length operations
 most_done operations (Err (halts.Full operation)) = operation - 1
 
+-- a draft became another one by an operation, and by operations in order
+abbrev pub EditedOnce : Name → Operation → Result (Unit {0}) Stopped → Option Draft → Option Draft → Type 0
+EditedOnce origin operation result old new = Edits (done_by result) (Applies origin operation result) old new
+
+abbrev pub EditedInOrder : Name → List Operation → Result (Unit {0}) Halt → Option Draft → Option Draft → Type 0
+EditedInOrder origin operations result old new = Edits (most_done operations result) (AppliesAll origin operations result) old new
+
 -- the version stays, and it is told whether it meets a prerequisite, and whether all
 abbrev pub Meets : Prerequisite → Bool → Version → Draft → Type 0
 Meets p met version new = WorksOn new version × (met ≡ is_met_by (owned p.owner version) p)
@@ -76,6 +83,6 @@ Executes origin asked (Err (halts.Refused refusal)) version new = whole origin a
 Executes origin asked (Err (halts.Full operation)) version new =
     (all_met version asked.needs ≡ true) × IsFullAt new origin asked.operations version operation (kept_versions new.usage)
 
--- a draft became another one by a transaction
+-- so did it by a transaction
 abbrev pub Edited : Name → Transaction → Result (Unit {0}) Halt → Option Draft → Option Draft → Type 0
 Edited origin asked result old new = Edits (most_done asked.operations result) (Executes origin asked result) old new

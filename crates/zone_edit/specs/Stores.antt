@@ -10,6 +10,8 @@ use Rattle.zone_query.specs.Standing.{IsVersion}
 use Rattle.job_model.specs.Sizes.{trie_entries, cell_count}
 use Rattle.shared_cells.specs.Steps.{IsNamed}
 use Rattle.shared_index.specs.declared.desk.Draft.{Draft}
+use Rattle.shared_index.specs.declared.meaning.Named.{Ghosts}
+use Rattle.shared_index.specs.declared.transaction.Transaction.{Transaction}
 use Rattle.shared_index.specs.Bounds.{IsCramped}
 use Rattle.shared_index.specs.Drafts.{Works, Between, working_set}
 use Rattle.shared_index.specs.Fulls.{cells_kept}
@@ -42,6 +44,11 @@ pub record EditsOne (most : ℕ) (told : Version → Draft → Type 0) (old new 
 
 abbrev pub Edits : ℕ → (Version → Draft → Type 0) → Option Draft → Option Draft → Type 0
 Edits most told old new = Between (EditsOne most told) old new
+
+module _ {X : Type 0} {Y : Type 0} {N : Ghosts Y} {K : Type 0} where
+  -- it is of the same pass and the same turn as before
+  abbrev pub IsOfTheSame : Transaction X Y K N → Transaction X Y K N → Type 0
+  IsOfTheSame old new = (new.home.ghost_name ≡ old.home.ghost_name) × (new.locked.ghost_name ≡ old.locked.ghost_name)
 
 -- how many operations are done: one, or none where it is refused
 abbrev pub done_by : {E : Type 0} → Result (Unit {0}) E → ℕ

@@ -2,7 +2,7 @@
 
 ghost use Rattle.std.specs.Prelude.{◌≡◌, ◌≤◌, length, IfOk, IsSomeAnd, Err, map};
 ghost use Rattle.zone_edit.specs.Prelude.{Records, item_limit, SaysEntry, operation_view, candidate, Between};
-ghost use Rattle.zone_edit.specs.Prelude.{IsSame, WorksOnSome, Edits, done_by, Applies, AppliesAll, most_done};
+ghost use Rattle.zone_edit.specs.Prelude.{IsSame, IsOfTheSame, WorksOnSome, EditedOnce, EditedInOrder};
 
 use crate::buffers::ItemBuffers;
 use crate::reading::read_owned;
@@ -65,9 +65,9 @@ fn apply<L: Law, N: Named, K>(
 ) -> Result<(), Stopped>
     requires works { IsSomeAnd transaction.old.locked.now.draft WorksOnSome }
     requires room { (item_limit ≤ length item_before.old) × (item_limit ≤ length item_after.old) }
-    ensures same_reference { (transaction.new.home.ghost_name ≡ transaction.old.home.ghost_name) × (transaction.new.locked.ghost_name ≡ transaction.old.locked.ghost_name) }
+    ensures same_reference { IsOfTheSame transaction.old transaction.new }
     ensures place { transaction.new.locked.now.place ≡ transaction.old.locked.now.place }
-    ensures applies { Edits (done_by result) (Applies origin.now (operation_view operation.now) result) transaction.old.locked.now.draft transaction.new.locked.now.draft }
+    ensures applies { EditedOnce origin.now (operation_view operation.now) result transaction.old.locked.now.draft transaction.new.locked.now.draft }
     // Memory is wanted for entries alone, before anything is tried.
     ensures untried { result ≡ Err Stopped.Memory → Between IsSame transaction.old.locked.now.draft transaction.new.locked.now.draft }
 {
@@ -104,9 +104,9 @@ pub(crate) fn apply_all<L: Law, N: Named, K>(
     buffers: &mut ItemBuffers,
 ) -> Result<(), Halt>
     requires { IsSomeAnd transaction.old.locked.now.draft WorksOnSome }
-    ensures same_reference { (transaction.new.home.ghost_name ≡ transaction.old.home.ghost_name) × (transaction.new.locked.ghost_name ≡ transaction.old.locked.ghost_name) }
+    ensures same_reference { IsOfTheSame transaction.old transaction.new }
     ensures place { transaction.new.locked.now.place ≡ transaction.old.locked.now.place }
-    ensures applies { Edits (most_done (map operation_view operations.now) result) (AppliesAll origin.now (map operation_view operations.now) result) transaction.old.locked.now.draft transaction.new.locked.now.draft }
+    ensures applies { EditedInOrder origin.now (map operation_view operations.now) result transaction.old.locked.now.draft transaction.new.locked.now.draft }
 {
     for (index, operation) in operations.iter().enumerate() {
         let (before, after) = (&mut buffers.before, &mut buffers.after);

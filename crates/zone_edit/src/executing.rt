@@ -1,7 +1,7 @@
 //! A transaction's changes.
 
 ghost use Rattle.std.specs.Prelude.{◌≡◌, IsSomeAnd, map};
-ghost use Rattle.zone_edit.specs.Prelude.{operation_view, prerequisite_view, WorksOnSome, Edited};
+ghost use Rattle.zone_edit.specs.Prelude.{operation_view, prerequisite_view, WorksOnSome, Edited, IsOfTheSame};
 
 use crate::applying::{Halt, apply_all};
 use crate::buffers::ItemBuffers;
@@ -23,7 +23,7 @@ pub fn execute<L: Law, N: Named, K>(
     buffers: &mut ItemBuffers,
 ) -> Result<(), Halt>
     requires { IsSomeAnd transaction.old.locked.now.draft WorksOnSome }
-    ensures same_reference { (transaction.new.home.ghost_name ≡ transaction.old.home.ghost_name) × (transaction.new.locked.ghost_name ≡ transaction.old.locked.ghost_name) }
+    ensures same_reference { IsOfTheSame transaction.old transaction.new }
     ensures place { transaction.new.locked.now.place ≡ transaction.old.locked.now.place }
     ensures executes { Edited origin.now (record { needs = map prerequisite_view prerequisites.now; operations = map operation_view operations.now }) result
         transaction.old.locked.now.draft transaction.new.locked.now.draft }

@@ -1,7 +1,7 @@
 //! What a transaction wants of its working set before it changes anything.
 
 ghost use Rattle.std.specs.Prelude.{◌≡◌, ◌≤◌, length, IsSomeAnd, map};
-ghost use Rattle.zone_edit.specs.Prelude.{most_item_octets, prerequisite_view, WorksOnSome, Edits, Meets, MeetsAll};
+ghost use Rattle.zone_edit.specs.Prelude.{most_item_octets, prerequisite_view, WorksOnSome, Edits, Meets, MeetsAll, IsOfTheSame};
 
 use crate::reading::read_owned;
 use rr_data::ItemView;
@@ -17,7 +17,7 @@ fn meets<L: Law, N: Named, K>(
 ) -> bool
     requires works { IsSomeAnd transaction.old.locked.now.draft WorksOnSome }
     requires room { most_item_octets ≤ length item.old }
-    ensures same_reference { (transaction.new.home.ghost_name ≡ transaction.old.home.ghost_name) × (transaction.new.locked.ghost_name ≡ transaction.old.locked.ghost_name) }
+    ensures same_reference { IsOfTheSame transaction.old transaction.new }
     ensures place { transaction.new.locked.now.place ≡ transaction.old.locked.now.place }
     ensures meets { Edits 0 (Meets (prerequisite_view prerequisite.now) result) transaction.old.locked.now.draft transaction.new.locked.now.draft }
 {
@@ -36,7 +36,7 @@ pub(crate) fn meets_all<L: Law, N: Named, K>(
 ) -> bool
     requires works { IsSomeAnd transaction.old.locked.now.draft WorksOnSome }
     requires room { most_item_octets ≤ length item.old }
-    ensures same_reference { (transaction.new.home.ghost_name ≡ transaction.old.home.ghost_name) × (transaction.new.locked.ghost_name ≡ transaction.old.locked.ghost_name) }
+    ensures same_reference { IsOfTheSame transaction.old transaction.new }
     ensures place { transaction.new.locked.now.place ≡ transaction.old.locked.now.place }
     ensures meets { Edits 0 (MeetsAll (map prerequisite_view prerequisites.now) result) transaction.old.locked.now.draft transaction.new.locked.now.draft }
 {

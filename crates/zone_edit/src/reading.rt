@@ -1,7 +1,7 @@
 //! What a name owns in a transaction's working set.
 
 ghost use Rattle.std.specs.Prelude.{◌≡◌, ◌≤◌, length, IsSomeAnd};
-ghost use Rattle.zone_edit.specs.Prelude.{key_of, most_item_octets, Between, IsSame, WorksOnSome, Reads, Edits};
+ghost use Rattle.zone_edit.specs.Prelude.{key_of, most_item_octets, Between, IsSame, WorksOnSome, Reads, Edits, IsOfTheSame};
 
 use dns_name::Name;
 use shared_index::{Law, Named, Transaction};
@@ -17,7 +17,7 @@ pub(crate) fn read_owned<L: Law, N: Named, K>(
     requires works { IsSomeAnd transaction.old.locked.now.draft WorksOnSome }
     requires key { key.now ≡ key_of name.now }
     requires room { most_item_octets ≤ length item.old }
-    ensures same_reference { (transaction.new.home.ghost_name ≡ transaction.old.home.ghost_name) × (transaction.new.locked.ghost_name ≡ transaction.old.locked.ghost_name) }
+    ensures same_reference { IsOfTheSame transaction.old transaction.new }
     ensures place { transaction.new.locked.now.place ≡ transaction.old.locked.now.place }
     ensures same { Between IsSame transaction.old.locked.now.draft transaction.new.locked.now.draft }
     ensures within { result ≤ length item.new }

@@ -1,7 +1,7 @@
 //! An entry put under a name in a transaction's working set.
 
 ghost use Rattle.std.specs.Prelude.{◌≡◌, ◌<◌, ◌≤◌, [], List, length, IsSomeAnd};
-ghost use Rattle.zone_edit.specs.Prelude.{key_of, item, item_limit, IsItem, owned, SaysEntry, Owns, Stores, Edits, done_by};
+ghost use Rattle.zone_edit.specs.Prelude.{key_of, item, item_limit, IsItem, owned, SaysEntry, Owns, Stores, Edits, done_by, IsOfTheSame};
 
 use dns_name::Name;
 use rr_data::Entry;
@@ -22,7 +22,7 @@ fn take_out<L: Law, N: Named, K>(
     requires key { key.now ≡ key_of name.now }
     requires owns { IsSomeAnd transaction.old.locked.now.draft (Owns name.now before.now) }
     requires some { 0 < length before.now }
-    ensures same_reference { (transaction.new.home.ghost_name ≡ transaction.old.home.ghost_name) × (transaction.new.locked.ghost_name ≡ transaction.old.locked.ghost_name) }
+    ensures same_reference { IsOfTheSame transaction.old transaction.new }
     ensures place { transaction.new.locked.now.place ≡ transaction.old.locked.now.place }
     ensures stores { Edits (done_by result) (Stores name.now before.now [] result) transaction.old.locked.now.draft transaction.new.locked.now.draft }
 {
@@ -46,7 +46,7 @@ fn put_in<L: Law, N: Named, K>(
     requires key { key.now ≡ key_of name.now }
     requires owns { IsSomeAnd transaction.old.locked.now.draft (Owns name.now []) }
     requires item { IsItem item.now name.now entry.now }
-    ensures same_reference { (transaction.new.home.ghost_name ≡ transaction.old.home.ghost_name) × (transaction.new.locked.ghost_name ≡ transaction.old.locked.ghost_name) }
+    ensures same_reference { IsOfTheSame transaction.old transaction.new }
     ensures place { transaction.new.locked.now.place ≡ transaction.old.locked.now.place }
     ensures stores { Edits (done_by result) (Stores name.now [] entry.now result) transaction.old.locked.now.draft transaction.new.locked.now.draft }
 {
@@ -73,7 +73,7 @@ fn exchange<L: Law, N: Named, K>(
     requires some { 0 < length before.now }
     requires item { IsItem item.now name.now entry.now }
     requires other { entry.now ≡ before.now → ⊥ }
-    ensures same_reference { (transaction.new.home.ghost_name ≡ transaction.old.home.ghost_name) × (transaction.new.locked.ghost_name ≡ transaction.old.locked.ghost_name) }
+    ensures same_reference { IsOfTheSame transaction.old transaction.new }
     ensures place { transaction.new.locked.now.place ≡ transaction.old.locked.now.place }
     ensures stores { Edits (done_by result) (Stores name.now before.now entry.now result) transaction.old.locked.now.draft transaction.new.locked.now.draft }
 {
@@ -102,7 +102,7 @@ pub fn store<L: Law, N: Named, K>(
     requires owns { IsSomeAnd transaction.old.locked.now.draft (Owns name.now before.now) }
     requires short { 0 < length entry.now → length (item name.now entry.now) ≤ item_limit }
     requires room { item_limit ≤ length out.old }
-    ensures same_reference { (transaction.new.home.ghost_name ≡ transaction.old.home.ghost_name) × (transaction.new.locked.ghost_name ≡ transaction.old.locked.ghost_name) }
+    ensures same_reference { IsOfTheSame transaction.old transaction.new }
     ensures place { transaction.new.locked.now.place ≡ transaction.old.locked.now.place }
     ensures stores { Edits (done_by result) (Stores name.now before.now entry.now result) transaction.old.locked.now.draft transaction.new.locked.now.draft }
 {

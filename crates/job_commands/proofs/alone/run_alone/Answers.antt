@@ -1,10 +1,9 @@
 use Rattle.std.proofs.Common.{sym, subst}
 use Rattle.job_script.specs.Views.{asked_view}
 use Rattle.job_script.proofs.ReportLemmas.{if_ok}
-use Rattle.shared_index.specs.Compactions.{Compacts}
 use Rattle.shared_index.specs.Passes.{known_at}
-use Rattle.job_commands.specs.Histories.{IsLawful}
 use Rattle.job_commands.specs.Commands.{Asked}
+use Rattle.job_commands.specs.Steps.{MovedAt}
 use Rattle.job_commands.proofs.StationLaws.{ask_done, block_done, compact_done, if_both, step_is}
 use Rattle.job_commands.proofs.alone.run_alone.Goals as goal
 
@@ -31,6 +30,4 @@ returns-in-Compact-clause-steps g c = λ s setup spare held placed under.
     let table = c.args.index.now.shared.table.shared.table_id in
     step_is s c.run_compaction.result _ _ c.args.command.now _ c.in-Compact.is
     (compact_done s c.run_compaction.result c.args.pass.now.seat c.requires.here setup.opening spare held placed under c.run_compaction.new.pass.seat c.run_compaction.ensures.ends
-    (λ is.
-    let moved = c.run_compaction.ensures.moves is in
-    (table, moved.0, subst (λ n. Compacts IsLawful table n (known_at c.args.pass.now.seat) (known_at c.run_compaction.new.pass.seat) moved.0) (sym setup.index.passes) moved.1)) (c.run_compaction.ensures.ran s setup.opening))
+    (λ is. (table, subst (λ n. MovedAt table n (known_at c.args.pass.now.seat) (known_at c.run_compaction.new.pass.seat)) (sym setup.index.passes) (c.run_compaction.ensures.moves is))) (c.run_compaction.ensures.ran s setup.opening))
