@@ -62,6 +62,10 @@ pub record Paid (given : List Bool) (n : ℕ) (l new : Ledger) : Type 0 where
   pub moves : Moves given 0 l new
   pub less : old_live given new.live + n ≤ old_live given l.live
 
+-- where the first of n cells lay in an old chunk, they were moved whole
+abbrev pub PaidIfOld : Ledger → Ledger → ℕ → ℕ → Type 0
+PaidIfOld l new from n = (given : List Bool) → Fills given l → is_old given from ≡ true → Paid given n l new
+
 -- no chunk is free, and the bump chunk has fewer cells left than some row or item needs
 pub record IsFull (l : Ledger) : Type 0 where
   pub needed : ℕ

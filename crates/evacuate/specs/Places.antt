@@ -64,6 +64,16 @@ pub record IsHung {S : Type 0} (has : S → ℕ → Cell → Type 0) (s : S) (l 
   pub hung : Hung has s l r at es way t
   pub is : n ≡ node_of t
 
+-- however a tree with this node hung on the cell, it still does, and what hangs on the node is at this place
+abbrev pub StillHangs : {S : Type 0} → (S → ℕ → Cell → Type 0) → ℕ → Node → S → Ledger → S → Ledger → ℕ → Type 0
+StillHangs has at n s l s_new l_new to = (r : ℕ) (es : List Entry) (way : List Fork) (t : Tree)
+    → Hung has s l r at es way t → n ≡ node_of t → Hung has s_new l_new r at es way (moved t to)
+
+-- however a tree with this node hung on the cell, a trie of the same entries still stands at the root above it
+abbrev pub StandsAboveNode : {S : Type 0} → (S → ℕ → Cell → Type 0) → ℕ → Node → S → Ledger → S → Ledger → Type 0
+StandsAboveNode has at n s l s_new l_new = (r : ℕ) (es : List Entry) (way : List Fork) (t : Tree)
+    → Hung has s l r at es way t → n ≡ node_of t → (u : Tree) × Stood has s_new l_new r es u
+
 -- in some trie of these entries, some tree with this node hangs on the cell
 pub record HangsIn {S : Type 0} (has : S → ℕ → Cell → Type 0) (s : S) (l : Ledger) (r at : ℕ) (es : List Entry) (n : Node) : Type 0 where
   pub way : List Fork

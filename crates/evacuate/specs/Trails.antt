@@ -2,6 +2,7 @@
 use Rattle.std.specs.Prelude.{◌≡◌, ◌⊎◌, ℕ, ◌+◌, ◌/◌, ◌<◌, List, [], ◌∷◌, true, false, count_ones, slice_index}
 use Rattle.packed_node.specs.declared.Cell.{Cell}
 use Rattle.packed_node.specs.declared.Node.{Node}
+use Rattle.packed_node.specs.declared.Node.TheVariants as node
 use Rattle.trie_model.specs.Keys.{Entry}
 use Rattle.trie_model.specs.Memory.{node_of}
 use Rattle.trie_model.specs.Trees.{Tree, count}
@@ -57,6 +58,10 @@ pub record Reached {S : Type 0} (has : S → ℕ → Cell → Type 0) (l0 : Ledg
   pub node_is : n ≡ node_of end
   pub sparse : LiesSparse l0 end
 
+-- however a trie stood at a root, the way down led there
+abbrev pub Reaches : {S : Type 0} → (S → ℕ → Cell → Type 0) → ℕ → S → Ledger → S → Ledger → ℕ → Node → Type 0
+Reaches has r s l s_new l_new at n = (es : List Entry) (t : Tree) → Stood has s l r es t → Reached has l s_new l_new r at es n
+
 -- some tree with this node hangs on the cell, and what hangs on the node lies in a sparse chunk
 pub record IsDue {S : Type 0} (has : S → ℕ → Cell → Type 0) (s : S) (l : Ledger) (at : ℕ) (n : Node) : Type 0 where
   pub hung : IsHung has s l at n
@@ -67,6 +72,11 @@ pub record TwigsAt {S : Type 0} (has : S → ℕ → Cell → Type 0) (s : S) (l
   pub to : ℕ
   pub hung : Hung has s l r at es way (moved t to)
   pub twig_is : twig ≡ to + index
+
+-- however a tree with this branch hung on the cell, this is the twig that is passed to
+abbrev pub Passed : {S : Type 0} → (S → ℕ → Cell → Type 0) → ℕ → Passage → S → Ledger → S → Ledger → ℕ → Type 0
+Passed has at p s l s_new l_new twig = (r : ℕ) (es : List Entry) (way : List Fork) (t : Tree)
+    → Hung has s l r at es way t → node.Branch p.descent.branch ≡ node_of t → TwigsAt has s_new l_new r at es way t p.descent.index twig
 
 -- A branch's twigs may stay if the one that is passed to may be written. Else they lie in a sparse chunk, or it may not be.
 pub record MayPass (l : Ledger) (p : Passage) : Type 0 where

@@ -1,8 +1,9 @@
 //! The way down along a path that doesn't fork, on which twigs are made mutable, or what lies in sparse chunks is moved.
 
-ghost use Rattle.std.specs.Prelude.{◌≡◌, ◌+◌, ◌/◌, ◌<◌, ◌≤◌, ◌^◌, ℕ, List, Bool, true, IfOk, IfErr, IfSome, count_ones};
-ghost use Rattle.evacuate.specs.Prelude.{Branch, branch_node, Entry, node_of, Tree, is_sparse, reserve_account_of, Ready, Fenced, IsWritable, Fork, Fills};
-ghost use Rattle.evacuate.specs.Prelude.{Moves, IsFull, Hung, Hangs, IsStood, CanMove, CanRearrange, MayPass, OnWay, Rearranged, TwigsAt, Unmoved};
+ghost use Rattle.std.specs.Prelude.{◌≡◌, ◌+◌, ◌/◌, ◌<◌, ◌≤◌, ◌^◌, List, Bool, true, IfOk, IfErr, IfSome, count_ones};
+ghost use Rattle.evacuate.specs.Prelude.{Branch, branch_node, is_sparse, reserve_account_of, Ready, Fenced, IsWritable, Fills};
+ghost use Rattle.evacuate.specs.Prelude.{Moves, IsFull, Hangs, IsStood, CanMove, CanRearrange, MayPass, OnWay, Rearranged};
+ghost use Rattle.evacuate.specs.Prelude.{Unmoved, Passed};
 
 use super::foothold::Foothold;
 use super::items::move_item;
@@ -78,8 +79,7 @@ pub fn pass<C: CellWrite>(
 ) -> Result<Ref, Full>
     requires may_pass { MayPass usage.old passage }
     requires can { CanMove C.has C.kept C.given at (branch_node passage.descent.branch) cells.old usage.old }
-    ensures hung { IfOk result (λ twig. (r : ℕ) (es : List Entry) (way : List Fork) (t : Tree) → Hung C.has cells.old usage.old r at es way t → branch_node passage.descent.branch ≡ node_of t
-        → TwigsAt C.has cells.new usage.new r at es way t passage.descent.index twig) }
+    ensures hung { IfOk result (λ twig. Passed C.has at passage cells.old usage.old cells.new usage.new twig) }
     ensures writable { IfOk result (λ twig. IsWritable C.given reserve_account_of cells.new usage.new twig) }
     ensures moves { IfOk result (λ _. (given : List Bool) → Fills given usage.old → Moves given 0 usage.old usage.new) }
     ensures unmoved { IfErr result (λ _. Unmoved cells.old usage.old cells.new usage.new) }

@@ -1,7 +1,7 @@
 //! From an extent of an item to the one behind it.
 
 ghost use Rattle.std.specs.Prelude.{◌≡◌, ◌<◌, ◌≤◌, ℕ, List, None, IfSome};
-ghost use Rattle.evacuate.specs.Prelude.{Extents, HasItem, LiesAt, LiesBehind};
+ghost use Rattle.evacuate.specs.Prelude.{HasItem, GoesBehind};
 
 use chunk_cells::CellRead;
 use chunk_cells::extents::{LAST_OCTETS, LINKED_OCTETS, next_extent};
@@ -21,7 +21,7 @@ pub fn extent_behind<C: CellRead>(cells: &mut C, at: Ref, len: u16) -> Option<Be
     ensures same { cells.new ≡ cells.old }
     ensures fewer { IfSome result (λ next. next.len < len) }
     ensures item { IfSome result (λ next. (item : List ℕ) × HasItem (C.has cells.new) next.at next.len item) }
-    ensures behind { IfSome result (λ next. (item : List ℕ) (x : Extents) → LiesAt (C.has cells.old) at len item x → LiesBehind (C.has cells.new) at x next.at next.len) }
+    ensures behind { IfSome result (λ next. GoesBehind C.has at len cells.old cells.new next.at next.len) }
     ensures last { result ≡ None → len ≤ 4096 }
 {
     if len as usize <= LAST_OCTETS {

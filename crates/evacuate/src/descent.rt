@@ -1,9 +1,10 @@
 //! The way down to what is to be moved. On the way each row of twigs that may not be written is moved first, so that a cell above what
 //! was moved can say where it is.
 
-ghost use Rattle.std.specs.Prelude.{◌≡◌, ◌^◌, ◌<◌, ◌≤◌, ℕ, List, Bool, IfOk, IfErr, IfSome, None};
-ghost use Rattle.evacuate.specs.Prelude.{branch_node, Entry, node_of, Tree, reserve_account_of, Ready, Fenced, IsWritable, NotBefore, Fork, HasSparse};
-ghost use Rattle.evacuate.specs.Prelude.{Fills, Moves, Fewer, IsFull, old_live, Stood, Hung, CanMove, CanRearrange, Rearranged, Finds, IsDue, Reached};
+ghost use Rattle.std.specs.Prelude.{◌≡◌, ◌^◌, ◌<◌, ◌≤◌, List, Bool, IfOk, IfErr, IfSome, None};
+ghost use Rattle.evacuate.specs.Prelude.{branch_node, node_of, Tree, reserve_account_of, Ready, Fenced, IsWritable, NotBefore};
+ghost use Rattle.evacuate.specs.Prelude.{HasSparse, Fills, Moves, Fewer, IsFull, CanMove, CanRearrange, Rearranged};
+ghost use Rattle.evacuate.specs.Prelude.{Finds, IsDue, Reaches, StandsAboveNode};
 
 use super::along::{Passage, pass};
 use super::items::move_item;
@@ -49,7 +50,7 @@ pub fn reach<C: CellWrite>(
 ) -> Result<Spot, Full>
     requires can { CanRearrange C.has C.kept C.given root cells.old usage.old }
     requires found { Finds C.has cells.old usage.old root trail.now }
-    ensures reached { IfOk result (λ spot. (es : List Entry) (t : Tree) → Stood C.has cells.old usage.old root es t → Reached C.has usage.old cells.new usage.new root spot.at es spot.node) }
+    ensures reached { IfOk result (λ spot. Reaches C.has root cells.old usage.old cells.new usage.new spot.at spot.node) }
     ensures writable { IfOk result (λ spot. IsWritable C.given reserve_account_of cells.new usage.new spot.at) }
     ensures rearranged { Rearranged C.has C.kept C.given root cells.old usage.old cells.new usage.new }
     ensures full { IfErr result (λ _. IsFull usage.new) }
@@ -71,7 +72,7 @@ pub fn reach<C: CellWrite>(
 /// no room, what was moved before stays so.
 fn move_spot<C: CellWrite>(cells: &mut C, usage: &mut Usage, spot: Spot) -> Result<(), Full>
     requires { CanMove C.has C.kept C.given spot.at spot.node cells.old usage.old }
-    ensures stood { (r : ℕ) (es : List Entry) (way : List Fork) (t : Tree) → Hung C.has cells.old usage.old r spot.at es way t → spot.node ≡ node_of t → (u : Tree) × Stood C.has cells.new usage.new r es u }
+    ensures stood { StandsAboveNode C.has spot.at spot.node cells.old usage.old cells.new usage.new }
     ensures moves { IsDue C.has cells.old usage.old spot.at spot.node → (given : List Bool) → Fills given usage.old → Moves given 0 usage.old usage.new }
     ensures less { IfOk result (λ _. IsDue C.has cells.old usage.old spot.at spot.node → Fewer usage.old usage.new) }
     ensures full { IfErr result (λ _. IsFull usage.new) }
@@ -99,7 +100,7 @@ pub fn move_found<C: CellWrite>(
     requires can { CanRearrange C.has C.kept C.given root cells.old usage.old }
     requires found { Finds C.has cells.old usage.old root trail.now }
     ensures rearranged { Rearranged C.has C.kept C.given root cells.old usage.old cells.new usage.new }
-    ensures less { IfOk result (λ _. (given : List Bool) → Fills given usage.old → old_live given usage.new.live < old_live given usage.old.live) }
+    ensures less { IfOk result (λ _. Fewer usage.old usage.new) }
     ensures full { IfErr result (λ _. IsFull usage.new) }
     ensures left { IfErr result (λ _. (given : List Bool) → Fills given usage.old → HasSparse usage.new) }
 {

@@ -1,10 +1,10 @@
 //! Moving an item, extent by extent. The link cell of an extent says where the next one is, so an extent before one that is moved is moved
 //! too, unless that cell may be written.
 
-ghost use Rattle.std.specs.Prelude.{◌≡◌, ◌⊎◌, ◌+◌, ◌-◌, ◌/◌, ◌^◌, ◌<◌, ◌≤◌, ℕ, List, Bool, true, false, IfOk, IfErr};
-ghost use Rattle.evacuate.specs.Prelude.{leaf_node, Extents, first_of_extents, Entry, node_of, Tree, is_sparse, is_mutable};
-ghost use Rattle.evacuate.specs.Prelude.{reserve_account_of, Ready, Fenced, IsWritable, Fork, Goes, GoesOn, GoesSparse, HasSparse};
-ghost use Rattle.evacuate.specs.Prelude.{Fills, Moves, Fewer, MovedIfDue, IsFull, moved, put_first, Stood, Hung, IsDue, CanMove, Unmoved};
+ghost use Rattle.std.specs.Prelude.{◌≡◌, ◌⊎◌, ◌+◌, ◌-◌, ◌/◌, ◌^◌, ◌<◌, ◌≤◌, List, Bool, true, false, IfOk, IfErr};
+ghost use Rattle.evacuate.specs.Prelude.{leaf_node, is_sparse, is_mutable, reserve_account_of, Ready, Fenced, IsWritable, GoesOn};
+ghost use Rattle.evacuate.specs.Prelude.{GoesSparse, HasSparse, Fills, Moves, Fewer, MovedIfDue, IsFull, IsDue, CanMove, Unmoved};
+ghost use Rattle.evacuate.specs.Prelude.{HoldsBehind, StandsAboveItem, StandsAboveNode, StillGoesOn, StillHangs};
 
 use super::moves::{move_linked, move_node};
 use super::sparse::is_item_sparse;
@@ -38,8 +38,7 @@ fn move_first<C: CellWrite>(
     leaf: Leaf,
 ) -> Result<Ref, Full>
     requires { CanMove C.has C.kept C.given at (leaf_node leaf) cells.old usage.old }
-    ensures hung { IfOk result (λ to. (r : ℕ) (es : List Entry) (way : List Fork) (t : Tree) → Hung C.has cells.old usage.old r at es way t → leaf_node leaf ≡ node_of t
-        → Hung C.has cells.new usage.new r at es way (moved t to)) }
+    ensures hung { IfOk result (λ to. StillHangs C.has at (leaf_node leaf) cells.old usage.old cells.new usage.new to) }
     ensures writable { IfOk result (λ to. 4096 < leaf.len → IsWritable C.given reserve_account_of cells.new usage.new (to + 255)) }
     ensures moves { (given : List Bool) → Fills given usage.old → Moves given 0 usage.old usage.new }
     ensures if_due { IfOk result (λ _. MovedIfDue usage.old usage.new leaf.at) }
@@ -59,12 +58,10 @@ fn move_next<C: CellWrite>(cells: &mut C, usage: &mut Usage, at: Ref, len: u16) 
     requires goes { GoesOn C.has cells.old usage.old at len }
     requires writable { IsWritable C.given reserve_account_of cells.old usage.old (at + 255) }
     requires ready { Ready C.kept C.given reserve_account_of cells.old usage.old }
-    ensures goes { IfOk result (λ to. (r : ℕ) (es : List Entry) (way : List Fork) (e : Entry) (front : List ℕ) (rest : Extents) → Goes C.has cells.old usage.old r at len es way e front rest
-        → Goes C.has cells.new usage.new r at len es way e front (put_first rest to)) }
+    ensures goes { IfOk result (λ to. StillGoesOn C.has at len cells.old usage.old cells.new usage.new to) }
     ensures writable { IfOk result (λ to. 4096 < len - 4080 → IsWritable C.given reserve_account_of cells.new usage.new (to + 255)) }
     ensures moves { (given : List Bool) → Fills given usage.old → Moves given 0 usage.old usage.new }
-    ensures if_due { IfOk result (λ _. (r : ℕ) (es : List Entry) (way : List Fork) (e : Entry) (front : List ℕ) (rest : Extents) → Goes C.has cells.old usage.old r at len es way e front rest
-        → MovedIfDue usage.old usage.new (first_of_extents rest)) }
+    ensures if_due { IfOk result (λ _. HoldsBehind C.has cells.old usage.old at len (λ from. MovedIfDue usage.old usage.new from)) }
     ensures unmoved { IfErr result (λ _. Unmoved cells.old usage.old cells.new usage.new) }
     ensures frame { Fenced C.has C.kept C.given reserve_account_of cells.old usage.old cells.new usage.new }
     ensures ready { Ready C.kept C.given reserve_account_of cells.new usage.new }
@@ -88,8 +85,7 @@ fn move_behind<C: CellWrite>(
     requires goes { GoesOn C.has cells.old usage.old at len }
     requires writable { IsWritable C.given reserve_account_of cells.old usage.old (at + 255) }
     requires ready { Ready C.kept C.given reserve_account_of cells.old usage.old }
-    ensures stood { (r : ℕ) (es : List Entry) (way : List Fork) (e : Entry) (front : List ℕ) (rest : Extents) → Goes C.has cells.old usage.old r at len es way e front rest
-        → (u : Tree) × Stood C.has cells.new usage.new r es u }
+    ensures stood { StandsAboveItem C.has at len cells.old usage.old cells.new usage.new }
     ensures moves { (given : List Bool) → Fills given usage.old → Moves given 0 usage.old usage.new }
     ensures less { IfOk result (λ _. GoesSparse C.has cells.old usage.old at len → Fewer usage.old usage.new) }
     ensures full { IfErr result (λ _. IsFull usage.new) }
@@ -118,7 +114,7 @@ pub fn move_item<C: CellWrite>(
     leaf: Leaf,
 ) -> Result<(), Full>
     requires { CanMove C.has C.kept C.given at (leaf_node leaf) cells.old usage.old }
-    ensures stood { (r : ℕ) (es : List Entry) (way : List Fork) (t : Tree) → Hung C.has cells.old usage.old r at es way t → leaf_node leaf ≡ node_of t → (u : Tree) × Stood C.has cells.new usage.new r es u }
+    ensures stood { StandsAboveNode C.has at (leaf_node leaf) cells.old usage.old cells.new usage.new }
     ensures moves { (given : List Bool) → Fills given usage.old → Moves given 0 usage.old usage.new }
     ensures less { IfOk result (λ _. IsDue C.has cells.old usage.old at (leaf_node leaf) → Fewer usage.old usage.new) }
     ensures full { IfErr result (λ _. IsFull usage.new) }

@@ -1,9 +1,9 @@
 //! Moving what hangs on a node, and the root's cell.
 
 ghost use Rattle.std.specs.Prelude.{◌≡◌, ◌≢◌, ◌+◌, ◌-◌, ◌*◌, ◌^◌, ◌/◌, ◌<◌, ◌≤◌, ℕ, List, Bool, true, false, IfOk, IfErr, [], slice_index};
-ghost use Rattle.evacuate.specs.Prelude.{Cell, Extents, IsRow, first_of_extents, Entry, node_of, Tree, Handed, reserve_account_of};
-ghost use Rattle.evacuate.specs.Prelude.{Ready, Frame, Fenced, MayWrite, IsWritable, Fork, Goes, GoesOn, Fills, Moves, Paid};
-ghost use Rattle.evacuate.specs.Prelude.{is_old, first_of, first_width, width_of, put_first, moved, Stood, Hung, IsStood, CanMove, Unmoved};
+ghost use Rattle.evacuate.specs.Prelude.{Cell, IsRow, Entry, Tree, Handed, reserve_account_of, Ready, Frame, Fenced, MayWrite};
+ghost use Rattle.evacuate.specs.Prelude.{IsWritable, GoesOn, Fills, Moves, is_old, first_of, first_width, width_of, Stood};
+ghost use Rattle.evacuate.specs.Prelude.{IsStood, CanMove, Unmoved, HoldsBehind, PaidIfOld, StillGoesOn, StillHangs};
 
 use super::node_cells::{cell_count, first_cell, first_extent_for, with_cells_at};
 use super::room::room_for;
@@ -43,10 +43,9 @@ pub fn move_node<C: CellWrite>(
     node: Node,
 ) -> Result<Ref, Full>
     requires { CanMove C.has C.kept C.given at node cells.old usage.old }
-    ensures hung { IfOk result (λ to. (r : ℕ) (es : List Entry) (way : List Fork) (t : Tree) → Hung C.has cells.old usage.old r at es way t → node ≡ node_of t
-        → Hung C.has cells.new usage.new r at es way (moved t to)) }
+    ensures hung { IfOk result (λ to. StillHangs C.has at node cells.old usage.old cells.new usage.new to) }
     ensures writable { IfOk result (λ to. (i : ℕ) → i < width_of node → IsWritable C.given reserve_account_of cells.new usage.new (to + i)) }
-    ensures paid { IfOk result (λ _. (given : List Bool) → Fills given usage.old → is_old given (first_of node) ≡ true → Paid given (width_of node) usage.old usage.new) }
+    ensures paid { IfOk result (λ _. PaidIfOld usage.old usage.new (first_of node) (width_of node)) }
     ensures unmoved { IfErr result (λ _. Unmoved cells.old usage.old cells.new usage.new) }
     ensures frame { Fenced C.has C.kept C.given reserve_account_of cells.old usage.old cells.new usage.new }
     ensures ready { Ready C.kept C.given reserve_account_of cells.new usage.new }
@@ -70,11 +69,9 @@ pub fn move_linked<C: CellWrite>(
     requires goes { GoesOn C.has cells.old usage.old at len }
     requires writable { IsWritable C.given reserve_account_of cells.old usage.old (at + 255) }
     requires ready { Ready C.kept C.given reserve_account_of cells.old usage.old }
-    ensures goes { IfOk result (λ to. (r : ℕ) (es : List Entry) (way : List Fork) (e : Entry) (front : List ℕ) (rest : Extents) → Goes C.has cells.old usage.old r at len es way e front rest
-        → Goes C.has cells.new usage.new r at len es way e front (put_first rest to)) }
+    ensures goes { IfOk result (λ to. StillGoesOn C.has at len cells.old usage.old cells.new usage.new to) }
     ensures writable { IfOk result (λ to. (i : ℕ) → i < first_width (len - 4080) → IsWritable C.given reserve_account_of cells.new usage.new (to + i)) }
-    ensures paid { IfOk result (λ _. (r : ℕ) (es : List Entry) (way : List Fork) (e : Entry) (front : List ℕ) (rest : Extents) → Goes C.has cells.old usage.old r at len es way e front rest
-        → (given : List Bool) → Fills given usage.old → is_old given (first_of_extents rest) ≡ true → Paid given (first_width (len - 4080)) usage.old usage.new) }
+    ensures paid { IfOk result (λ _. HoldsBehind C.has cells.old usage.old at len (λ from. PaidIfOld usage.old usage.new from (first_width (len - 4080)))) }
     ensures unmoved { IfErr result (λ _. Unmoved cells.old usage.old cells.new usage.new) }
     ensures frame { Fenced C.has C.kept C.given reserve_account_of cells.old usage.old cells.new usage.new }
     ensures ready { Ready C.kept C.given reserve_account_of cells.new usage.new }
@@ -94,7 +91,7 @@ pub fn move_root<C: CellWrite>(cells: &mut C, usage: &mut Usage, root: Ref) -> R
     ensures stood { IfOk result (λ to. (es : List Entry) (t : Tree) → Stood C.has cells.old usage.old root es t → Stood C.has cells.new usage.new to es t) }
     ensures writable { IfOk result (λ to. IsWritable C.given reserve_account_of cells.new usage.new to) }
     ensures elsewhere { IfOk result (λ to. (given : List Bool) → Fills given usage.old → is_old given to ≡ false) }
-    ensures paid { IfOk result (λ _. (given : List Bool) → Fills given usage.old → is_old given root ≡ true → Paid given 1 usage.old usage.new) }
+    ensures paid { IfOk result (λ _. PaidIfOld usage.old usage.new root 1) }
     ensures unmoved { IfErr result (λ _. Unmoved cells.old usage.old cells.new usage.new) }
     ensures frame { Fenced C.has C.kept C.given reserve_account_of cells.old usage.old cells.new usage.new }
     ensures ready { Ready C.kept C.given reserve_account_of cells.new usage.new }

@@ -1,7 +1,7 @@
 //! The walk through a trie to what lies in sparse chunks.
 
 ghost use Rattle.std.specs.Prelude.{◌≡◌, ◌≢◌, ◌<◌, ◌≤◌, ℕ, List, true, false, slice_index};
-ghost use Rattle.evacuate.specs.Prelude.{Extents, HasItem, LiesAt, in_chunk, weigh_tree, Tree, IsTop, is_sparse, SparseExtents, Found, TrailKept};
+ghost use Rattle.evacuate.specs.Prelude.{Extents, HasItem, LiesAt, Tree, IsTop, SparseExtents, Found, TrailKept, AvoidsSparse};
 
 use super::path_walk::NO_OFFSET;
 use super::sparse::is_item_sparse;
@@ -75,7 +75,7 @@ pub fn next_sparse<C: CellRead>(
     ensures kept { TrailKept cells.old cells.new low trail.old trail.new }
     ensures found { result ≡ true → (t : Tree) → IsTop (C.has cells.old) low node t → Found usage.now trail.new t }
     ensures late { result ≡ true → low ≤ trail.new.end }
-    ensures none { result ≡ false → resumed ≡ false → before ≡ 0 → (t : Tree) → IsTop (C.has cells.old) low node t → (k : ℕ) → is_sparse usage.now k ≡ true → weigh_tree (in_chunk k) t ≡ 0 }
+    ensures none { result ≡ false → resumed ≡ false → before ≡ 0 → (t : Tree) → IsTop (C.has cells.old) low node t → AvoidsSparse usage.now t }
 {
     match Node::of(node) {
         Node::Leaf(leaf) => ends_at_leaf(cells, usage, trail, leaf),
