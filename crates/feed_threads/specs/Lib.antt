@@ -1,3 +1,4 @@
 pub mod Feeds
+pub mod Gatherings
 pub mod Zones
 pub mod Prelude

@@ -8,4 +8,5 @@ pub use Rattle.job_commands.specs.Prelude.{AllAsked, AreAll, AreNew, Gathers, Is
 pub use Rattle.job_commands.specs.Prelude.{Setup, StandsAs, Version, WorkerRan, command_view, ended, entries_of_items, known_at, only}
 pub use Rattle.feed_threads.specs.Feeds.{AreInOrder, AreTaken, FedHeard, IsBy, IsFedRun, IsFree, IsServed, commands_at, commands_served}
 pub use Rattle.feed_threads.specs.Feeds.{done_seat, numbered, numbers_served, outcomes_served, seats_served, served_by}
+pub use Rattle.feed_threads.specs.Gatherings.{AreGathered, DoneRan, known_in, table_size}
 pub use Rattle.feed_threads.specs.Zones.{FedRanOn}

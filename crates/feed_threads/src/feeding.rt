@@ -1,9 +1,9 @@
 //! One list of commands, of which each worker takes the next one when it comes free.
 ghost use Rattle.std.specs.Prelude.{◌≡◌, ◌+◌, ◌<◌, ◌≤◌, ◌∷◌, ℕ, List, All, IsSome, IfOk, length, map, Some, None};
 ghost use Rattle.feed_threads.specs.Prelude.{AllByRecursion, IsSync, Version, NeedsNoSnapshot, passes_fed, command_view, new_seat};
-ghost use Rattle.feed_threads.specs.Prelude.{AllAsked, known_at, Learnt, AreAll, Setup, StandsAs, AreNew, IsNew, WorkerRan};
-ghost use Rattle.feed_threads.specs.Prelude.{ended, only, IsHeard, IsIndex, IsSetup, OpensAt, Gathers, FedHeard, IsFedRun};
-ghost use Rattle.feed_threads.specs.Prelude.{IsServed, commands_at, commands_served, done_seat, outcomes_served, seats_served};
+ghost use Rattle.feed_threads.specs.Prelude.{AllAsked, known_at, Learnt, AreAll, Setup, StandsAs, AreNew, IsNew, table_size, known_in};
+ghost use Rattle.feed_threads.specs.Prelude.{IsHeard, IsIndex, IsSetup, OpensAt, AreGathered, DoneRan, FedHeard, IsFedRun};
+ghost use Rattle.feed_threads.specs.Prelude.{IsServed, done_seat, seats_served};
 
 use crate::ordering::{Served, in_order};
 use dns_name::Name;
@@ -64,8 +64,8 @@ fn serve<R: Wait, N: Named, G: Gate>(
     ensures place { IfOk result (λ d. d.pass.place ≡ index.now.place) }
     ensures seat { IfOk result (λ d. d.seat ≡ done_seat feed.now d.served.numbers.items) }
     ensures alike { IfOk result (λ d. IsServed d.served) }
-    ensures ran { (s : Setup) (number : ℕ) → IsSetup s origin.now index.now.shared.table.shared.key (known_at pass.seat) → IsNew number s.opening (known_at pass.seat)
-        → IfOk result (λ d. WorkerRan s (only number) (ended (known_at d.pass.seat) (known_at pass.seat)) (commands_at (map command_view commands.now) d.served.numbers.items) d.served.outcomes.list.items) }
+    ensures ran { (s : Setup) (number : ℕ) → IsSetup s origin.now (table_size index.now) (known_at pass.seat)
+        → IsNew number s.opening (known_at pass.seat) → IfOk result (DoneRan s number (known_at pass.seat) (map command_view commands.now)) }
     ensures heard { IfOk result (λ d. AllByRecursion (IsHeard (G.hears gate.now) worker) d.served.numbers.items) }
 {
     let mut room = Room::new(alloc)?;
@@ -101,7 +101,7 @@ fn with_served<N: Named>(
     ensures here { IfOk result (λ g. All (λ p. (IsSome p.seat) × (p.place ≡ index.now.place)) g.passes.items) }
     ensures served { IfOk result (λ g. g.served.items ≡ done.served ∷ others.served.items) }
     ensures seats { IfOk result (λ g. g.seats.items ≡ done.seat ∷ others.seats.items) }
-    ensures passes { IfOk result (λ g. map (λ p. known_at p.seat) g.passes.items ≡ known_at done.pass.seat ∷ map (λ p. known_at p.seat) others.passes.items) }
+    ensures passes { IfOk result (λ g. known_in g.passes.items ≡ known_at done.pass.seat ∷ known_in others.passes.items) }
     ensures learnt { IfOk result (λ g. Learnt (known_at others.main.seat) (known_at g.main.seat) (known_at done.pass.seat).seen) }
 {
     let FedDone {
@@ -155,9 +155,8 @@ fn serve_all<R: Threads + Wait + Sync, N: Named + Send + Sync, G: Gate>(
     ensures many { IfOk result (λ g. length g.served.items ≡ length seats.items) }
     ensures seats { IfOk result (λ g. g.seats.items ≡ seats_served feed.now g.served.items) }
     ensures alike { IfOk result (λ g. AllByRecursion IsServed g.served.items) }
-    ensures ran { (s : Setup) → IsIndex s origin.now index.now.shared.table.shared.key → AreNew s.opening (map (λ p. known_at p.seat) passes.items)
-        → IfOk result (λ g. Gathers s (map (λ p. known_at p.seat) passes.items) (commands_served (map command_view commands.now) g.served.items) (outcomes_served g.served.items)
-        (map (λ p. known_at p.seat) g.passes.items) (known_at g.main.seat)) }
+    ensures ran { (s : Setup) → IsIndex s origin.now (table_size index.now) → AreNew s.opening (known_in passes.items)
+        → IfOk result (AreGathered s (known_in passes.items) (map command_view commands.now)) }
     ensures heard { IfOk result (λ g. FedHeard (G.hears gate.now) worker g.served.items) }
 {
     let Some(pass) = passes.pop() else {
@@ -185,8 +184,8 @@ fn serve_all<R: Threads + Wait + Sync, N: Named + Send + Sync, G: Gate>(
         ensures place { IfOk result (λ d. d.pass.place ≡ index.entry.now.place) }
         ensures seat { IfOk result (λ d. d.seat ≡ done_seat feed.entry.now d.served.numbers.items) }
         ensures alike { IfOk result (λ d. IsServed d.served) }
-        ensures ran { (s : Setup) (number : ℕ) → IsSetup s origin.entry.now index.entry.now.shared.table.shared.key (known_at pass.seat) → IsNew number s.opening (known_at pass.seat)
-            → IfOk result (λ d. WorkerRan s (only number) (ended (known_at d.pass.seat) (known_at pass.seat)) (commands_at (map command_view commands.entry.now) d.served.numbers.items) d.served.outcomes.list.items) }
+        ensures ran { (s : Setup) (number : ℕ) → IsSetup s origin.entry.now (table_size index.entry.now) (known_at pass.seat)
+            → IsNew number s.opening (known_at pass.seat) → IfOk result (DoneRan s number (known_at pass.seat) (map command_view commands.entry.now)) }
         ensures heard { IfOk result (λ d. AllByRecursion (IsHeard (G.hears gate.entry.now) worker) d.served.numbers.items) }
     {
         serve(
@@ -207,9 +206,8 @@ fn serve_all<R: Threads + Wait + Sync, N: Named + Send + Sync, G: Gate>(
         ensures many { IfOk result (λ g. length g.served.items ≡ length seats.items) }
         ensures seats { IfOk result (λ g. g.seats.items ≡ seats_served feed.entry.now g.served.items) }
         ensures alike { IfOk result (λ g. AllByRecursion IsServed g.served.items) }
-        ensures ran { (s : Setup) → IsIndex s origin.entry.now index.entry.now.shared.table.shared.key → AreNew s.opening (map (λ p. known_at p.seat) passes.items)
-            → IfOk result (λ g. Gathers s (map (λ p. known_at p.seat) passes.items) (commands_served (map command_view commands.entry.now) g.served.items) (outcomes_served g.served.items)
-            (map (λ p. known_at p.seat) g.passes.items) (known_at g.main.seat)) }
+        ensures ran { (s : Setup) → IsIndex s origin.entry.now (table_size index.entry.now) → AreNew s.opening (known_in passes.items)
+            → IfOk result (AreGathered s (known_in passes.items) (map command_view commands.entry.now)) }
         ensures heard { IfOk result (λ g. FedHeard (G.hears gate.entry.now) next g.served.items) }
     {
         serve_all(
@@ -234,13 +232,13 @@ pub fn run_feed<R: Threads + Wait + Sync, N: Named + Send + Sync, G: Gate>(
     requires workers { (1 ≤ workers) × (workers ≤ 16) }
     requires passes { length passes.items ≡ passes_fed workers }
     requires size { index.shared.table.shared.key.passes ≡ length passes.items }
-    requires all { AreAll (length passes.items) (map (λ p. known_at p.seat) passes.items) }
+    requires all { AreAll (length passes.items) (known_in passes.items) }
     requires here { All (λ p. (IsSome p.seat) × (p.place ≡ index.place)) passes.items }
     requires count { (1 ≤ length commands.now) × (length commands.now ≤ 10000) }
     requires no_snapshots { AllByRecursion NeedsNoSnapshot (map command_view commands.now) }
     requires opens { All (λ p. OpensAt origin.now (known_at p.seat)) passes.items }
     requires said { AllByRecursion (AllAsked origin.now) (map command_view commands.now) }
-    ensures ran { (s : Setup) (zone : Version) → IsIndex s origin.now index.shared.table.shared.key → StandsAs s.opening zone → AreNew s.opening (map (λ p. known_at p.seat) passes.items)
+    ensures ran { (s : Setup) (zone : Version) → IsIndex s origin.now (table_size index) → StandsAs s.opening zone → AreNew s.opening (known_in passes.items)
         → IfOk result (λ f. IsFedRun s.chunks workers origin.now zone (map command_view commands.now) f.outcomes.items f.version f.names) }
 {
     let (feed, seats) = Feed::of(rt, alloc, commands.len() as u32, workers)?;
