@@ -1,5 +1,6 @@
 pub mod Snapshots
 pub mod Zones
 pub mod Dumps
+pub mod Gatherings
 pub mod Passes
 pub mod Prelude

@@ -1,6 +1,6 @@
 //! A zone that is written as a master file.
-ghost use Rattle.std.specs.Prelude.{◌≡◌, ◌≤◌, ℕ, All, IsSome, IsErrOf, List, IfOk, OnErr, length, map, Some, slice_get};
-ghost use Rattle.job_threads.specs.Prelude.{Rose, Version, entries_of_items, known_at, AreAll};
+ghost use Rattle.std.specs.Prelude.{◌≡◌, ◌≤◌, ℕ, All, IsSome, IsErrOf, List, IfOk, OnErr, length, Some, slice_get};
+ghost use Rattle.job_threads.specs.Prelude.{Rose, Version, entries_of_items, known_at, known_in, AreAll};
 ghost use Rattle.job_threads.specs.Prelude.{Entries, IsZone, StandsAs, AreNew, DumpedOn, StopsOn, Visited, Writes, WritesSeen};
 
 use dns_name::Name;
@@ -55,9 +55,9 @@ fn dump_opened<N: Named, K: Sink>(
 ) -> Result<u64, DumpRefusal>
     requires count { length passes.items ≡ 1 }
     requires size { index.shared.table.shared.key.passes ≡ 1 }
-    requires all { AreAll 1 (map (λ p. known_at p.seat) passes.items) }
+    requires all { AreAll 1 (known_in passes.items) }
     requires here { All (λ p. (IsSome p.seat) × (p.place ≡ index.place)) passes.items }
-    ensures writes { (opening : Entries) → AreNew opening (map (λ p. known_at p.seat) passes.items) → Writes style origin.now (K.held sink.old) (K.held sink.new) result opening }
+    ensures writes { (opening : Entries) → AreNew opening (known_in passes.items) → Writes style origin.now (K.held sink.old) (K.held sink.new) result opening }
     ensures fault { IsErrOf result DumpRefusal.Fault → Rose (K.faults sink.old) (K.faults sink.new) }
     ensures quiet { (IsErrOf result DumpRefusal.Fault → ⊥) → K.faults sink.new ≡ K.faults sink.old }
 {

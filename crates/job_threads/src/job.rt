@@ -2,7 +2,7 @@
 ghost use Rattle.std.specs.Prelude.{◌≡◌, ◌+◌, ◌*◌, ◌∷◌, List, All, IsSome, IfOk, length, map, false};
 ghost use Rattle.job_threads.specs.Prelude.{AllByRecursion, IsSync, Version, InTurn, passes_for, command_view, job_view, worker_view};
 ghost use Rattle.job_threads.specs.Prelude.{workers_view, AllAsked, known_at, Learnt, AreAll, Setup, StandsAs, AreNew, Begins, Numbers};
-ghost use Rattle.job_threads.specs.Prelude.{WorkerRan, ended, AllHeard, AreHeard, IsIndex, IsSetup, OpensAt, Gathers, IsRun};
+ghost use Rattle.job_threads.specs.Prelude.{AllHeard, AreHeard, IsIndex, IsSetup, OpensAt, IsRun, table_size, known_in, DoneRan, AreGathered};
 
 use crate::worker::{Done, Task, run_worker};
 use dns_name::Name;
@@ -42,8 +42,7 @@ fn with_done<N: Named>(
     ensures main { IfOk result (λ g. (IsSome g.main.seat) × (g.main.place ≡ index.now.place)) }
     ensures here { IfOk result (λ g. All (λ p. (IsSome p.seat) × (p.place ≡ index.now.place)) g.passes.items) }
     ensures outcomes { IfOk result (λ g. g.outcomes.items ≡ done.outcomes ∷ others.outcomes.items) }
-    ensures passes { IfOk result (λ g. map (λ p. known_at p.seat) g.passes.items
-        ≡ known_at done.asks.seat ∷ known_at done.spare.seat ∷ map (λ p. known_at p.seat) others.passes.items) }
+    ensures passes { IfOk result (λ g. known_in g.passes.items ≡ known_at done.asks.seat ∷ known_at done.spare.seat ∷ known_in others.passes.items) }
     ensures learnt { IfOk result (λ g. Learnt (known_at others.main.seat) (known_at g.main.seat) (known_at done.asks.seat).seen) }
 {
     let Done {
@@ -101,8 +100,8 @@ fn run_workers<R: Threads + Wait + Sync, N: Named + Send + Sync, G: Gate>(
     requires said { AllByRecursion (AllByRecursion (AllAsked origin.now)) (workers_view workers.now) }
     ensures main { IfOk result (λ g. (IsSome g.main.seat) × (g.main.place ≡ index.now.place)) }
     ensures here { IfOk result (λ g. All (λ p. (IsSome p.seat) × (p.place ≡ index.now.place)) g.passes.items) }
-    ensures ran { (s : Setup) → IsIndex s origin.now index.now.shared.table.shared.key → AreNew s.opening (map (λ p. known_at p.seat) passes.items)
-        → IfOk result (λ g. Gathers s (map (λ p. known_at p.seat) passes.items) (workers_view workers.now) g.outcomes.items (map (λ p. known_at p.seat) g.passes.items) (known_at g.main.seat)) }
+    ensures ran { (s : Setup) → IsIndex s origin.now (table_size index.now) → AreNew s.opening (known_in passes.items)
+        → IfOk result (AreGathered s (known_in passes.items) (workers_view workers.now)) }
     ensures heard { IfOk result (λ _. AllHeard (G.hears gate.now) number (workers_view workers.now)) }
 {
     let Some(asks) = passes.pop() else {
@@ -129,9 +128,9 @@ fn run_workers<R: Threads + Wait + Sync, N: Named + Send + Sync, G: Gate>(
         requires said { AllByRecursion (AllAsked origin.now) (worker_view worker.now) }
         ensures here { IfOk result (λ d. (IsSome d.asks.seat) × (IsSome d.spare.seat)) }
         ensures places { IfOk result (λ d. (d.asks.place ≡ index.entry.now.place) × (d.spare.place ≡ index.entry.now.place)) }
-        ensures ran { (s : Setup) (numbers : Numbers) → IsSetup s origin.entry.now index.entry.now.shared.table.shared.key (known_at asks.seat)
+        ensures ran { (s : Setup) (numbers : Numbers) → IsSetup s origin.entry.now (table_size index.entry.now) (known_at asks.seat)
             → Begins s numbers (known_at asks.seat) (known_at spare.seat)
-            → IfOk result (λ d. WorkerRan s numbers (ended (known_at d.asks.seat) (known_at d.spare.seat)) (worker_view worker.entry.now) d.outcomes.list.items) }
+            → IfOk result (DoneRan s numbers (worker_view worker.entry.now)) }
         ensures heard { IfOk result (λ _. AreHeard (G.hears gate.entry.now) number (length (worker_view worker.entry.now))) }
     {
         let task = task_of(number, worker, asks, spare);
@@ -146,8 +145,8 @@ fn run_workers<R: Threads + Wait + Sync, N: Named + Send + Sync, G: Gate>(
         requires said { AllByRecursion (AllByRecursion (AllAsked origin.now)) (workers_view others.now) }
         ensures main { IfOk result (λ g. (IsSome g.main.seat) × (g.main.place ≡ index.entry.now.place)) }
         ensures here { IfOk result (λ g. All (λ p. (IsSome p.seat) × (p.place ≡ index.entry.now.place)) g.passes.items) }
-        ensures ran { (s : Setup) → IsIndex s origin.entry.now index.entry.now.shared.table.shared.key → AreNew s.opening (map (λ p. known_at p.seat) passes.items)
-            → IfOk result (λ g. Gathers s (map (λ p. known_at p.seat) passes.items) (workers_view others.entry.now) g.outcomes.items (map (λ p. known_at p.seat) g.passes.items) (known_at g.main.seat)) }
+        ensures ran { (s : Setup) → IsIndex s origin.entry.now (table_size index.entry.now) → AreNew s.opening (known_in passes.items)
+            → IfOk result (AreGathered s (known_in passes.items) (workers_view others.entry.now)) }
         ensures heard { IfOk result (λ _. AllHeard (G.hears gate.entry.now) next (workers_view others.entry.now)) }
     { run_workers(rt, alloc, origin, index, others, next, passes, gate) };
     let (done, others) = join(rt, first, rest);
@@ -166,12 +165,12 @@ pub fn run_job<R: Threads + Wait + Sync, N: Named + Send + Sync, G: Gate>(
 ) -> Result<Finished, AllocError>
     requires count { length passes.items ≡ passes_for (length job.now.workers.items) }
     requires size { index.shared.table.shared.key.passes ≡ length passes.items }
-    requires all { AreAll (length passes.items) (map (λ p. known_at p.seat) passes.items) }
+    requires all { AreAll (length passes.items) (known_in passes.items) }
     requires here { All (λ p. (IsSome p.seat) × (p.place ≡ index.place)) passes.items }
     requires in_turn { AllByRecursion (InTurn false) (job_view job.now) }
     requires opens { All (λ p. OpensAt origin.now (known_at p.seat)) passes.items }
     requires said { AllByRecursion (AllByRecursion (AllAsked origin.now)) (job_view job.now) }
-    ensures ran { (s : Setup) (zone : Version) → IsIndex s origin.now index.shared.table.shared.key → StandsAs s.opening zone → AreNew s.opening (map (λ p. known_at p.seat) passes.items)
+    ensures ran { (s : Setup) (zone : Version) → IsIndex s origin.now (table_size index) → StandsAs s.opening zone → AreNew s.opening (known_in passes.items)
         → IfOk result (λ f. IsRun s.chunks s.passes origin.now zone (job_view job.now) f.outcomes.items f.version f.names f.nodes) }
     // Each worker is told by its own number, from 1.
     ensures heard { IfOk result (λ _. AllHeard (G.hears gate.now) 1 (job_view job.now)) }

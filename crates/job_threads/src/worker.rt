@@ -2,7 +2,7 @@
 ghost use Rattle.std.specs.Prelude.{◌≡◌, IsSome, IfSome, IfOk, length, map, false};
 ghost use Rattle.job_threads.specs.Prelude.{AllByRecursion, InTurn, MayCome, held_after};
 ghost use Rattle.job_threads.specs.Prelude.{command_view, AllAsked, known_at, Setup, AreHeard, IsSetup, OpensAt, IsUnder};
-ghost use Rattle.job_threads.specs.Prelude.{Step, Begins, Numbers, WorkerRan, ended, ArePlaced, holder_of, holds_one, station_of};
+ghost use Rattle.job_threads.specs.Prelude.{Step, Begins, Numbers, DoneRan, table_size, ArePlaced, holder_of, holds_one, station_of};
 
 use crate::passes::{Passes, ask_snapshot, give_back, second_pass, take_snapshot};
 use dns_name::Name;
@@ -54,7 +54,7 @@ fn run_command<'i, R: Wait, N: Named>(
     ensures held_at { IfOk result (λ _. IfSome passes.new.held (λ s. s.place ≡ index.now.place)) }
     ensures opens { IfOk result (λ _. OpensAt origin.now (known_at passes.new.asks.seat)) }
     ensures held { IfOk result (λ _. holds_one passes.new ≡ held_after (holds_one passes.old) (command_view command.now)) }
-    ensures steps { (s : Setup) → IsSetup s origin.now index.now.shared.table.shared.key (known_at passes.old.asks.seat)
+    ensures steps { (s : Setup) → IsSetup s origin.now (table_size index.now) (known_at passes.old.asks.seat)
         → IsUnder (known_at passes.old.asks.seat) (holder_of passes.old)
         → IfOk result (λ o. Step s (command_view command.now) o (station_of passes.old) (station_of passes.new)) }
 {
@@ -89,9 +89,9 @@ pub fn run_worker<R: Wait, N: Named, G: Gate>(
     requires said { AllByRecursion (AllAsked origin.now) (map command_view task.commands.now) }
     ensures here { IfOk result (λ d. (IsSome d.asks.seat) × (IsSome d.spare.seat)) }
     ensures places { IfOk result (λ d. (d.asks.place ≡ index.now.place) × (d.spare.place ≡ index.now.place)) }
-    ensures ran { (s : Setup) (numbers : Numbers) → IsSetup s origin.now index.now.shared.table.shared.key (known_at task.entry.asks.seat)
+    ensures ran { (s : Setup) (numbers : Numbers) → IsSetup s origin.now (table_size index.now) (known_at task.entry.asks.seat)
         → Begins s numbers (known_at task.entry.asks.seat) (known_at task.entry.spare.seat)
-        → IfOk result (λ d. WorkerRan s numbers (ended (known_at d.asks.seat) (known_at d.spare.seat)) (map command_view task.entry.commands.now) d.outcomes.list.items) }
+        → IfOk result (DoneRan s numbers (map command_view task.entry.commands.now)) }
     ensures heard { IfOk result (λ _. AreHeard (G.hears gate.now) task.entry.number (length (map command_view task.entry.commands.now))) }
 {
     let mut room = Room::new(alloc)?;
