@@ -1,13 +1,8 @@
 -- What an evacuation promises.
-use Rattle.std.specs.Prelude.{◌≡◌, ℕ, ◌+◌, ◌/◌, ◌<◌, ◌≤◌, true, false, Bool, List, Option, Some, slice_index}
-use Rattle.packed_node.specs.declared.Cell.{Cell}
+use Rattle.std.specs.Prelude.{◌≡◌, ℕ, ◌<◌, ◌≤◌, true, false, Bool, List, Option, Some, slice_index}
 use Rattle.trie_model.specs.Capacity.{filled_cells}
-use Rattle.trie_model.specs.Keys.{Entry}
-use Rattle.trie_model.specs.Shape.{cells}
 use Rattle.chunk_usage.specs.Counting.{is_sparse}
-use Rattle.chunk_usage.specs.Ledger.{Ledger, filled, free_count, is_given, is_bump}
-use Rattle.chunk_usage.specs.Rooms.{account_of}
-use Rattle.trie_space.specs.Standing.{HasTrie}
+use Rattle.chunk_usage.specs.Ledger.{Ledger, filled, is_given, is_bump}
 use Rattle.evacuate.specs.declared.evacuation.Done.{Done}
 use Rattle.evacuate.specs.declared.evacuation.Done.TheVariants.{Whole, Stopped}
 use Rattle.evacuate.specs.Fillings.{Fills, IsFull}
@@ -42,13 +37,3 @@ pub record ListsEnd (l new : Ledger) (done : Option Done) : Type 0 where
   pub whole : done ≡ Some Whole → IsCleared new
   pub full : done ≡ Some Stopped → IsFull new
   pub left : done ≡ Some Stopped → (given : List Bool) → Fills given l → HasSparse new
-
--- whichever version had its trie at a root has it at the new one
-abbrev pub KeepsVersion : {S : Type 0} → (S → ℕ → Cell → Type 0) → S → Ledger → Option ℕ → S → Ledger → Option ℕ → Type 0
-KeepsVersion has s l root s_new l_new root_new = (version : List Entry) → HasTrie has account_of s l root version
-    → HasTrie has account_of s_new l_new root_new version
-
--- at most one chunk more was asked for than the cells of the version's trie fill
-abbrev pub AsksByCells : {S : Type 0} → (S → ℕ → Cell → Type 0) → S → Ledger → Option ℕ → Ledger → Done → Type 0
-AsksByCells has s l root l_new done = (version : List Entry) → HasTrie has account_of s l root version
-    → free_count l + refused done ≤ free_count l_new + (cells version / filled_cells + 1)

@@ -1,9 +1,9 @@
 //! Evacuation: sparse chunks are emptied.
 
-ghost use Rattle.std.specs.Prelude.{◌≡◌, List, true, false};
+ghost use Rattle.std.specs.Prelude.{◌≡◌, ◌+◌, ◌/◌, ◌≤◌, List, true, false};
 ghost use Rattle.evacuate.specs.Prelude.{Entry, account_of, reserve_account_of, Ready, Fenced, HasTrie, FillsNew, IsDense};
 ghost use Rattle.evacuate.specs.Prelude.{IsCleared, HasSparse, ListsEnd, IsFull, IsStood, CanRearrange, Emptied, Rearranged};
-ghost use Rattle.evacuate.specs.Prelude.{AsksByCells, KeepsVersion};
+ghost use Rattle.evacuate.specs.Prelude.{cells_of, filled_cells, free_count, refused};
 
 use super::beginning::{begin, copy_root};
 use super::descent::move_found;
@@ -36,13 +36,15 @@ pub fn evacuate<C: CellWrite>(
 ) -> (Option<Ref>, Done)
     requires stands { (version : List Entry) × HasTrie C.has account_of cells.old usage.old root version }
     requires ready { Ready C.kept C.given account_of cells.old usage.old }
-    ensures stands { KeepsVersion C.has cells.old usage.old root cells.new usage.new result.0 }
+    ensures stands { (version : List Entry) → HasTrie C.has account_of cells.old usage.old root version
+        → HasTrie C.has account_of cells.new usage.new result.0 version }
     ensures none { IsCleared usage.old → usage.new ≡ usage.old }
     ensures fills { FillsNew usage.old usage.new }
     ensures whole { result.1 ≡ Done.Whole → IsDense usage.new }
     ensures stopped { result.1 ≡ Done.Stopped → IsFull usage.new }
     ensures left { result.1 ≡ Done.Stopped → HasSparse usage.new }
-    ensures asks { AsksByCells C.has cells.old usage.old root usage.new result.1 }
+    ensures asks { (version : List Entry) → HasTrie C.has account_of cells.old usage.old root version
+        → free_count usage.old + refused result.1 ≤ free_count usage.new + (cells_of version / filled_cells + 1) }
     ensures frame { Fenced C.has C.kept C.given reserve_account_of cells.old usage.old cells.new usage.new }
     ensures ready { Ready C.kept C.given account_of cells.new usage.new }
 {
