@@ -6,9 +6,9 @@ use Rattle.std.specs.Fmt.{decimal}
 use Rattle.zone_model.specs.Names.{Name, name_cmp}
 use Rattle.zone_model.specs.Versions.{Version}
 use Rattle.zone_model.specs.Refusals.{Refused}
-use Rattle.zone_model.specs.MasterFile.{Zone, zone_of}
+use Rattle.zone_model.specs.MasterFile.{Zone}
 use Rattle.job_model.specs.Commands.{FedJob, Job}
-use Rattle.job_model.specs.Jobs.{JobRefusal, ZoneRefused, ScriptRefused, zone_lines, job_of, fed_job_of}
+use Rattle.job_model.specs.Jobs.{JobRefusal, ZoneRefused, ScriptRefused, job_of, fed_job_of}
 use Rattle.trie_model.specs.Capacity.{IsLeast}
 use Rattle.job_model.specs.Needs.{most_cells, most_operations}
 use Rattle.job_model.specs.Outcomes.{Pair, Lawful, all_pairs, passes_for, some_refused}
@@ -28,12 +28,15 @@ use Rattle.zones_script.specs.Jobs.{ZonesRefusal, zones_job_of}
 use Rattle.zones_script.specs.Jobs as of_zones
 use Rattle.zone_text.specs.declared.refusal.ZoneRefusal.{ZoneRefusal}
 use Rattle.zone_text.specs.declared.refusal.ZoneRefusal.TheVariants as refusal
+use Rattle.job_report.specs.Pieces.{pieces_text}
+use Rattle.job_report.specs.declared.pieces.Pieces.{Pieces}
 use Rattle.outer_io.specs.Bytes.{Held, Grows, GrowsByFront}
 use Rattle.zone_model.specs.Dumps.{dump}
 use Rattle.zone_model.specs.declared.Style.{Style}
 use Rattle.command_line.specs.Invocations.{Invocation, Verb, Run, Feed, Check, Make, Dump, Size, Zones}
 use Rattle.qp_main.specs.Fits.{fits, no_room_text, opened_text}
 use Rattle.qp_main.specs.Needs.{needs_text}
+use Rattle.qp_main.specs.Saids.{zone_said}
 use Rattle.qp_main.specs.Tellings.{told_text}
 use Rattle.qp_main.specs.declared.run_report.Telling.{Telling}
 use Rattle.qp_main.specs.declared.run_report.Telling.TheVariants.{Report, Summary}
@@ -202,8 +205,12 @@ DueInput (Feed workers) chunks origin bytes = FedAnswers workers chunks (fed_job
 DueInput (Make load) chunks origin bytes = Answers Summary chunks (job_of origin bytes)
 DueInput Size chunks origin bytes = Sizes (job_of origin bytes)
 DueInput Zones chunks origin bytes = ZonesAnswers chunks (zones_job_of bytes)
-DueInput Check chunks origin bytes = Checks chunks (zone_of origin (zone_lines bytes))
-DueInput (Dump style) chunks origin bytes = Dumps chunks style origin (zone_of origin (zone_lines bytes))
+DueInput Check chunks origin bytes = Checks chunks (zone_said origin bytes)
+DueInput (Dump style) chunks origin bytes = Dumps chunks style origin (zone_said origin bytes)
+
+-- the same by an invocation
+abbrev pub DueUnder : Invocation → List ℕ → Status → List ℕ → Type 0
+DueUnder i bytes = DueInput i.verb i.chunks i.origin bytes
 
 -- the most bytes of an input
 abbrev pub input_limit : ℕ
@@ -211,7 +218,7 @@ input_limit = 16777216
 
 -- what is due for bytes, by whether they are within the limit
 abbrev pub DueBytes : Invocation → List ℕ → Bool → Status → List ℕ → Type 0
-DueBytes i bytes true = DueInput i.verb i.chunks i.origin bytes
+DueBytes i bytes true = DueUnder i bytes
 DueBytes i bytes false = Ends status.TooLong (codes "input over 16777216 bytes\n")
 
 -- the bytes that are read: those that a source has left, or a load's text
@@ -228,6 +235,10 @@ DueGiven i (Some bytes) s text = DueBytes i bytes (nat_le (length bytes) input_l
 abbrev pub Due : Option Invocation → Option (List ℕ) → Status → List ℕ → Type 0
 Due None left s text = (s ≡ status.WordsRefused) × (text ≡ codes "words refused\n")
 Due (Some invocation) left s text = DueGiven invocation (input_of invocation.verb left) s text
+
+-- a status and a text in pieces are what is due
+abbrev pub IsDue : (Status → List ℕ → Type 0) → Status × Pieces → Type 0
+IsDue due answer = due answer.0 (pieces_text answer.1)
 
 -- the input is a load's text, so that nothing is read
 abbrev pub MakesInput : Verb → Type 0

@@ -2,6 +2,8 @@ pub mod Statuses
 pub mod Fits
 pub mod Needs
 pub mod Due
+pub mod Jobs
+pub mod Invocations
 pub mod Tellings
 pub mod Stops
 pub mod Saids

@@ -1,7 +1,7 @@
 //! A zone that is written as a master file.
 ghost use Rattle.std.specs.Prelude.{◌≡◌, Ok, true};
-ghost use Rattle.qp_main.specs.Prelude.{Rose, Version, zone_of, entries_of_items, zone_lines, IsZone};
-ghost use Rattle.qp_main.specs.Prelude.{StandsAs, CutShort, Dumps, IsWritten, MayBeShort, Written};
+ghost use Rattle.qp_main.specs.Prelude.{Rose, Version, entries_of_items, IsZone, zone_said};
+ghost use Rattle.qp_main.specs.Prelude.{AreItemsOf, CutShort, Dumps, IsWritten, MayBeShort, Written};
 
 use crate::input::Input;
 use crate::items::zone_items;
@@ -31,9 +31,9 @@ fn write_zone<K: Sink>(
     requires chunks { blank.shared.table.shared.key.chunks ≡ invocation.now.chunks }
     requires passes { blank.shared.table.shared.key.passes ≡ 1 }
     requires zone { IsZone invocation.now.origin (entries_of_items items.now) }
-    ensures written { (zone : Version) → StandsAs (entries_of_items items.now) zone
+    ensures written { (zone : Version) → AreItemsOf items.now zone
         → IsWritten result → Written (Dumps invocation.now.chunks style invocation.now.origin (Ok zone)) (K.held sink.old) (K.held sink.new) result }
-    ensures cut_short { (zone : Version) → StandsAs (entries_of_items items.now) zone
+    ensures cut_short { (zone : Version) → AreItemsOf items.now zone
         → MayBeShort true result → CutShort (Dumps invocation.now.chunks style invocation.now.origin (Ok zone)) (K.held sink.old) (K.held sink.new) }
     ensures sink_fault { result ≡ Status.SinkFault → Rose (K.faults sink.old) (K.faults sink.new) }
     ensures quiet_sink { (result ≡ Status.SinkFault → ⊥) → K.faults sink.new ≡ K.faults sink.old }
@@ -59,9 +59,9 @@ pub fn dump_input<K: Sink>(
     sink: &mut K,
 ) -> Status
     ensures written { IsWritten result
-        → Written (Dumps invocation.now.chunks style invocation.now.origin (zone_of invocation.now.origin (zone_lines input))) (K.held sink.old) (K.held sink.new) result }
+        → Written (Dumps invocation.now.chunks style invocation.now.origin (zone_said invocation.now.origin input)) (K.held sink.old) (K.held sink.new) result }
     ensures cut_short { MayBeShort true result
-        → CutShort (Dumps invocation.now.chunks style invocation.now.origin (zone_of invocation.now.origin (zone_lines input))) (K.held sink.old) (K.held sink.new) }
+        → CutShort (Dumps invocation.now.chunks style invocation.now.origin (zone_said invocation.now.origin input)) (K.held sink.old) (K.held sink.new) }
     ensures sink_fault { result ≡ Status.SinkFault → Rose (K.faults sink.old) (K.faults sink.new) }
     ensures quiet_sink { (result ≡ Status.SinkFault → ⊥) → K.faults sink.new ≡ K.faults sink.old }
     ensures others { result ≡ Status.SourceFault → ⊥ }

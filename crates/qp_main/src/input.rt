@@ -1,6 +1,6 @@
 //! An input: the bytes of a zone or of several zones, and those of a script behind them.
 ghost use Rattle.std.specs.Prelude.{◌≡◌, ◌<◌, ◌≤◌, ◌+◌, ◌^◌, List, length, IfOk, IfErr, Ok, vec_len, false};
-ghost use Rattle.qp_main.specs.Prelude.{AllByRecursion, lines_of, zone_of, IsName, CanBeDumped, InTurn, NeedsNoSnapshot, fed_job_of, job_of};
+ghost use Rattle.qp_main.specs.Prelude.{AllByRecursion, lines_of, zone_said, IsName, CanBeDumped, InTurn, NeedsNoSnapshot, fed_job_of, job_of};
 ghost use Rattle.qp_main.specs.Prelude.{list_of, script_lines, script_of, script_start, zone_lines, job_view, list_view, AllAsked, zones_of};
 ghost use Rattle.qp_main.specs.Prelude.{AreListed, workers_view, IsSaid, RefusesScript, IsRead, IsStop, JobStops, ListStops, ScriptStops, ZoneStops};
 ghost use Rattle.zones_script.specs.Scripts as over_zones;
@@ -72,9 +72,9 @@ impl Input {
 
     /// Its zone, which is one of the origin; or what is told in the place of that.
     pub fn zone(&self, alloc: Global, origin: &Name) -> Result<Zone, Stop>
-        ensures zone { IfOk result (λ z. zone_of origin.now (zone_lines self.now) ≡ Ok z.pairs) }
+        ensures zone { IfOk result (λ z. zone_said origin.now self.now ≡ Ok z.pairs) }
         ensures of_origin { IfOk result (λ z. CanBeDumped origin.now z.pairs) }
-        ensures stops { IfErr result (IsStop (ZoneStops (zone_of origin.now (zone_lines self.now)))) }
+        ensures stops { IfErr result (IsStop (ZoneStops (zone_said origin.now self.now))) }
     {
         match zone_in(alloc, self.zone_bytes(), origin) {
             Ok(zone) => Ok(zone),
@@ -84,7 +84,7 @@ impl Input {
 
     // What is told of a script that is refused on this line. What is wrong with the zone comes first.
     fn refuse(&self, alloc: Global, origin: &Name, line: u32, kind: ScriptKind) -> Stop
-        ensures { IsStop (RefusesScript (zone_of origin.now (zone_lines self.now)) (record { line = line; kind = kind })) result }
+        ensures { IsStop (RefusesScript (zone_said origin.now self.now) (record { line = line; kind = kind })) result }
     {
         script_stop(read_zone(alloc, self.zone_bytes(), origin), line, kind)
     }

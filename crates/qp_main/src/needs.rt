@@ -1,7 +1,7 @@
 //! How many chunks a job needs.
 ghost use Rattle.std.specs.Prelude.{◌≡◌, ◌<◌, ◌≤◌, ◌+◌, ◌^◌, length, IfOk, IfErr};
-ghost use Rattle.qp_main.specs.Prelude.{IsSizeOf, WholeJob, job_of, cells_of_workers, longest_of_workers};
-ghost use Rattle.qp_main.specs.Prelude.{trie_entries, pieces_text, Sized, Sizes, IsStop};
+ghost use Rattle.qp_main.specs.Prelude.{IsSizeOf, WholeJob, job_of, AreNeedsOf};
+ghost use Rattle.qp_main.specs.Prelude.{trie_entries, Sized, Sizes, IsDue, IsStop};
 
 use crate::input::Input;
 use crate::refusing::Stop;
@@ -37,8 +37,8 @@ fn report_needs(
     needs: Needs,
 ) -> Result<(Status, Pieces), AllocError>
     requires { workers ≤ 16 }
-    ensures { (job : WholeJob) → IsSizeOf size.now (trie_entries job.zone) → length job.workers ≡ workers → needs.cells ≡ cells_of_workers job.workers → needs.operations ≡ longest_of_workers job.workers
-        → IfOk result (λ x. Sized job x.0 (pieces_text x.1)) }
+    ensures { (job : WholeJob) → IsSizeOf size.now (trie_entries job.zone) → length job.workers ≡ workers → AreNeedsOf job.workers needs
+        → IfOk result (IsDue (Sized job)) }
 {
     let cells = all_cells(size.cells(), needs.cells)?;
     let Ok(operations) = u32::try_from(needs.operations) else {
@@ -57,7 +57,7 @@ pub fn size_job(
     invocation: &Invocation,
     input: Input,
 ) -> Result<(Status, Pieces), Stop>
-    ensures told { IfOk result (λ x. Sizes (job_of invocation.now.origin input) x.0 (pieces_text x.1)) }
+    ensures told { IfOk result (IsDue (Sizes (job_of invocation.now.origin input))) }
     ensures stops { IfErr result (IsStop (Sizes (job_of invocation.now.origin input))) }
 {
     let job = input.job(alloc, &invocation.origin)?;

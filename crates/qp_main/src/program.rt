@@ -1,8 +1,9 @@
 //! The program over any source and sink.
-ghost use Rattle.std.specs.Prelude.{◌≡◌, ◌<◌, ◌≤◌, ◌+◌, ◌^◌, ◌++◌, ◌∷◌, [], ℕ, List, length, IfOk, IfErr, OnOk, map, codes, Ok, Err, false, Option, Result, IfSome, MatchOption, IsSome, Some, None};
-ghost use Rattle.qp_main.specs.Prelude.{string_bytes, Consumes, zone_of, job_of, zone_lines, made_origin, Rose, Grows, GrowsByFront, pieces_text};
-ghost use Rattle.qp_main.specs.Prelude.{load_view, IsUnder, Make, invocation_view, verb_view, invocation_of, IsStop, Answers, Checks, CutShort, Due};
-ghost use Rattle.qp_main.specs.Prelude.{DueInput, EndsLoad, IsMade, IsUnwritten, IsWritten, MayBeShort, Written, input_of, is_streamed, streams};
+ghost use Rattle.std.specs.Prelude.{◌≡◌, ◌<◌, ◌≤◌, ◌+◌, ◌^◌, ◌++◌, ◌∷◌, [], ℕ, List, length, IfOk, IfErr, OnOk, codes};
+ghost use Rattle.std.specs.Prelude.{Ok, Err, false, Option, Result, IfSome, MatchOption, IsSome, Some, None};
+ghost use Rattle.qp_main.specs.Prelude.{Due, Consumes, zone_said, job_of, made_origin, Rose, Grows, GrowsByFront};
+ghost use Rattle.qp_main.specs.Prelude.{load_view, IsUnder, Make, invocation_in, invocation_view, verb_view, IsStop, Answers, Checks, CutShort};
+ghost use Rattle.qp_main.specs.Prelude.{DueFor, DueUnder, EndsLoad, IsDue, IsMade, IsUnwritten, IsWritten, MayBeShort, Written, input_of, is_streamed, streams};
 
 use crate::dumping::dump_input;
 use crate::feeding::answer_list;
@@ -38,7 +39,7 @@ fn answer_job<R: Threads + Wait + Sync, G: Gate>(
     telling: Telling,
     gate: &G,
 ) -> Result<(Status, Pieces), Stop>
-    ensures told { IfOk result (λ x. Answers telling invocation.now.chunks (job_of invocation.now.origin input) x.0 (pieces_text x.1)) }
+    ensures told { IfOk result (IsDue (Answers telling invocation.now.chunks (job_of invocation.now.origin input))) }
     ensures stops { IfErr result (IsStop (Answers telling invocation.now.chunks (job_of invocation.now.origin input))) }
 {
     let job = input.job(alloc, &invocation.origin)?;
@@ -56,8 +57,8 @@ fn check_zone(
     invocation: &Invocation,
     input: Input,
 ) -> Result<(Status, Pieces), Stop>
-    ensures told { IfOk result (λ x. Checks invocation.now.chunks (zone_of invocation.now.origin (zone_lines input)) x.0 (pieces_text x.1)) }
-    ensures stops { IfErr result (IsStop (Checks invocation.now.chunks (zone_of invocation.now.origin (zone_lines input)))) }
+    ensures told { IfOk result (IsDue (Checks invocation.now.chunks (zone_said invocation.now.origin input))) }
+    ensures stops { IfErr result (IsStop (Checks invocation.now.chunks (zone_said invocation.now.origin input))) }
 {
     let zone = input.zone(alloc, &invocation.origin)?;
     drop(input);
@@ -76,9 +77,9 @@ fn serve_input<R: Threads + Wait + Sync, K: Sink, G: Gate>(
     gate: &G,
 ) -> Status
     requires { length bytes.items ≤ 2 ^ 24 }
-    ensures written { IsWritten result → Written (DueInput (verb_view invocation.now.verb) invocation.now.chunks invocation.now.origin bytes.items) (K.held sink.old) (K.held sink.new) result }
+    ensures written { IsWritten result → Written (DueUnder (invocation_view invocation.now) bytes.items) (K.held sink.old) (K.held sink.new) result }
     ensures cut_short { MayBeShort (is_streamed (verb_view invocation.now.verb)) result
-        → CutShort (DueInput (verb_view invocation.now.verb) invocation.now.chunks invocation.now.origin bytes.items) (K.held sink.old) (K.held sink.new) }
+        → CutShort (DueUnder (invocation_view invocation.now) bytes.items) (K.held sink.old) (K.held sink.new) }
     ensures sink_fault { result ≡ Status.SinkFault → Rose (K.faults sink.old) (K.faults sink.new) }
     ensures quiet_sink { (result ≡ Status.SinkFault → ⊥) → K.faults sink.new ≡ K.faults sink.old }
     ensures unwritten { IsUnwritten (is_streamed (verb_view invocation.now.verb)) result → K.held sink.new ≡ K.held sink.old }
@@ -112,8 +113,8 @@ fn serve_made<R: Threads + Wait + Sync, K: Sink, G: Gate>(
 ) -> Status
     requires made { verb_view invocation.now.verb ≡ Make (load_view load.now) }
     requires under { invocation.now.origin ≡ made_origin }
-    ensures written { (left : Option (List ℕ)) → IsWritten result → Written (Due (Some (invocation_view invocation.now)) left) (K.held sink.old) (K.held sink.new) result }
-    ensures cut_short { (left : Option (List ℕ)) → result ≡ Status.SinkFault → CutShort (Due (Some (invocation_view invocation.now)) left) (K.held sink.old) (K.held sink.new) }
+    ensures written { (left : Option (List ℕ)) → IsWritten result → Written (DueFor invocation.now left) (K.held sink.old) (K.held sink.new) result }
+    ensures cut_short { (left : Option (List ℕ)) → result ≡ Status.SinkFault → CutShort (DueFor invocation.now left) (K.held sink.old) (K.held sink.new) }
     ensures sink_fault { result ≡ Status.SinkFault → Rose (K.faults sink.old) (K.faults sink.new) }
     ensures quiet_sink { (result ≡ Status.SinkFault → ⊥) → K.faults sink.new ≡ K.faults sink.old }
     ensures unwritten { result ≡ Status.NoMemory → K.held sink.new ≡ K.held sink.old }
@@ -135,9 +136,9 @@ fn serve<R: Threads + Wait + Sync, S: Source, K: Sink, G: Gate>(
     gate: &G,
 ) -> Status
     requires { (left : Option (List ℕ)) → input_of (verb_view invocation.now.verb) left ≡ left }
-    ensures written { IsWritten result → Written (Due (Some (invocation_view invocation.now)) (S.left source.old)) (K.held sink.old) (K.held sink.new) result }
+    ensures written { IsWritten result → Written (DueFor invocation.now (S.left source.old)) (K.held sink.old) (K.held sink.new) result }
     ensures cut_short { MayBeShort (is_streamed (verb_view invocation.now.verb)) result
-        → CutShort (Due (Some (invocation_view invocation.now)) (S.left source.old)) (K.held sink.old) (K.held sink.new) }
+        → CutShort (DueFor invocation.now (S.left source.old)) (K.held sink.old) (K.held sink.new) }
     ensures sink_fault { result ≡ Status.SinkFault → Rose (K.faults sink.old) (K.faults sink.new) }
     ensures quiet_sink { (result ≡ Status.SinkFault → ⊥) → K.faults sink.new ≡ K.faults sink.old }
     ensures source_fault { result ≡ Status.SourceFault → Rose (S.faults source.old) (S.faults source.new) }
@@ -167,9 +168,9 @@ fn serve_invocation<R: Threads + Wait + Sync, S: Source, K: Sink, G: Gate>(
     gate: &G,
 ) -> Status
     requires { IsUnder (verb_view invocation.now.verb) invocation.now.origin }
-    ensures written { IsWritten result → Written (Due (Some (invocation_view invocation.now)) (S.left source.old)) (K.held sink.old) (K.held sink.new) result }
+    ensures written { IsWritten result → Written (DueFor invocation.now (S.left source.old)) (K.held sink.old) (K.held sink.new) result }
     ensures cut_short { MayBeShort (is_streamed (verb_view invocation.now.verb)) result
-        → CutShort (Due (Some (invocation_view invocation.now)) (S.left source.old)) (K.held sink.old) (K.held sink.new) }
+        → CutShort (DueFor invocation.now (S.left source.old)) (K.held sink.old) (K.held sink.new) }
     ensures sink_fault { result ≡ Status.SinkFault → Rose (K.faults sink.old) (K.faults sink.new) }
     ensures quiet_sink { (result ≡ Status.SinkFault → ⊥) → K.faults sink.new ≡ K.faults sink.old }
     ensures source_fault { result ≡ Status.SourceFault → Rose (S.faults source.old) (S.faults source.new) }
@@ -204,27 +205,27 @@ pub fn run<R: Threads + Wait + Sync, S: Source, K: Sink, G: Gate>(
     gate: &G,
 ) -> Status
     // The answers of committed versions: what is written whole is due for the words and the bytes.
-    ensures written { IsWritten result → Written (Due (invocation_of (map string_bytes words.now)) (S.left source.old)) (K.held sink.old) (K.held sink.new) result }
+    ensures written { IsWritten result → Written (Due (invocation_in words.now) (S.left source.old)) (K.held sink.old) (K.held sink.new) result }
 
     // The sink failed, and has a prefix of what was due; so it has where memory ran out under a dump, which is written while it is
     // made. Under any status but the sink's no call on it failed.
     ensures sink_fault { result ≡ Status.SinkFault → Rose (K.faults sink.old) (K.faults sink.new) }
     ensures quiet_sink { (result ≡ Status.SinkFault → ⊥) → K.faults sink.new ≡ K.faults sink.old }
-    ensures cut_short { MayBeShort (streams (invocation_of (map string_bytes words.now))) result
-        → CutShort (Due (invocation_of (map string_bytes words.now)) (S.left source.old)) (K.held sink.old) (K.held sink.new) }
+    ensures cut_short { MayBeShort (streams (invocation_in words.now)) result
+        → CutShort (Due (invocation_in words.now) (S.left source.old)) (K.held sink.old) (K.held sink.new) }
 
     // The source failed, or memory ran out, but not under a dump: nothing was written. Under any status but the source's no call on
     // it failed.
     ensures source_fault { result ≡ Status.SourceFault → Rose (S.faults source.old) (S.faults source.new) }
     ensures quiet_source { (result ≡ Status.SourceFault → ⊥) → S.faults source.new ≡ S.faults source.old }
-    ensures unwritten { IsUnwritten (streams (invocation_of (map string_bytes words.now))) result → K.held sink.new ≡ K.held sink.old }
+    ensures unwritten { IsUnwritten (streams (invocation_in words.now)) result → K.held sink.new ≡ K.held sink.old }
 
     // Refused words leave the source as it is, and no other words are told to be so. So does a load, of
     // which neither the zone nor the script is refused. An input that is too long is read to one byte past the limit.
-    ensures unread { invocation_of (map string_bytes words.now) ≡ None → source.new ≡ source.old }
-    ensures words { result ≡ Status.WordsRefused → invocation_of (map string_bytes words.now) ≡ None }
-    ensures made { IsMade (invocation_of (map string_bytes words.now)) → source.new ≡ source.old }
-    ensures load { IsMade (invocation_of (map string_bytes words.now)) → EndsLoad result }
+    ensures unread { invocation_in words.now ≡ None → source.new ≡ source.old }
+    ensures words { result ≡ Status.WordsRefused → invocation_in words.now ≡ None }
+    ensures made { IsMade (invocation_in words.now) → source.new ≡ source.old }
+    ensures load { IsMade (invocation_in words.now) → EndsLoad result }
     ensures taken { result ≡ Status.TooLong → (bytes : List ℕ) × Consumes (S.left source.old) (S.left source.new) bytes × (length bytes ≡ 16777217) }
 {
     match invocation_of(alloc, words) {

@@ -16,7 +16,7 @@ returns-clause-told c =
     let job = c.in_ok-job.job in
     let workers : length job.workers.items ≡ c.len.result = search rules in
     job_sizes i.origin c.args.input c.in_ok-zone.zone.pairs (job_view job) c.in_ok-zone.ensures.zone c.in_ok-job.ensures.script _ _
-    (c.in_ok-answer.ensures (record { origin = i.origin; zone = c.in_ok-zone.zone.pairs; workers = job_view job }) c.in_ok-size.ensures (length-map job.workers.items worker_view ∙ workers) c.in_ok-needs.ensures.cells c.in_ok-needs.ensures.operations)
+    (c.in_ok-answer.ensures (record { origin = i.origin; zone = c.in_ok-zone.zone.pairs; workers = job_view job }) c.in_ok-size.ensures (length-map job.workers.items worker_view ∙ workers) (c.in_ok-needs.ensures.cells, c.in_ok-needs.ensures.operations))
 
 pub returns-in_err-job-clause-stops : goal.returns-in_err-job-clause-stops
 returns-in_err-job-clause-stops c =
