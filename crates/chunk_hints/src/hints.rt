@@ -6,18 +6,22 @@
 
 ghost use Rattle.std.specs.Prelude.{◌≤◌};
 
+use crate::listed::Listed;
 use crate::lists::PathLists;
 use crate::path::Path;
+use crate::rows::Rows;
 use std::alloc::{AllocError, Global};
 
 /// Of each chunk the paths that it was written on, as far as is known.
 #[derive(Drop)]
 pub struct Hints {
     lists: PathLists,
+    // Where the twigs near the root were written last.
+    rows: Rows,
     // Whether a chunk has cells on paths that its list may lack.
     lacking: Vec<bool>,
     // The path that is written now, and the chunk that was left behind since it was told.
-    current: Path,
+    current: Listed,
     left: Option<u32>,
     // How often the lists weren't enough.
     walks: u64,
@@ -30,8 +34,9 @@ impl Hints {
     {
         Ok(Hints {
             lists: PathLists::new(alloc, chunks)?,
+            rows: Rows::new(alloc)?,
             lacking: vec![in alloc; false; chunks as usize]?,
-            current: Path::none(),
+            current: Listed::any(Path::none()),
             left: None,
             walks: 0,
         })
@@ -45,15 +50,36 @@ impl Hints {
         self.list(chunk, self.current);
     }
 
+    /// A key was put in or taken out, on whose path all twigs were written since the last path was told.
+    pub fn note_change(&mut self, bump: Option<u32>, path: Path) {
+        if let Some(chunk) = bump {
+            self.rows.put_all(path, chunk);
+        }
+        self.note(bump, path);
+    }
+
     /// What is written now lies on a path, and what was written since the last one was told.
     pub fn note(&mut self, bump: Option<u32>, path: Path) {
-        self.current = path;
-        if let Some(left) = self.left {
-            self.list(left, path);
-            self.left = None;
-        }
+        self.write_on(bump, Listed::any(path));
+    }
+
+    /// Twigs on a path were copied since the last one was told, the last of them those behind so many steps. Where they may lie in two chunks,
+    /// both list the path.
+    pub fn note_row(&mut self, bump: Option<u32>, path: Path, steps: u32) {
         if let Some(chunk) = bump {
-            self.list(chunk, path);
+            self.rows.put(path, steps, chunk);
+        }
+        if self.left.is_some() {
+            return self.note(bump, path);
+        }
+        self.write_on(bump, Listed::row(path, steps));
+    }
+
+    /// Whether a chunk seems to have nothing any more of a path that it lists.
+    pub fn is_gone(&self, chunk: u32, listed: Listed) -> bool {
+        match self.rows.chunk(listed.path(), listed.steps()) {
+            Some(last) => last != chunk,
+            None => false,
         }
     }
 
@@ -65,7 +91,7 @@ impl Hints {
     }
 
     /// A path that a chunk lists, by its place in the list.
-    pub fn path(&self, chunk: u32, place: usize) -> Path {
+    pub fn path(&self, chunk: u32, place: usize) -> Listed {
         self.lists.path(chunk, place)
     }
 
@@ -87,7 +113,7 @@ impl Hints {
     /// It came to cells of a chunk, on a path. Where that isn't needed now, some room is left for others.
     pub fn pass(&mut self, chunk: u32, path: Path, needed: bool) {
         if self.is_lacking(chunk) && (needed || self.lists.has_much_room()) {
-            self.lists.push(chunk, path);
+            self.lists.push(chunk, Listed::any(path));
         }
     }
 
@@ -108,8 +134,20 @@ impl Hints {
         self.walks
     }
 
+    // What is written now is listed so, and what was written since the last path was told.
+    fn write_on(&mut self, bump: Option<u32>, path: Listed) {
+        self.current = path;
+        if let Some(left) = self.left {
+            self.list(left, path);
+            self.left = None;
+        }
+        if let Some(chunk) = bump {
+            self.list(chunk, path);
+        }
+    }
+
     // Lists a path for a chunk. One that says nothing is of no use.
-    fn list(&mut self, chunk: u32, path: Path) {
+    fn list(&mut self, chunk: u32, path: Listed) {
         if !self.is_lacking(chunk) && (path.is_none() || !self.lists.push(chunk, path)) {
             self.mark_lacking(chunk);
             self.lists.clear(chunk);

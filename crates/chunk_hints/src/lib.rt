@@ -5,9 +5,12 @@
 
 mod ages;
 mod hints;
+mod listed;
 mod lists;
 mod path;
+mod rows;
 
 pub use ages::Ages;
 pub use hints::Hints;
+pub use listed::Listed;
 pub use path::{PATH_STEPS, Path};

@@ -2,6 +2,7 @@
 
 ghost use Rattle.std.specs.Prelude.{◌≤◌};
 
+use crate::listed::Listed;
 use crate::path::Path;
 use std::alloc::{AllocError, Global};
 
@@ -22,7 +23,7 @@ const NONE: u32 = u32::MAX;
 #[derive(Drop)]
 pub struct PathLists {
     // `BLOCK` places for each block.
-    paths: Vec<Path>,
+    paths: Vec<Listed>,
     // Of each chunk the blocks of its list, `MOST_BLOCKS` places for each, and how many paths the list has.
     blocks: Vec<u32>,
     counts: Vec<u16>,
@@ -41,7 +42,7 @@ impl PathLists {
             free.push(block)?;
         }
         Ok(PathLists {
-            paths: vec![in alloc; Path::none(); blocks * BLOCK]?,
+            paths: vec![in alloc; Listed::any(Path::none()); blocks * BLOCK]?,
             blocks: vec![in alloc; NONE; chunks as usize * MOST_BLOCKS]?,
             counts: vec![in alloc; 0; chunks as usize]?,
             free,
@@ -66,10 +67,10 @@ impl PathLists {
 
     /// A path of it, by its place.
     #[inline]
-    pub fn path(&self, chunk: u32, place: usize) -> Path {
+    pub fn path(&self, chunk: u32, place: usize) -> Listed {
         match self.paths.get(self.place_of(chunk, place)) {
             Some(path) => *path,
-            None => Path::none(),
+            None => Listed::any(Path::none()),
         }
     }
 
@@ -83,7 +84,7 @@ impl PathLists {
     }
 
     /// Puts a path into a chunk's list, where it isn't the last one already. Tells whether there was room.
-    pub fn push(&mut self, chunk: u32, path: Path) -> bool {
+    pub fn push(&mut self, chunk: u32, path: Listed) -> bool {
         let count = self.count(chunk);
         if count > 0 && self.path(chunk, count - 1) == path {
             return true;

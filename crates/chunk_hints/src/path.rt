@@ -10,6 +10,11 @@ const STEP_BITS: u32 = 6;
 
 const STEP: u32 = 63;
 
+const TWO_STEPS: u32 = 4095;
+
+// The bits of a path's first steps: of four of them, three, two and one.
+const STARTS: [u32; 4] = [(1 << 24) - 1, (1 << 18) - 1, TWO_STEPS, STEP];
+
 /// The positions that a way from the root takes at its first branches, at most five. What comes behind them it doesn't say, nor at
 /// which offsets the branches are, so that it goes on to lead somewhere when others come between.
 #[derive(Clone, Copy, PartialEq, Eq, Debug)]
@@ -48,6 +53,42 @@ impl Path {
         Path {
             steps: self.steps >> STEP_BITS,
         }
+    }
+
+    /// Its first step, as a number below 64.
+    #[inline]
+    pub fn first_step(self) -> usize {
+        (self.steps & STEP) as usize
+    }
+
+    /// Its first two steps, as a number below 4,096.
+    #[inline]
+    pub fn first_two(self) -> usize {
+        (self.steps & TWO_STEPS) as usize
+    }
+
+    /// The path without its last step.
+    pub fn shorter(self) -> Path {
+        for start in STARTS {
+            if self.steps > start {
+                return Path {
+                    steps: self.steps & start,
+                };
+            }
+        }
+        Path::none()
+    }
+
+    /// As a word.
+    #[inline]
+    pub(crate) fn word(self) -> u32 {
+        self.steps
+    }
+
+    /// What a word says.
+    #[inline]
+    pub(crate) fn of_word(steps: u32) -> Path {
+        Path { steps }
     }
 
     /// The path with one more step, which comes behind so many; it is left out where they are too many.

@@ -22,12 +22,12 @@ pub struct Passage {
     pub stays: bool,
 }
 
-/// Where a way ended, and whether anything was moved on it.
+/// Where a way ended, and behind how many steps the last twigs lie that were moved on it.
 #[derive(Clone, Copy)]
 pub struct WayEnd {
     pub at: Ref,
     pub node: Node,
-    pub moved: bool,
+    pub moved: Option<u32>,
 }
 
 /// Whether twigs lie in a chunk that is sparse.
@@ -68,6 +68,14 @@ fn passage_at(
         return Some(Passage { descent, stays });
     }
     None
+}
+
+/// Behind how many steps the last twigs lie that were moved, where these are behind so many.
+fn last_moved(before: Option<u32>, passage: Passage, steps: u32) -> Option<u32> {
+    if passage.stays {
+        return before;
+    }
+    Some(steps)
 }
 
 /// Goes on to a twig of a branch that the cell at a place says.
@@ -127,10 +135,12 @@ pub fn go_on<C: CellWrite>(
     let mut on = from.on;
     let mut at = from.at;
     let mut node = from.node;
-    let mut moved = false;
+    let mut moved = None;
+    let mut steps = from.steps;
     while let Some(passage) = passage_at(usage, node, on, chunk, end, others) {
         at = pass(cells, usage, at, passage)?;
-        moved = moved || !passage.stays;
+        moved = last_moved(moved, passage, steps);
+        steps = steps.saturating_add(1);
         on = on.rest();
         node = Node::of(cells.cell(at));
     }
@@ -155,15 +165,16 @@ pub fn empty_along<C: CellWrite>(
         at: root,
         node: Node::of(cells.cell(root)),
         on: path,
+        steps: 0,
     };
     let way = go_on(cells, usage, root, from, chunk, NO_OFFSET, to_item)?;
     let Node::Leaf(leaf) = way.node else {
-        return Ok(way.moved);
+        return Ok(way.moved.is_some());
     };
     if is_item_sparse(cells, usage, leaf.at, leaf.len) {
         note_long(usage, leaf, path);
         move_item(cells, usage, way.at, leaf)?;
         return Ok(true);
     }
-    Ok(way.moved)
+    Ok(way.moved.is_some())
 }

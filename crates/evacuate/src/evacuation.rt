@@ -8,6 +8,7 @@ ghost use Rattle.evacuate.specs.Prelude.{cells_of, filled_cells, free_count, ref
 use super::beginning::{begin, copy_root};
 use super::descent::move_found;
 use super::listed::move_listed;
+use super::marks::Search;
 use super::sparse::is_any_sparse;
 use super::survey::survey;
 use super::trail::{Trail, next_sparse};
@@ -16,7 +17,7 @@ use chunk_usage::Usage;
 use packed_node::{Ref, chunk_of};
 
 // How often the lists of sparse chunks are gone through before they are made anew.
-const ROUNDS: u32 = 8;
+const ROUNDS: u32 = 6;
 
 /// How an evacuation ended.
 #[derive(Clone, Copy, PartialEq, Eq, Debug)]
@@ -137,8 +138,8 @@ fn try_lists<C: CellWrite>(cells: &mut C, usage: &mut Usage, root: Ref) -> Optio
     ensures rearranged { Rearranged C.has C.kept C.given root cells.old usage.old cells.new usage.new }
     ensures ended { ListsEnd usage.old usage.new result }
 {
-    for _ in 0..ROUNDS {
-        let moved = move_listed(cells, usage, root);
+    for round in 0..ROUNDS {
+        let moved = move_listed(cells, usage, root, Search::in_round(round));
         if !is_any_sparse(usage) {
             return Some(Done::Whole);
         }

@@ -8,12 +8,13 @@ use chunk_cells::CellWrite;
 use chunk_usage::{Path, Usage};
 use packed_node::{Node, Ref, chunk_of};
 
-/// A cell on the way down from a root that may be written, the node that it says, and what a path says from there on.
+/// A cell on the way down from a root that may be written, the node that it says, what a path says from there on, and how many steps lead there.
 #[derive(Clone, Copy)]
 pub struct Foothold {
     pub at: Ref,
     pub node: Node,
     pub on: Path,
+    pub steps: u32,
 }
 
 /// The branch at a node, where a path says one of its twigs that may be written. None where they lie in a chunk.
@@ -49,12 +50,19 @@ pub fn descend<C: CellWrite>(
 {
     usage.known(); // for the proof
     let mut on = path;
+    let mut steps: u32 = 0;
     let mut at = root;
     let mut node = Node::of(cells.cell(root));
     while let Some(descent) = mutable_descent(usage, node, on, chunk) {
         at = descent.branch.twigs + descent.index;
         on = on.rest();
+        steps = steps.saturating_add(1);
         node = Node::of(cells.cell(at));
     }
-    Foothold { at, node, on }
+    Foothold {
+        at,
+        node,
+        on,
+        steps,
+    }
 }

@@ -6,7 +6,7 @@ ghost use Rattle.evacuate.specs.Prelude.{IsFull, CanRearrange, Rearranged};
 use super::along::{empty_along, go_on};
 use super::foothold::descend;
 use super::forks::{copy_forked, move_forked};
-use super::marks::{Listing, Mark, Marks};
+use super::marks::{Listing, Mark, Marks, Search};
 use super::path_walk::{Last, Rest, last_along};
 use chunk_cells::CellWrite;
 use chunk_usage::{Full, Path, Usage};
@@ -24,8 +24,7 @@ enum Step {
     Move,
 }
 
-/// Moves what lies in a sparse chunk along a path that doesn't fork, perhaps down to the item. What the bump chunk is now lists the path, unless
-/// it is that of when so many chunks were free, which lists it already.
+/// Moves what lies in a sparse chunk along a path that doesn't fork, perhaps down to the item. If there was anything, the bump chunk lists the path.
 fn move_along<C: CellWrite>(
     cells: &mut C,
     usage: &mut Usage,
@@ -33,27 +32,25 @@ fn move_along<C: CellWrite>(
     chunk: u32,
     path: Path,
     to_item: bool,
-    noted: Option<u32>,
 ) -> Result<(), Full>
     requires { CanRearrange C.has C.kept C.given root cells.old usage.old }
     ensures rearranged { Rearranged C.has C.kept C.given root cells.old usage.old cells.new usage.new }
     ensures full { IfErr result (λ _. IsFull usage.new) }
 {
     let moved = empty_along(cells, usage, root, path, chunk, to_item)?;
-    if moved && noted != Some(usage.free()) {
+    if moved {
         usage.note(path);
     }
     Ok(())
 }
 
 /// The mark of a path on which twigs were made mutable, where something is left then.
-fn mark_of(noted: bool, rest: Rest) -> Option<Mark> {
+fn mark_of(rest: Rest) -> Option<Mark> {
     if rest == Rest::Nothing {
         return None;
     }
     Some(Mark::Straight {
         to_item: rest == Rest::Item,
-        noted,
     })
 }
 
@@ -75,10 +72,10 @@ fn copy_along<C: CellWrite>(
         Last::None => Ok(None),
         Last::Below { end, rest } => {
             let way = go_on(cells, usage, root, from, chunk, end, true)?;
-            if way.moved {
-                usage.note(path);
+            if let Some(steps) = way.moved {
+                usage.note_row(path, steps);
             }
-            Ok(mark_of(way.moved, rest))
+            Ok(mark_of(rest))
         }
         Last::Forks => {
             let found = copy_forked(cells, usage, root, path)?;
@@ -87,7 +84,54 @@ fn copy_along<C: CellWrite>(
     }
 }
 
-/// Does a step along a listed path. Nothing is moved along one on which nothing was found.
+/// Makes twigs mutable along a listed path, and marks it where something is left then.
+fn copy_step<C: CellWrite>(
+    cells: &mut C,
+    usage: &mut Usage,
+    root: Ref,
+    marks: &mut Marks,
+    listing: Listing,
+) -> Result<(), Full>
+    requires { CanRearrange C.has C.kept C.given root cells.old usage.old }
+    ensures rearranged { Rearranged C.has C.kept C.given root cells.old usage.old cells.new usage.new }
+    ensures full { IfErr result (λ _. IsFull usage.new) }
+{
+    let listed = usage.path(listing.chunk, listing.place);
+    if marks.search == Search::Likely && usage.is_gone(listing.chunk, listed) {
+        return Ok(());
+    }
+    let path = marks.search.along(listed);
+    if let Some(mark) = copy_along(cells, usage, root, listing.chunk, path)? {
+        marks.put(listing, mark);
+    }
+    Ok(())
+}
+
+/// Moves what is left along a listed path. Nothing is moved along one on which nothing was found.
+fn move_step<C: CellWrite>(
+    cells: &mut C,
+    usage: &mut Usage,
+    root: Ref,
+    marks: &Marks,
+    listing: Listing,
+) -> Result<(), Full>
+    requires { CanRearrange C.has C.kept C.given root cells.old usage.old }
+    ensures rearranged { Rearranged C.has C.kept C.given root cells.old usage.old cells.new usage.new }
+    ensures full { IfErr result (λ _. IsFull usage.new) }
+{
+    let Some(mark) = marks.of(listing) else {
+        return Ok(());
+    };
+    let path = marks.search.along(usage.path(listing.chunk, listing.place));
+    match mark {
+        Mark::Straight { to_item } => {
+            move_along(cells, usage, root, listing.chunk, path, to_item)
+        }
+        Mark::Forked => move_forked(cells, usage, root, path),
+    }
+}
+
+/// Does a step along a listed path.
 fn step_along<C: CellWrite>(
     cells: &mut C,
     usage: &mut Usage,
@@ -100,27 +144,13 @@ fn step_along<C: CellWrite>(
     ensures rearranged { Rearranged C.has C.kept C.given root cells.old usage.old cells.new usage.new }
     ensures full { IfErr result (λ _. IsFull usage.new) }
 {
-    if step == Step::Copy {
-        let path = usage.path(listing.chunk, listing.place);
-        if let Some(mark) = copy_along(cells, usage, root, listing.chunk, path)? {
-            marks.put(listing, mark);
-        }
-        return Ok(());
-    }
-    let Some(mark) = marks.of(listing) else {
-        return Ok(());
-    };
-    let path = usage.path(listing.chunk, listing.place);
-    match mark {
-        Mark::Straight { to_item, noted } => {
-            let noted = noted.then_some(marks.free);
-            move_along(cells, usage, root, listing.chunk, path, to_item, noted)
-        }
-        Mark::Forked => move_forked(cells, usage, root, path),
+    match step {
+        Step::Copy => copy_step(cells, usage, root, marks, listing),
+        Step::Move => move_step(cells, usage, root, marks, listing),
     }
 }
 
-/// Does it along each path that a chunk lists. Where twigs are made mutable it is done once.
+/// Does it along each path that a chunk lists. Twigs are made mutable once, and what is left is moved where that was done.
 fn step_in_chunk<C: CellWrite>(
     cells: &mut C,
     usage: &mut Usage,
@@ -136,7 +166,9 @@ fn step_in_chunk<C: CellWrite>(
     if step == Step::Copy && !marks.begin(chunk, usage.listed(chunk)) {
         return Ok(());
     }
-    let first = marks.first_of(chunk);
+    let Some(first) = marks.first_of(chunk) else {
+        return Ok(());
+    };
     for place in 0..usage.listed(chunk) {
         if usage.live(chunk) == 0 {
             return Ok(());
@@ -195,12 +227,17 @@ fn copy_all<C: CellWrite>(
 }
 
 /// Moves what the lists of sparse chunks lead to. What lies above it is made mutable first, for all of them.
-pub fn move_listed<C: CellWrite>(cells: &mut C, usage: &mut Usage, root: Ref) -> Result<(), Full>
+pub fn move_listed<C: CellWrite>(
+    cells: &mut C,
+    usage: &mut Usage,
+    root: Ref,
+    search: Search,
+) -> Result<(), Full>
     requires { CanRearrange C.has C.kept C.given root cells.old usage.old }
     ensures rearranged { Rearranged C.has C.kept C.given root cells.old usage.old cells.new usage.new }
     ensures full { IfErr result (λ _. IsFull usage.new) }
 {
-    let mut marks = Marks::new(usage.free());
+    let mut marks = Marks::new(search);
     copy_all(cells, usage, root, &mut marks)?;
     step_in_all(cells, usage, root, Step::Move, &mut marks)
 }

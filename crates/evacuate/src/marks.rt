@@ -1,5 +1,7 @@
 //! What was found along listed paths.
 
+use chunk_usage::{Listed, Path};
+
 /// So many words have four bits for each path that may be marked.
 const PATH_WORDS: usize = 248;
 
@@ -17,11 +19,42 @@ pub struct Listing {
     pub number: usize,
 }
 
+/// Which listed paths are gone along, and how far.
+#[derive(Clone, Copy, PartialEq, Eq)]
+pub enum Search {
+    /// Those of which a chunk seems to have something.
+    Likely,
+    /// All.
+    All,
+    /// All without their last steps, and from there all ways: since a path was listed, a branch may have come between.
+    Around,
+}
+
+impl Search {
+    /// That of a round. What the first ones don't find is looked for with more pains.
+    pub fn in_round(round: u32) -> Search {
+        match round {
+            0 | 1 => Search::Likely,
+            2 => Search::All,
+            _ => Search::Around,
+        }
+    }
+
+    /// The path that is gone along for a listed one.
+    #[inline]
+    pub fn along(self, listed: Listed) -> Path {
+        match self {
+            Search::Around => listed.path().shorter(),
+            _ => listed.path(),
+        }
+    }
+}
+
 /// What a path leads to that is left in a sparse chunk.
 #[derive(Clone, Copy)]
 pub enum Mark {
-    /// Something, perhaps an item, and the path doesn't fork. It may be that the bump chunk of then lists the path already.
-    Straight { to_item: bool, noted: bool },
+    /// Something, perhaps an item, and the path doesn't fork.
+    Straight { to_item: bool },
     /// Something below where it forks, or above.
     Forked,
 }
@@ -33,14 +66,10 @@ const FORKED: u64 = 2;
 
 const TO_ITEM: u64 = 4;
 
-const UNNOTED: u64 = 8;
-
 impl Mark {
     fn bits(self) -> u64 {
         match self {
-            Mark::Straight { to_item, noted } => {
-                MARKED | bit_if(to_item, TO_ITEM) | bit_if(!noted, UNNOTED)
-            }
+            Mark::Straight { to_item } => MARKED | bit_if(to_item, TO_ITEM),
             Mark::Forked => MARKED | FORKED,
         }
     }
@@ -54,7 +83,6 @@ impl Mark {
         }
         Some(Mark::Straight {
             to_item: bits & TO_ITEM != 0,
-            noted: bits & UNNOTED == 0,
         })
     }
 }
@@ -68,8 +96,8 @@ fn bit_if(value: bool, bit: u64) -> u64 {
 #[derive(Clone, Copy)]
 pub struct Marks {
     paths: [u64; PATH_WORDS],
-    /// How many chunks were free before the first was marked. As long as it is so many, the bump chunk is the same.
-    pub free: u32,
+    /// Which are gone along.
+    pub search: Search,
     // Of which chunks the paths were gone along.
     chunks: [u64; CHUNK_WORDS],
     // The first of them, each with the number of its first path; how many these are, and the next number.
@@ -79,11 +107,11 @@ pub struct Marks {
 }
 
 impl Marks {
-    /// None is marked, and so many chunks are free.
-    pub fn new(free: u32) -> Marks {
+    /// None is marked yet.
+    pub fn new(search: Search) -> Marks {
         Marks {
             paths: [0; PATH_WORDS],
-            free,
+            search,
             chunks: [0; CHUNK_WORDS],
             begun: [(0, 0); MOST_CHUNKS],
             count: 0,
@@ -107,14 +135,14 @@ impl Marks {
         true
     }
 
-    /// The number of a chunk's first path.
-    pub fn first_of(&self, chunk: u32) -> usize {
+    /// The number of a chunk's first path. It has none where its paths weren't gone along, or too many chunks' were.
+    pub fn first_of(&self, chunk: u32) -> Option<usize> {
         for (begun, number) in self.begun.iter().take(self.count) {
             if *begun == chunk {
-                return *number as usize;
+                return Some(*number as usize);
             }
         }
-        0
+        None
     }
 
     /// Marks a path.

@@ -28,7 +28,7 @@ impl Space for Usage {
     }
 
     fn note(&mut self, path: Path) {
-        Usage::note(self, path);
+        Usage::note_change(self, path);
     }
 
     fn release_all(&mut self) {

@@ -4,15 +4,36 @@ ghost use Rattle.std.specs.Prelude.{◌≡◌, ◌≤◌};
 
 use super::Usage;
 use crate::bump::chunk_of;
-use chunk_hints::Path;
+use chunk_hints::{Listed, Path};
 
 impl Usage {
+    /// A key was put in or taken out, whose path this is.
+    pub fn note_change(&mut self, path: Path)
+        ensures { self.new ≡ self.old }
+    {
+        let state = &mut *self.state;
+        state.hints.note_change(chunk_of(state.bump), path);
+    }
+
     /// What is written now lies on a path.
     pub fn note(&mut self, path: Path)
         ensures { self.new ≡ self.old }
     {
         let state = &mut *self.state;
         state.hints.note(chunk_of(state.bump), path);
+    }
+
+    /// Twigs on a path were copied, the last of them those behind so many steps.
+    pub fn note_row(&mut self, path: Path, steps: u32)
+        ensures { self.new ≡ self.old }
+    {
+        let state = &mut *self.state;
+        state.hints.note_row(chunk_of(state.bump), path, steps);
+    }
+
+    /// Whether a chunk seems to have nothing any more of a path that it lists.
+    pub fn is_gone(&self, chunk: u32, listed: Listed) -> bool {
+        self.state.hints.is_gone(chunk, listed)
     }
 
     /// How many paths a chunk lists.
@@ -23,7 +44,7 @@ impl Usage {
     }
 
     /// A path that a chunk lists, by its place in the list.
-    pub fn path(&self, chunk: u32, place: usize) -> Path {
+    pub fn path(&self, chunk: u32, place: usize) -> Listed {
         self.state.hints.path(chunk, place)
     }
 
