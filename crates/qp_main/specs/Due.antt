@@ -237,8 +237,8 @@ Due None left s text = (s ≡ status.WordsRefused) × (text ≡ codes "words ref
 Due (Some invocation) left s text = DueGiven invocation (input_of invocation.verb left) s text
 
 -- a status and a text in pieces are what is due
-abbrev pub IsDue : (Status → List ℕ → Type 0) → Status × Pieces → Type 0
-IsDue due answer = due answer.0 (pieces_text answer.1)
+abbrev pub IsAnswerDue : (Status → List ℕ → Type 0) → Status × Pieces → Type 0
+IsAnswerDue due answer = due answer.0 (pieces_text answer.1)
 
 -- the input is a load's text, so that nothing is read
 abbrev pub MakesInput : Verb → Type 0

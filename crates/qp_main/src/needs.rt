@@ -1,7 +1,7 @@
 //! How many chunks a job needs.
 ghost use Rattle.std.specs.Prelude.{◌≡◌, ◌<◌, ◌≤◌, ◌+◌, ◌^◌, length, IfOk, IfErr};
 ghost use Rattle.qp_main.specs.Prelude.{IsSizeOf, WholeJob, job_of, AreNeedsOf};
-ghost use Rattle.qp_main.specs.Prelude.{trie_entries, Sized, Sizes, IsDue, IsStop};
+ghost use Rattle.qp_main.specs.Prelude.{trie_entries, Sized, Sizes, IsAnswerDue, IsStop};
 
 use crate::input::Input;
 use crate::refusing::Stop;
@@ -38,7 +38,7 @@ fn report_needs(
 ) -> Result<(Status, Pieces), AllocError>
     requires { workers ≤ 16 }
     ensures { (job : WholeJob) → IsSizeOf size.now (trie_entries job.zone) → length job.workers ≡ workers → AreNeedsOf job.workers needs
-        → IfOk result (IsDue (Sized job)) }
+        → IfOk result (IsAnswerDue (Sized job)) }
 {
     let cells = all_cells(size.cells(), needs.cells)?;
     let Ok(operations) = u32::try_from(needs.operations) else {
@@ -57,7 +57,7 @@ pub fn size_job(
     invocation: &Invocation,
     input: Input,
 ) -> Result<(Status, Pieces), Stop>
-    ensures told { IfOk result (IsDue (Sizes (job_of invocation.now.origin input))) }
+    ensures told { IfOk result (IsAnswerDue (Sizes (job_of invocation.now.origin input))) }
     ensures stops { IfErr result (IsStop (Sizes (job_of invocation.now.origin input))) }
 {
     let job = input.job(alloc, &invocation.origin)?;

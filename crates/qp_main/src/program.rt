@@ -1,9 +1,9 @@
 //! The program over any source and sink.
 ghost use Rattle.std.specs.Prelude.{◌≡◌, ◌<◌, ◌≤◌, ◌+◌, ◌^◌, ◌++◌, ◌∷◌, [], ℕ, List, length, IfOk, IfErr, OnOk, codes};
 ghost use Rattle.std.specs.Prelude.{Ok, Err, false, Option, Result, IfSome, MatchOption, IsSome, Some, None};
-ghost use Rattle.qp_main.specs.Prelude.{Due, Consumes, zone_said, job_of, made_origin, Rose, Grows, GrowsByFront};
+ghost use Rattle.qp_main.specs.Prelude.{Due, DueFor, Consumes, zone_said, job_of, made_origin, Rose, Grows, GrowsByFront};
 ghost use Rattle.qp_main.specs.Prelude.{load_view, IsUnder, Make, invocation_in, invocation_view, verb_view, IsStop, Answers, Checks, CutShort};
-ghost use Rattle.qp_main.specs.Prelude.{DueFor, DueUnder, EndsLoad, IsDue, IsMade, IsUnwritten, IsWritten, MayBeShort, Written, input_of, is_streamed, streams};
+ghost use Rattle.qp_main.specs.Prelude.{DueUnder, EndsLoad, IsAnswerDue, IsMade, IsUnwritten, IsWritten, MayBeShort, Written, input_of, is_streamed, streams};
 
 use crate::dumping::dump_input;
 use crate::feeding::answer_list;
@@ -39,7 +39,7 @@ fn answer_job<R: Threads + Wait + Sync, G: Gate>(
     telling: Telling,
     gate: &G,
 ) -> Result<(Status, Pieces), Stop>
-    ensures told { IfOk result (IsDue (Answers telling invocation.now.chunks (job_of invocation.now.origin input))) }
+    ensures told { IfOk result (IsAnswerDue (Answers telling invocation.now.chunks (job_of invocation.now.origin input))) }
     ensures stops { IfErr result (IsStop (Answers telling invocation.now.chunks (job_of invocation.now.origin input))) }
 {
     let job = input.job(alloc, &invocation.origin)?;
@@ -57,7 +57,7 @@ fn check_zone(
     invocation: &Invocation,
     input: Input,
 ) -> Result<(Status, Pieces), Stop>
-    ensures told { IfOk result (IsDue (Checks invocation.now.chunks (zone_said invocation.now.origin input))) }
+    ensures told { IfOk result (IsAnswerDue (Checks invocation.now.chunks (zone_said invocation.now.origin input))) }
     ensures stops { IfErr result (IsStop (Checks invocation.now.chunks (zone_said invocation.now.origin input))) }
 {
     let zone = input.zone(alloc, &invocation.origin)?;

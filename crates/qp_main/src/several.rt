@@ -1,7 +1,7 @@
 //! Several zones and a script over them.
 ghost use Rattle.std.specs.Prelude.{◌≡◌, ◌≤◌, All, Ok, IfOk, IfErr, length, map};
 ghost use Rattle.qp_main.specs.Prelude.{AreListed, origins_of, zones_job_of, workers_view, zones_job_on};
-ghost use Rattle.qp_main.specs.Prelude.{ZonesAnswers, AreAllItems, IsDue, IsRead, IsSaid, IsStop, AllByRecursion};
+ghost use Rattle.qp_main.specs.Prelude.{ZonesAnswers, AreAllItems, IsAnswerDue, IsRead, IsSaid, IsStop, AllByRecursion};
 
 use crate::input::Input;
 use crate::items::zone_items;
@@ -89,7 +89,7 @@ fn report_zones<R: Threads + Wait + Sync, G: Gate>(
     requires zones { AllByRecursion IsRead zones.items }
     requires few_workers { length script.now.workers.items ≤ 16 }
     requires said { AllByRecursion (AllByRecursion (IsSaid (origins_of zones.items))) (workers_view script.now) }
-    ensures { IfOk result (IsDue (ZonesAnswers invocation.now.chunks (Ok (zones_job_on zones.items (workers_view script.now))))) }
+    ensures { IfOk result (IsAnswerDue (ZonesAnswers invocation.now.chunks (Ok (zones_job_on zones.items (workers_view script.now))))) }
 {
     let origins = origins_of(alloc, &zones)?;
     let passes = script.workers.len() as u32 + 1;
@@ -116,7 +116,7 @@ pub fn answer_zones<R: Threads + Wait + Sync, G: Gate>(
     input: Input,
     gate: &G,
 ) -> Result<(Status, Pieces), Stop>
-    ensures told { IfOk result (IsDue (ZonesAnswers invocation.now.chunks (zones_job_of input))) }
+    ensures told { IfOk result (IsAnswerDue (ZonesAnswers invocation.now.chunks (zones_job_of input))) }
     ensures stops { IfErr result (IsStop (ZonesAnswers invocation.now.chunks (zones_job_of input))) }
 {
     let zones = input.zones(alloc)?;

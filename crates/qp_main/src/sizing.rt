@@ -1,6 +1,6 @@
 //! How large the trie of a zone is. It is counted, and not made.
 ghost use Rattle.std.specs.Prelude.{◌≡◌, ◌<◌, ◌≤◌, ◌^◌, IfOk, Ok, length};
-ghost use Rattle.qp_main.specs.Prelude.{item_limit, Version, Rises, IsSizeOf, trie_entries, Checks, IsDue};
+ghost use Rattle.qp_main.specs.Prelude.{item_limit, Version, Rises, IsSizeOf, trie_entries, Checks, IsAnswerDue};
 
 use crate::refusal_lines::no_room;
 use crate::size_lines::size_line;
@@ -48,7 +48,7 @@ pub fn report_size(
     size: &TrieSize,
 ) -> Result<(Status, Pieces), AllocError>
     requires some { 1 ≤ chunks }
-    ensures { (zone : Version) → IsSizeOf size.now (trie_entries zone) → IfOk result (IsDue (Checks chunks (Ok zone))) }
+    ensures { (zone : Version) → IsSizeOf size.now (trie_entries zone) → IfOk result (IsAnswerDue (Checks chunks (Ok zone))) }
 {
     let cells = size.cells();
     let limit = room_in(chunks);

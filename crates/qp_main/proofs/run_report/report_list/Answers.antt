@@ -5,7 +5,7 @@ use Rattle.job_report.specs.Pieces.{pieces_text}
 use Rattle.job_script.specs.Views.{command_view, list_view}
 use Rattle.feed_threads.specs.Zones.{FedRanOn}
 use Rattle.feed_threads.specs.declared.zone.FedRan.TheVariants as fed
-use Rattle.qp_main.specs.Due.{FedAnswers, IsDue}
+use Rattle.qp_main.specs.Due.{FedAnswers, IsAnswerDue}
 use Rattle.qp_main.specs.Jobs.{fed_job_on}
 use Rattle.qp_main.proofs.ReportingLemmas.{list_told}
 use Rattle.qp_main.proofs.run_report.report_list.Goals as goal
@@ -28,4 +28,4 @@ returns-then-is_empty g c = λ zone workers stands dumped same.
     let empty : vec_len c.args.commands.now ≡ 0 = search rules in
     let held = c.args.commands.now.ok.0 in
     let none : [] ≡ list_view c.args.commands.now = sym (ap (map command_view) (nil_from_length c.args.commands.now.items (omega arith))) in
-    subst (λ (cs : List Command). IfOk c.report_none.result (IsDue (FedAnswers workers i.chunks (Ok (fed_job_on i.origin zone cs))))) none (c.report_none.ensures zone workers stands)
+    subst (λ (cs : List Command). IfOk c.report_none.result (IsAnswerDue (FedAnswers workers i.chunks (Ok (fed_job_on i.origin zone cs))))) none (c.report_none.ensures zone workers stands)
