@@ -1,5 +1,5 @@
 -- What building gives.
-use Rattle.std.specs.Prelude.{◌≡◌, ℕ, ◌+◌, ◌<◌, ◌≤◌, List, ◌++◌, Option}
+use Rattle.std.specs.Prelude.{◌≡◌, ℕ, suc, ◌+◌, ◌<◌, ◌≤◌, List, ◌++◌, Option, Some}
 use Rattle.packed_node.specs.declared.Cell.{Cell}
 use Rattle.trie_model.specs.Keys.{Entry}
 use Rattle.trie_model.specs.Shape.{cells}
@@ -8,6 +8,8 @@ use Rattle.trie_model.specs.Memory.{Beneath, top_cell}
 use Rattle.trie_model.specs.Reach.{weigh_tree, in_chunk}
 use Rattle.chunk_usage.specs.Rooms.{Account}
 use Rattle.trie_write.specs.declared.branch_points.BranchPoint.{BranchPoint}
+use Rattle.trie_write.specs.declared.bulk.Part.{Part}
+use Rattle.trie_write.specs.Entries.{entries_of_items}
 use Rattle.trie_write.specs.Points.{Front}
 use Rattle.trie_space.specs.Weights.{at_place, mark}
 
@@ -23,6 +25,10 @@ pub record Built (has : ℕ → Cell → Type 0) (old new : Account) (t : Tree) 
 -- the tree of the first of these entries is built
 abbrev pub BuiltFront : (ℕ → Cell → Type 0) → Account → Account → ℕ → List Entry → List Entry → Option BranchPoint → Cell → Type 0
 BuiltFront has old new low es rest next cell = (t : Tree) × Front low es rest next t × Built has old new t cell
+
+-- what is built of these entries is the first twig of a branch at the point
+abbrev pub BuiltTwig : (ℕ → Cell → Type 0) → Account → Account → BranchPoint → List Entry → Part → Type 0
+BuiltTwig has old new point es part = BuiltFront has old new (suc point.offset) es (entries_of_items part.rest.now) (Some point) part.cell
 
 -- there was no room for it; what was asked for is less than it has
 pub record Stopped (old new : Account) (low : ℕ) (es : List Entry) : Type 0 where

@@ -19,7 +19,7 @@ pub use Rattle.trie_space.specs.Spaces.{Fenced, Frame, IsWritable, MayWrite, Rea
 pub use Rattle.trie_space.specs.Standing.{HasTrie}
 pub use Rattle.trie_space.specs.Ways.{Fork, IsWay, NotBefore, copied_along, plug, twigs_along, twigs_of}
 pub use Rattle.trie_write.specs.Asks.{HasKey, KeyIsThere}
-pub use Rattle.trie_write.specs.Builds.{Built, BuiltFront, Stopped}
+pub use Rattle.trie_write.specs.Builds.{Built, BuiltFront, BuiltTwig, Stopped}
 pub use Rattle.trie_write.specs.Deletions.{Deleted, DropAsked, DropAsks, IsWithout, LeafDescent, LeafTurned}
 pub use Rattle.trie_write.specs.Descents.{HasWay, IsDescent, IsLastDescent}
 pub use Rattle.trie_write.specs.Entries.{entries_of_items, entry_of}

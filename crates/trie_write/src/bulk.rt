@@ -3,9 +3,9 @@
 //! The items are in the order of their keys, and where each key first differs from the next one tells the whole shape: there a branch parts the two.
 //! So one pass is enough, which makes each leaf, and above it all branches that end with it.
 
-ghost use Rattle.std.specs.Prelude.{◌≡◌, ◌+◌, ◌<◌, ◌≤◌, ℕ, suc, List, [], ◌∷◌, IfOk, IfErr, Some, length};
+ghost use Rattle.std.specs.Prelude.{◌≡◌, ◌+◌, ◌<◌, ◌≤◌, ℕ, List, [], ◌∷◌, IfOk, IfErr, Some, length};
 ghost use Rattle.trie_write.specs.Prelude.{Cell, Extents, Entry, Rises, cells_of, IsTree, leaf, Account, entry_of};
-ghost use Rattle.trie_write.specs.Prelude.{entries_of_items, Built, BuiltFront, Stopped, Ready, Frame, HasTrie};
+ghost use Rattle.trie_write.specs.Prelude.{entries_of_items, Built, BuiltFront, BuiltTwig, Stopped, Ready, Frame, HasTrie};
 
 use super::Item;
 use super::alloc::lay_row;
@@ -131,16 +131,14 @@ fn build_branch<'a, C: CellWrite, U: Space>(
     first: Part<'a>,
     point: BranchPoint,
 ) -> Result<Part<'a>, Full>
-    requires first { (base : Account) × (es : List Entry)
-        × BuiltFront (C.has cells.old) base (U.account usage.old) (suc point.offset) es (entries_of_items first.rest.now) (Some point) first.cell }
+    requires first { (base : Account) × (es : List Entry) × BuiltTwig (C.has cells.old) base (U.account usage.old) point es first }
     requires point { first.next ≡ Some point }
     requires ready { Ready C.kept C.given U.account cells.old usage.old }
-    ensures built { IfOk result (λ part. (base : Account) (es : List Entry)
-        → BuiltFront (C.has cells.old) base (U.account usage.old) (suc point.offset) es (entries_of_items first.entry.rest.now) (Some point) first.entry.cell
+    ensures built { IfOk result (λ part. (base : Account) (es : List Entry) → BuiltTwig (C.has cells.old) base (U.account usage.old) point es first.entry
         → BuiltFront (C.has cells.new) base (U.account usage.new) point.offset es (entries_of_items part.rest.now) part.next part.cell) }
     ensures shorter { IfOk result (λ part. length part.rest.now < length first.entry.rest.now) }
-    ensures stopped { IfErr result (λ _. (base : Account) (es : List Entry) → BuiltFront (C.has cells.old) base (U.account usage.old) (suc point.offset) es
-        (entries_of_items first.entry.rest.now) (Some point) first.entry.cell → Stopped base (U.account usage.new) point.offset es) }
+    ensures stopped { IfErr result (λ _. (base : Account) (es : List Entry) → BuiltTwig (C.has cells.old) base (U.account usage.old) point es first.entry
+        → Stopped base (U.account usage.new) point.offset es) }
     ensures full { IfErr result (λ f. U.lacks usage.new f) }
     ensures frame { Frame C.has C.kept C.given U.account cells.old usage.old cells.new usage.new }
     ensures ready { Ready C.kept C.given U.account cells.new usage.new }
