@@ -1,27 +1,17 @@
 -- What workers of one list have run, when their passes are back.
-use Rattle.std.specs.Prelude.{ℕ, List, map}
+use Rattle.std.specs.Prelude.{ℕ, List}
 use Rattle.job_model.specs.Commands.{Command}
-use Rattle.shared_cells.specs.declared.view.TableSize.{TableSize}
 use Rattle.shared_index.specs.declared.meaning.Named.{Ghosts}
-use Rattle.shared_index.specs.declared.index.Index.{Index}
-use Rattle.shared_index.specs.declared.pass.Pass.{Pass}
 use Rattle.shared_index.specs.Passes.{Known, known_at}
 use Rattle.job_commands.specs.Closings.{Gathers}
+use Rattle.job_commands.specs.Commands.{known_in}
 use Rattle.job_commands.specs.Histories.{Setup}
 use Rattle.job_commands.specs.Works.{WorkerRan, ended, only}
 use Rattle.feed_threads.specs.Feeds.{commands_at, commands_served, outcomes_served}
 use Rattle.feed_threads.specs.declared.feeding.FedDone.{FedDone}
 use Rattle.feed_threads.specs.declared.feeding.FedGathered.{FedGathered}
 
--- the size of an index's table
-abbrev pub table_size : {X Y : Type 0} {N : Ghosts Y} → Index X Y N → TableSize
-table_size index = index.shared.table.shared.key
-
 module _ {Y : Type 0} {N : Ghosts Y} where
-  -- what passes know
-  abbrev pub known_in : List (Pass Y N) → List Known
-  known_in passes = map (λ p. known_at p.seat) passes
-
   -- a worker with a pass of this number, which knew this before, ran the commands that it took of a list
   abbrev pub DoneRan : Setup → ℕ → Known → List Command → FedDone Y N → Type 0
   DoneRan s number before commands d = WorkerRan s (only number) (ended (known_at d.pass.seat) before) (commands_at commands d.served.numbers.items) d.served.outcomes.list.items

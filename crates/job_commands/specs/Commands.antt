@@ -1,5 +1,5 @@
 -- What each kind of command does.
-use Rattle.std.specs.Prelude.{◌≡◌, ◌≤◌, ℕ, true, List, ◌∷◌, [], ◌++◌, length, Some, Ok, Result, IsOk, IsOkAnd, IsErr, IfOk}
+use Rattle.std.specs.Prelude.{◌≡◌, ◌≤◌, ℕ, true, List, ◌∷◌, [], ◌++◌, length, map, Some, Ok, Result, IsOk, IsOkAnd, IsErr, IfOk}
 use Rattle.std.specs.declared.alloc.AllocError.{AllocError}
 use Rattle.zone_model.specs.Names.{Name}
 use Rattle.zone_model.specs.Versions.{Version, all_applied}
@@ -18,11 +18,14 @@ use Rattle.shared_cells.specs.declared.view.PassView.{PassView}
 use Rattle.shared_cells.specs.declared.pass.PassSeat.{PassSeat}
 use Rattle.shared_cells.specs.History.{StartsWith, IsPartOf, entries_by, entry_of, version_after}
 use Rattle.shared_cells.specs.Views.{with_pinned}
+use Rattle.shared_index.specs.declared.index.Index.{Index}
+use Rattle.shared_index.specs.declared.meaning.Named.{Ghosts}
 use Rattle.shared_index.specs.declared.meaning.Operation.{Operation}
 use Rattle.shared_index.specs.declared.kept.Versions.{Versions}
+use Rattle.shared_index.specs.declared.pass.Pass.{Pass}
 use Rattle.shared_index.specs.Keepings.{versions_in}
 use Rattle.shared_index.specs.Operations.{applied}
-use Rattle.shared_index.specs.Passes.{Known, first_version, version_seen}
+use Rattle.shared_index.specs.Passes.{Known, first_version, known_at, version_seen}
 use Rattle.zone_edit.specs.declared.applying.Halt.{Halt}
 use Rattle.zone_edit.specs.declared.applying.Halt.TheVariants as halts
 use Rattle.job_commands.specs.Histories.{Setup, Commit as Commit', BeginsAt, StandsAs, AreVersions, Deeds, Explains, judged_by}
@@ -30,6 +33,14 @@ use Rattle.job_commands.specs.Histories.{Setup, Commit as Commit', BeginsAt, Sta
 -- the seat of a pass
 abbrev pub Seat : Type 0
 Seat = PassSeat (List trie.Entry) (List Operation)
+
+-- what passes know
+abbrev pub known_in : {Y : Type 0} {N : Ghosts Y} → List (Pass Y N) → List Known
+known_in passes = map (λ p. known_at p.seat) passes
+
+-- the size of an index's table
+abbrev pub table_size : {X Y : Type 0} {N : Ghosts Y} → Index X Y N → TableSize
+table_size index = index.shared.table.shared.key
 
 -- an index of this size
 pub record IsIndex (s : Setup) (origin : Name) (size : TableSize) : Type 0 where

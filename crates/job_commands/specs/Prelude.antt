@@ -19,12 +19,11 @@ pub use Rattle.shared_index.specs.Prelude.{first_version, known_at, versions_in}
 pub use Rattle.zone_edit.specs.Blocks.{Edited}
 pub use Rattle.zone_edit.specs.Stores.{IsOfTheSame, WorksOnSome}
 pub use Rattle.job_commands.specs.Calls.{AllHeard, AreHeard, IsHeard}
-pub use Rattle.job_commands.specs.Closings.{Gathers}
-pub use Rattle.job_commands.specs.Commands.{Asked, BlockRan, BlockWants, CompactionRan, IsIndex, IsSetup, OpensAt, Seat, StoppedBy}
+pub use Rattle.job_commands.specs.Commands.{Asked, BlockRan, BlockWants, CompactionRan, IsIndex, IsSetup, OpensAt, Seat, StoppedBy, known_in, table_size}
 pub use Rattle.job_commands.specs.Endings.{EndsRun}
 pub use Rattle.job_commands.specs.Histories.{Entries, IsLawful, IsZone, Setup, StandsAs}
 pub use Rattle.job_commands.specs.Runs.{IsRun}
 pub use Rattle.job_commands.specs.Stations.{IsHeld, IsPlaced, Pinned, holder_view, station}
 pub use Rattle.job_commands.specs.Steps.{IsUnder, MovedAt, Step}
 pub use Rattle.job_commands.specs.Weights.{IsOfWeight}
-pub use Rattle.job_commands.specs.Works.{AreNew, Begins, IsNew, Numbers, WorkerRan, ended, only}
+pub use Rattle.job_commands.specs.Works.{AreNew, Begins, IsNew, Numbers}

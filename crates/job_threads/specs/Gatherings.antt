@@ -1,26 +1,16 @@
 -- What workers have run, when their passes are back.
-use Rattle.std.specs.Prelude.{List, map}
+use Rattle.std.specs.Prelude.{List}
 use Rattle.job_model.specs.Commands.{Command}
-use Rattle.shared_cells.specs.declared.view.TableSize.{TableSize}
 use Rattle.shared_index.specs.declared.meaning.Named.{Ghosts}
-use Rattle.shared_index.specs.declared.index.Index.{Index}
-use Rattle.shared_index.specs.declared.pass.Pass.{Pass}
 use Rattle.shared_index.specs.Passes.{Known, known_at}
 use Rattle.job_commands.specs.Closings.{Gathers}
+use Rattle.job_commands.specs.Commands.{known_in}
 use Rattle.job_commands.specs.Histories.{Setup}
 use Rattle.job_commands.specs.Works.{Numbers, WorkerRan, ended}
 use Rattle.job_threads.specs.declared.job.Gathered.{Gathered}
 use Rattle.job_threads.specs.declared.worker.Done.{Done}
 
--- the size of an index's table
-abbrev pub table_size : {X Y : Type 0} {N : Ghosts Y} → Index X Y N → TableSize
-table_size index = index.shared.table.shared.key
-
 module _ {Y : Type 0} {N : Ghosts Y} where
-  -- what passes know
-  abbrev pub known_in : List (Pass Y N) → List Known
-  known_in passes = map (λ p. known_at p.seat) passes
-
   -- a worker with passes of these numbers ran these commands
   abbrev pub DoneRan : Setup → Numbers → List Command → Done Y N → Type 0
   DoneRan s numbers commands d = WorkerRan s numbers (ended (known_at d.asks.seat) (known_at d.spare.seat)) commands d.outcomes.list.items

@@ -8,9 +8,9 @@ pub use Rattle.shared_cells.specs.History.{IsPartOf}
 pub use Rattle.job_script.specs.Views.{job_view, worker_view, workers_view}
 pub use Rattle.job_commands.specs.Prelude.{AllAsked, AllHeard, AreAll, AreHeard, AreNew, Begins, Entries, IsHeld, IsIndex, IsRun, IsSetup, IsUnder}
 pub use Rattle.job_commands.specs.Prelude.{IsZone, Learnt, Numbers, OpensAt, Setup, StandsAs, Step, Version, command_view}
-pub use Rattle.job_commands.specs.Prelude.{entries_of_items, first_version, known_at}
+pub use Rattle.job_commands.specs.Prelude.{entries_of_items, first_version, known_at, known_in, table_size}
 pub use Rattle.job_threads.specs.Dumps.{DumpedOn, StopsOn, Visited, Writes, WritesSeen}
-pub use Rattle.job_threads.specs.Gatherings.{AreGathered, DoneRan, known_in, table_size}
+pub use Rattle.job_threads.specs.Gatherings.{AreGathered, DoneRan}
 pub use Rattle.job_threads.specs.Passes.{ArePlaced, holder_of, holds_one, station_of}
 pub use Rattle.job_threads.specs.Snapshots.{AskedHeld, Held, Released}
 pub use Rattle.job_threads.specs.Zones.{RanOn}
