@@ -66,6 +66,33 @@ pub(crate) fn thinned<C: CellWrite, U: Space>(
     changed_but(cells, usage, root, items, so_many, Change::Delete)
 }
 
+/// The root of a trie of n211, n22, and so many others that a chunk is full, and then of n215 and the last ones, which are taken out and put in
+/// again. Once n22 is taken out too, the path on which n215 was put in leads to n211, which lies elsewhere.
+pub(crate) fn misled<C: CellWrite, U: Space>(
+    cells: &mut C,
+    usage: &mut U,
+    items: &[Item],
+    first: &[Item],
+    last: &[Item],
+) -> Option<Option<Ref>>
+    requires trie { IsTrie C.has C.kept C.given U.account cells.old usage.old None }
+    ensures trie { IfSome result (IsTrie C.has C.kept C.given U.account cells.new usage.new) }
+{
+    let (n211, n215, n22) = (
+        items.get(126..127)?,
+        items.get(130..131)?,
+        items.get(135..136)?,
+    );
+    let root = changed_all(cells, usage, None, n211, Change::Insert)?;
+    let root = changed_all(cells, usage, root, n22, Change::Insert)?;
+    let root = changed_all(cells, usage, root, first, Change::Insert)?;
+    let root = changed_all(cells, usage, root, n215, Change::Insert)?;
+    let root = changed_all(cells, usage, root, last, Change::Insert)?;
+    let root = changed_all(cells, usage, root, last, Change::Delete)?;
+    let root = changed_all(cells, usage, root, last, Change::Insert)?;
+    changed_all(cells, usage, root, n22, Change::Delete)
+}
+
 /// What an evacuation did.
 #[derive(Clone, Copy, PartialEq, Eq, Debug)]
 pub(crate) struct Outcome {
