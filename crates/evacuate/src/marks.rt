@@ -135,14 +135,18 @@ impl Marks {
         true
     }
 
-    /// The number of a chunk's first path. It has none where its paths weren't gone along, or too many chunks' were.
+    /// The number of a chunk's first path. It has none where its paths weren't gone along. Chunks beyond those that are remembered share the first
+    /// numbers.
     pub fn first_of(&self, chunk: u32) -> Option<usize> {
+        if self.chunks[chunk as usize / 64 % CHUNK_WORDS] & (1 << (chunk % 64)) == 0 {
+            return None;
+        }
         for (begun, number) in self.begun.iter().take(self.count) {
             if *begun == chunk {
                 return Some(*number as usize);
             }
         }
-        None
+        Some(0)
     }
 
     /// Marks a path.
