@@ -1,19 +1,16 @@
 -- The words that this crate's clauses cite, and those of the crates that run its commands in threads, passed on from one place. Declares nothing.
 pub use Rattle.zone_model.specs.Dumps.{all_rows}
-pub use Rattle.zone_model.specs.Transactions.{no_changes}
 pub use Rattle.zone_query.specs.Around.{find}
 pub use Rattle.zone_query.specs.Prelude.{Shows, ShowsSome, Version, most_item_octets}
 pub use Rattle.job_model.specs.Outcomes.{Committed, Refused, Spent as NoNumber}
 pub use Rattle.job_model.specs.Replies.{found_text, reply_of, reply_text, size_text}
 pub use Rattle.job_model.specs.Sizes.{node_count}
-pub use Rattle.job_model.specs.declared.Ending.TheVariants.{Commit}
 pub use Rattle.job_script.specs.Outcomes.{EndsBlock, EndsCompaction}
 pub use Rattle.job_script.specs.Prelude.{NeedsNoSnapshot, command_view, ended_view, rows_text}
 pub use Rattle.job_script.specs.Views.{asked_view}
 pub use Rattle.report_laws.specs.Prelude.{AllAsked, AllSaid}
 pub use Rattle.trie_write.specs.Entries.{entries_of_items}
 pub use Rattle.shared_index.specs.Closings.{AreAll}
-pub use Rattle.shared_index.specs.Compactions.{Compacts}
 pub use Rattle.shared_index.specs.Passes.{Learnt}
 pub use Rattle.shared_index.specs.Prelude.{first_version, known_at, versions_in}
 pub use Rattle.zone_edit.specs.Blocks.{Edited}
@@ -21,7 +18,7 @@ pub use Rattle.zone_edit.specs.Stores.{IsOfTheSame, WorksOnSome}
 pub use Rattle.job_commands.specs.Calls.{AllHeard, AreHeard, IsHeard}
 pub use Rattle.job_commands.specs.Commands.{Asked, BlockRan, BlockWants, CompactionRan, IsIndex, IsSetup, OpensAt, Seat, StoppedBy, known_in, table_size}
 pub use Rattle.job_commands.specs.Endings.{EndsRun}
-pub use Rattle.job_commands.specs.Histories.{Entries, IsLawful, IsZone, Setup, StandsAs}
+pub use Rattle.job_commands.specs.Histories.{Entries, IsZone, Setup, StandsAs}
 pub use Rattle.job_commands.specs.Runs.{IsRun}
 pub use Rattle.job_commands.specs.Stations.{IsHeld, IsPlaced, Pinned, holder_view, station}
 pub use Rattle.job_commands.specs.Steps.{IsUnder, MovedAt, Step}

@@ -12,7 +12,7 @@ pub use Rattle.job_model.specs.Feeds.{passes_fed}
 pub use Rattle.job_model.specs.Outcomes.{passes_for}
 pub use Rattle.job_model.specs.Replies.{size_text}
 pub use Rattle.job_model.specs.Sizes.{trie_entries}
-pub use Rattle.job_script.specs.Prelude.{InTurn, NeedsNoSnapshot, Says, cells_of_workers, job_view, lines_of, list_view, longest_of_workers}
+pub use Rattle.job_script.specs.Prelude.{InTurn, NeedsNoSnapshot, Says, job_view, lines_of, list_view}
 pub use Rattle.job_script.specs.Prelude.{script_lines, script_start, zone_lines}
 pub use Rattle.zones_model.specs.Commands.{origins_of}
 pub use Rattle.zones_script.specs.Jobs.{zones_job_of}
@@ -20,12 +20,12 @@ pub use Rattle.zones_script.specs.Views.{workers_view}
 pub use Rattle.report_laws.specs.Prelude.{AllAsked, CanBeDumped, IsName, Version, fed_job_of, job_of, list_of, script_of, zone_of}
 pub use Rattle.job_report.specs.Pieces.{pieces_text}
 pub use Rattle.command_line.specs.Invocations.{IsUnder, Make}
-pub use Rattle.command_line.specs.Prelude.{invocation_of, invocation_view, load_view, made_origin, string_bytes, verb_view}
+pub use Rattle.command_line.specs.Prelude.{invocation_view, load_view, made_origin, verb_view}
 pub use Rattle.trie_write.specs.Entries.{entries_of_items}
 pub use Rattle.trie_size.specs.Sizes.{IsSizeOf}
-pub use Rattle.job_commands.specs.Histories.{IsZone, StandsAs}
+pub use Rattle.job_commands.specs.Histories.{IsZone}
 pub use Rattle.zones_threads.specs.Sites.{IsSaid}
-pub use Rattle.qp_main.specs.Due.{Answers, Checks, CutShort, Due, DueInput, DueUnder, Dumps, EndsLoad, FedAnswers, IsAnswerDue, IsMade, IsUnwritten}
+pub use Rattle.qp_main.specs.Due.{Answers, Checks, CutShort, Due, DueUnder, Dumps, EndsLoad, FedAnswers, IsAnswerDue, IsMade, IsUnwritten}
 pub use Rattle.qp_main.specs.Due.{IsWritten, MayBeShort, RefusesScript, Sized, Sizes, Written, ZonesAnswers, input_of}
 pub use Rattle.qp_main.specs.Due.{is_streamed, list_kind_text, refusal_text, script_kind_text, streams, zone_kind_text}
 pub use Rattle.qp_main.specs.Invocations.{DueFor, invocation_in}
