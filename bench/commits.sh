@@ -17,7 +17,7 @@ program=${1:-$built}
 
 # builds the program
 build() {
-    below='zone_model dns_name shift_key pin_core packed_node trie_model chunk_cells trie_read chunk_sets chunk_hints chunk_usage trie_space trie_write evacuate shared_cells shared_index'
+    below='zone_model dns_name shift_key pin_core packed_node trie_model chunk_cells trie_read chunk_sets chunk_hints chunk_usage trie_space trie_write evacuate shared_cells qp_multi'
     crate=$folder/crates/commits
     mkdir -p "$crate/src" "$crate/proofs"
     cp "$here/../HANDLES" "$folder/"
@@ -27,7 +27,7 @@ build() {
     cp "$here/commits.rattle" "$crate/src/main.rt"
     {
         grep -E "^($(tr ' ' '|' <<<"$below"))[ :]" "$here/../crates.txt"
-        printf '%s\n' 'commits may_wait=8: dns_name shift_key trie_model trie_write shared_index'
+        printf '%s\n' 'commits may_wait=8: dns_name shift_key trie_model trie_write qp_multi'
     } >"$folder/crates.txt"
 
     # the program's proofs, each under a line with its name
@@ -111,7 +111,7 @@ decreases-loop-left l = l.left
 == apply_all/Invariants.antt
 use Rattle.std.proofs.Common.{◌≡◌}
 use Rattle.std.specs.Prelude.{IsSomeAnd}
-use Rattle.shared_index.specs.Drafts.{Works}
+use Rattle.qp_multi.specs.Drafts.{Works}
 use Rattle.commits.proofs.apply_all.Given as goal
 
 abbrev pub invariant-loop-operation : goal.invariant-loop-operation

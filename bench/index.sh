@@ -13,7 +13,7 @@ program=${2:-$folder/crates/index/out/index}
 
 # builds the program
 build() {
-    below='zone_model dns_name shift_key pin_core packed_node trie_model chunk_cells trie_read chunk_sets chunk_hints chunk_usage trie_space trie_write evacuate shared_cells shared_index'
+    below='zone_model dns_name shift_key pin_core packed_node trie_model chunk_cells trie_read chunk_sets chunk_hints chunk_usage trie_space trie_write evacuate shared_cells qp_multi'
     crate=$folder/crates/index
     mkdir -p "$crate/src" "$crate/proofs"
     cp "$here/../HANDLES" "$folder/"
@@ -23,7 +23,7 @@ build() {
     cp "$here/index.rattle" "$crate/src/main.rt"
     {
         grep -E "^($(tr ' ' '|' <<<"$below"))[ :]" "$here/../crates.txt"
-        printf '%s\n' 'index may_wait=8: dns_name shift_key packed_node trie_model chunk_cells trie_read trie_write shared_index'
+        printf '%s\n' 'index may_wait=8: dns_name shift_key packed_node trie_model chunk_cells trie_read trie_write qp_multi'
     } >"$folder/crates.txt"
 
     # the program's proofs, each under a line with its name
@@ -95,7 +95,7 @@ invariant-loop-name g l = IsStanding (g.V.Reading.stands l.reading l.place)
 == put_all/Invariants.antt
 use Rattle.std.proofs.Common.{◌≡◌}
 use Rattle.std.specs.Prelude.{IsSomeAnd}
-use Rattle.shared_index.specs.Drafts.{Works}
+use Rattle.qp_multi.specs.Drafts.{Works}
 use Rattle.index.proofs.put_all.Given as goal
 
 abbrev pub invariant-loop-item : goal.invariant-loop-item

@@ -13,7 +13,7 @@ program=${2:-$folder/crates/readers/out/readers}
 
 # builds the program
 build() {
-    below='zone_model dns_name shift_key pin_core packed_node trie_model chunk_cells trie_read chunk_sets chunk_hints chunk_usage trie_space trie_write evacuate shared_cells shared_index'
+    below='zone_model dns_name shift_key pin_core packed_node trie_model chunk_cells trie_read chunk_sets chunk_hints chunk_usage trie_space trie_write evacuate shared_cells qp_multi'
     crate=$folder/crates/readers
     mkdir -p "$crate/src" "$crate/proofs"
     cp "$here/../HANDLES" "$folder/"
@@ -23,7 +23,7 @@ build() {
     cp "$here/readers.rattle" "$crate/src/main.rt"
     {
         grep -E "^($(tr ' ' '|' <<<"$below"))[ :]" "$here/../crates.txt"
-        printf '%s\n' 'readers may_wait=7: dns_name shift_key packed_node trie_model chunk_cells trie_read trie_write shared_index'
+        printf '%s\n' 'readers may_wait=7: dns_name shift_key packed_node trie_model chunk_cells trie_read trie_write qp_multi'
     } >"$folder/crates.txt"
 
     # the program's proofs, each under a line with its name
@@ -56,7 +56,7 @@ invariant-loop-place g l = (IsSome l.pass.seat) × (l.pass.place ≡ l.index.pla
 == put_all/Invariants.antt
 use Rattle.std.proofs.Common.{◌≡◌}
 use Rattle.std.specs.Prelude.{IsSomeAnd}
-use Rattle.shared_index.specs.Drafts.{Works}
+use Rattle.qp_multi.specs.Drafts.{Works}
 use Rattle.readers.proofs.put_all.Given as goal
 
 abbrev pub invariant-loop-number : goal.invariant-loop-number

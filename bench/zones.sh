@@ -12,7 +12,7 @@ program=${1:-$folder/crates/zones/out/zones}
 
 # builds the program
 build() {
-    below='zone_model dns_name shift_key pin_core packed_node trie_model chunk_cells trie_read chunk_sets chunk_hints chunk_usage trie_space trie_write evacuate shared_cells shared_index zone_table'
+    below='zone_model dns_name shift_key pin_core packed_node trie_model chunk_cells trie_read chunk_sets chunk_hints chunk_usage trie_space trie_write evacuate shared_cells qp_multi zone_table'
     crate=$folder/crates/zones
     mkdir -p "$crate/src" "$crate/proofs"
     cp "$here/../HANDLES" "$folder/"
@@ -22,7 +22,7 @@ build() {
     cp "$here/zones.rattle" "$crate/src/main.rt"
     {
         grep -E "^($(tr ' ' '|' <<<"$below"))[ :]" "$here/../crates.txt"
-        printf '%s\n' 'zones may_wait=6: zone_model dns_name shift_key trie_model chunk_cells trie_read trie_write shared_cells shared_index zone_table'
+        printf '%s\n' 'zones may_wait=6: zone_model dns_name shift_key trie_model chunk_cells trie_read trie_write shared_cells qp_multi zone_table'
     } >"$folder/crates.txt"
 
     # the program's proofs, each under a line with its name
@@ -118,7 +118,7 @@ invariant-loop-name g l = IsPassOf l.zones.origins.items l.pass
 == put_all/Invariants.antt
 use Rattle.std.proofs.Common.{◌≡◌}
 use Rattle.std.specs.Prelude.{IsSomeAnd}
-use Rattle.shared_index.specs.Drafts.{Works}
+use Rattle.qp_multi.specs.Drafts.{Works}
 use Rattle.zones.proofs.put_all.Given as goal
 
 abbrev pub invariant-loop-item : goal.invariant-loop-item

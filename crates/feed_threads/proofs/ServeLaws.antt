@@ -9,7 +9,7 @@ use Rattle.job_script.specs.declared.commands.Command.{Command as Said}
 use Rattle.job_script.specs.declared.outcomes.Outcome.{Outcome}
 use Rattle.feed_core.specs.Feeds.{Handout, Takings, lists_of}
 use Rattle.shared_cells.specs.Views.{is_told}
-use Rattle.shared_index.specs.Passes.{Known, Learnt, known_at}
+use Rattle.qp_multi.specs.Passes.{Known, Learnt, known_at}
 use Rattle.job_commands.specs.Histories.{Setup}
 use Rattle.job_commands.specs.Steps.{Step}
 use Rattle.job_commands.specs.Commands.{Seat}

@@ -4,7 +4,7 @@ use Rattle.zone_model.specs.Names.{Name}
 use Rattle.zone_model.specs.Versions.{Version}
 use Rattle.job_model.specs.Commands.{Command}
 use Rattle.job_model.specs.Sizes.{cell_count}
-use Rattle.shared_index.specs.Openings.{room_in}
+use Rattle.qp_multi.specs.Openings.{room_in}
 use Rattle.feed_threads.specs.Feeds.{IsFedRun}
 use Rattle.feed_threads.specs.declared.zone.FedRan.{FedRan}
 use Rattle.feed_threads.specs.declared.zone.FedRan.TheVariants.{Finished, DoesNotFit}

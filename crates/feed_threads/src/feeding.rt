@@ -10,7 +10,7 @@ use dns_name::Name;
 use feed_core::{Feed, FeedSeat};
 use job_commands::{Gate, Room, ZoneLaw, close_index, run_alone, tell_after, tell_before};
 use job_script::{Command, FedOutcome, Outcomes};
-use shared_index::{Index, Named, Pass};
+use qp_multi::{Index, Named, Pass};
 use std::alloc::{AllocError, Global};
 use std::sync::Wait;
 use std::thread::{Threads, join};

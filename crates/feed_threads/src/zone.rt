@@ -7,7 +7,7 @@ use crate::feeding::{FedFinished, run_feed};
 use dns_name::Name;
 use job_commands::{Gate, ZoneLaw};
 use job_script::Command;
-use shared_index::{Blank, Index, Named, OpenRefusal};
+use qp_multi::{Blank, Index, Named, OpenRefusal};
 use std::alloc::{AllocError, Global};
 use std::marker::Brand;
 use std::sync::Wait;

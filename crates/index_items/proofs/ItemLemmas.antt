@@ -8,7 +8,7 @@ use Rattle.dns_name.proofs.ScanLemmas.{begins_once}
 use Rattle.zone_model.specs.Keys.{key_of}
 use Rattle.zone_model.specs.Records.{Entry, IsItem, item, rrset_bytes}
 use Rattle.trie_model.specs.Keys.{Entry as TrieEntry}
-use Rattle.zone_query.specs.Standing.{IsStorable, trie_entry}
+use Rattle.zone_answer.specs.Standing.{IsStorable, trie_entry}
 
 abbrev record_of : List ℕ → List ℕ → TrieEntry
 record_of key octets = record { key = key; item = octets }

@@ -3,7 +3,7 @@ ghost use Rattle.std.specs.Prelude.{◌≡◌, ◌≤◌, length, IfOk};
 ghost use Rattle.std.specs.List.{AllByRecursion};
 ghost use Rattle.zone_model.specs.Names.{Name as Labels};
 ghost use Rattle.zone_model.specs.Records.{Entry, IsItem, item_limit};
-ghost use Rattle.zone_query.specs.Standing.{IsStorable, IsVersion, trie_entry};
+ghost use Rattle.zone_answer.specs.Standing.{IsStorable, IsVersion, trie_entry};
 ghost use Rattle.job_model.specs.Sizes.{trie_entries};
 ghost use Rattle.trie_write.specs.Entries.{entry_of, entries_of_items};
 

@@ -2,15 +2,15 @@
 ghost use Rattle.std.specs.Prelude.{◌≡◌};
 ghost use Rattle.trie_read.specs.Readings.{IsHeld};
 ghost use Rattle.shared_cells.specs.Views.{pinned_image};
-ghost use Rattle.shared_index.specs.Passes.{version_seen};
-ghost use Rattle.shared_index.specs.Meanings.{Holds};
+ghost use Rattle.qp_multi.specs.Passes.{version_seen};
+ghost use Rattle.qp_multi.specs.Meanings.{Holds};
 
 use crate::buffer::Buffer;
 use crate::course::{NAMES, due, name_at, visit_of};
 use crate::items::numbered;
 use crate::readers::{Due, read_all};
 use crate::worker::{Any, Worker, pair, tag, walk};
-use shared_index::{Named, Snapshot};
+use qp_multi::{Named, Snapshot};
 use shift_key::Key;
 use std::alloc::Global;
 use std::sync::Wait;

@@ -7,7 +7,7 @@ use crate::buffer::Buffer;
 use crate::readers::{Due, read_all};
 use crate::worker::{Act, Worker, alone};
 use dns_name::Name;
-use shared_index::Named;
+use qp_multi::Named;
 use shift_key::Key;
 use std::alloc::Global;
 use std::sync::Wait;

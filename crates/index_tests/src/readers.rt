@@ -6,7 +6,7 @@ use crate::buffer::Buffer;
 use crate::crowd::has_names;
 use crate::long_items::has_item;
 use crate::worker::Worker;
-use shared_index::Named;
+use qp_multi::Named;
 use shift_key::Key;
 use std::alloc::Global;
 use std::thread::{Threads, map_vec};

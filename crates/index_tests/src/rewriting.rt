@@ -2,7 +2,7 @@
 
 use crate::items::numbered;
 use crate::worker::{Act, Worker, alone};
-use shared_index::Named;
+use qp_multi::Named;
 use std::alloc::Global;
 use std::sync::Wait;
 

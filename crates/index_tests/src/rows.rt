@@ -1,11 +1,11 @@
 //! What passes of one index do in turn: snapshots, notes, full tables, rollbacks.
 ghost use Rattle.std.specs.Prelude.{IsSomeAnd};
-ghost use Rattle.shared_index.specs.Drafts.{Works};
+ghost use Rattle.qp_multi.specs.Drafts.{Works};
 
 use crate::buffer::Buffer;
 use crate::items::numbered;
 use crate::worker::{Act, Any, Refusal, Worker, act_within, alone, pair, tag};
-use shared_index::{Full, Locked, Named, Snapshot, Transaction};
+use qp_multi::{Full, Locked, Named, Snapshot, Transaction};
 use shift_key::Key;
 use std::alloc::Global;
 use std::sync::Wait;

@@ -9,7 +9,7 @@ use crate::long_items::{exchanged, read_while_exchanged};
 use crate::rewriting::{compacted, rewritten};
 use crate::rows::{LARGE, dropped, full, held, in_turn, kept, rolled_back, told};
 use crate::worker::{Act, Any, Worker, workers};
-use shared_index::{Blank, Index, Named, Pass};
+use qp_multi::{Blank, Index, Named, Pass};
 use std::alloc::Global;
 use std::marker::Brand;
 use std::sync::Wait;

@@ -4,7 +4,7 @@ ghost use Rattle.trie_model.specs.Keys.{Rises};
 ghost use Rattle.trie_write.specs.Entries.{entries_of_items};
 
 use crate::items::numbered;
-use shared_index::{Blank, Index, Law, Locked, Named};
+use qp_multi::{Blank, Index, Law, Locked, Named};
 use std::alloc::Global;
 use std::marker::Brand;
 use std::sync::Wait;

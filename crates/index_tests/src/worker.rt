@@ -1,11 +1,11 @@
 //! A pass with its index, as tests use it.
 ghost use Rattle.std.specs.Prelude.{◌≡◌, ◌≤◌, IsSome, IsSomeAnd, All};
 ghost use Rattle.trie_read.specs.Readings.{IsHeld};
-ghost use Rattle.shared_index.specs.Drafts.{Works};
+ghost use Rattle.qp_multi.specs.Drafts.{Works};
 
 use crate::buffer::Buffer;
 use crate::items::numbered;
-use shared_index::{
+use qp_multi::{
     ChangeRefusal, Full, Index, InsertRefusal, Law, Locked, Named, Note, Pass, Receipt, Transaction,
 };
 use shift_key::Key;

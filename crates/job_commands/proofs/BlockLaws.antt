@@ -17,21 +17,21 @@ use Rattle.report_laws.specs.Changes.{AllSaid}
 use Rattle.shared_cells.specs.declared.pass.PassSeat.{PassSeat}
 use Rattle.shared_cells.specs.Views.{is_told, pass_of}
 use Rattle.trie_model.specs.Keys.{Entry}
-use Rattle.shared_index.specs.declared.meaning.Operation.{Operation}
+use Rattle.qp_multi.specs.declared.meaning.Operation.{Operation}
 use Rattle.pin_core.specs.declared.version.Spent.{Spent as NoNumber}
-use Rattle.shared_index.specs.declared.commit.Receipt.{Receipt}
-use Rattle.shared_index.specs.declared.desk.Draft.{Draft}
-use Rattle.shared_index.specs.declared.kept.Versions.{Versions}
-use Rattle.shared_index.specs.Passes.{Known, first_version, known_at, version_seen}
-use Rattle.shared_index.specs.Drafts as drafts
-use Rattle.shared_index.specs.Drafts.{Begins, IsBack, Works, working_set}
+use Rattle.qp_multi.specs.declared.commit.Receipt.{Receipt}
+use Rattle.qp_multi.specs.declared.desk.Draft.{Draft}
+use Rattle.qp_multi.specs.declared.kept.Versions.{Versions}
+use Rattle.qp_multi.specs.Passes.{Known, first_version, known_at, version_seen}
+use Rattle.qp_multi.specs.Drafts as drafts
+use Rattle.qp_multi.specs.Drafts.{Begins, IsBack, Works, working_set}
 use Rattle.chunk_usage.specs.Keeping.{kept_versions}
-use Rattle.shared_index.specs.Keepings.{versions_in}
+use Rattle.qp_multi.specs.Keepings.{versions_in}
 use Rattle.zone_edit.specs.Stores.{WorksOnSome, EditsOne}
 use Rattle.zone_edit.specs.Blocks.{Edited, Executes, most_done}
 use Rattle.zone_edit.specs.declared.applying.Halt.{Halt}
 use Rattle.zone_edit.specs.declared.applying.Halt.TheVariants as halts
-use Rattle.shared_index.proofs.WorkLaws.{Both, both}
+use Rattle.qp_multi.proofs.WorkLaws.{Both, both}
 use Rattle.zone_edit.proofs.EditLaws.{edits_some, some_weaker}
 use Rattle.job_commands.specs.Histories.{IsLawful, Setup, StandsAs}
 use Rattle.job_commands.specs.Commands.{Transacts, Accepts, BlockRan, BlockWants, OpensAt, StoppedBy}

@@ -8,9 +8,9 @@ use Rattle.pin_core.proofs.Lists.{contains_cases}
 use Rattle.shared_cells.specs.declared.view.PassView.{PassView}
 use Rattle.shared_cells.specs.History.{StartsWith, entries_by}
 use Rattle.shared_cells.specs.Views.{number_of}
-use Rattle.shared_index.specs.declared.meaning.Operation.{Operation}
-use Rattle.shared_index.specs.Passes.{Known, pinned_in}
-use Rattle.shared_index.specs.Closings.{AllSeen, Includes, AreAll, IsCommitOf, IsNamingOf, Ends}
+use Rattle.qp_multi.specs.declared.meaning.Operation.{Operation}
+use Rattle.qp_multi.specs.Passes.{Known, pinned_in}
+use Rattle.qp_multi.specs.Closings.{AllSeen, Includes, AreAll, IsCommitOf, IsNamingOf, Ends}
 use Rattle.job_commands.specs.Histories.{Setup, Commit}
 use Rattle.job_commands.specs.Closings.{Some', AreApart, Worker, second_view, workers_views, views_of, numbers_in, IsPass, Closed, MainSees}
 use Rattle.job_commands.proofs.HistoryLaws.{by-append, begins_more}

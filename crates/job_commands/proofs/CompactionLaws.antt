@@ -11,12 +11,12 @@ use Rattle.job_script.specs.Outcomes.{ended_view}
 use Rattle.shared_cells.specs.declared.pass.PassSeat.{PassSeat}
 use Rattle.shared_cells.specs.Views.{is_told}
 use Rattle.trie_model.specs.Keys.{Entry}
-use Rattle.shared_index.specs.declared.commit.Receipt.{Receipt}
-use Rattle.shared_index.specs.declared.desk.Draft.{Draft}
-use Rattle.shared_index.specs.declared.meaning.Operation.{Operation}
-use Rattle.shared_index.specs.Compactions.{Compacts, IsLast}
-use Rattle.shared_index.specs.Keepings.{GoesOn}
-use Rattle.shared_index.specs.Passes.{Known, known_at, first_version}
+use Rattle.qp_multi.specs.declared.commit.Receipt.{Receipt}
+use Rattle.qp_multi.specs.declared.desk.Draft.{Draft}
+use Rattle.qp_multi.specs.declared.meaning.Operation.{Operation}
+use Rattle.qp_multi.specs.Compactions.{Compacts, IsLast}
+use Rattle.qp_multi.specs.Keepings.{GoesOn}
+use Rattle.qp_multi.specs.Passes.{Known, known_at, first_version}
 use Rattle.zone_edit.specs.Blocks.{Edited}
 use Rattle.job_commands.specs.Histories.{IsLawful, Setup}
 use Rattle.job_commands.specs.Commands.{BlockRan}

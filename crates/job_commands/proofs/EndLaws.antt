@@ -13,10 +13,10 @@ use Rattle.shared_cells.specs.declared.view.PassView.{PassView}
 use Rattle.shared_cells.specs.declared.view.Progress.TheVariants as progress
 use Rattle.shared_cells.specs.History.{StartsWith, version_after}
 use Rattle.shared_cells.specs.Views.{number_of, is_told, with_pinned, with_progress}
-use Rattle.shared_index.specs.declared.meaning.Operation.{Operation}
-use Rattle.shared_index.specs.Operations.{applied}
-use Rattle.shared_index.specs.Passes.{Known, Pinned, first_version, version_seen}
-use Rattle.shared_index.specs.Closings.{AllSeen, AreAll, Ends}
+use Rattle.qp_multi.specs.declared.meaning.Operation.{Operation}
+use Rattle.qp_multi.specs.Operations.{applied}
+use Rattle.qp_multi.specs.Passes.{Known, Pinned, first_version, version_seen}
+use Rattle.qp_multi.specs.Closings.{AllSeen, AreAll, Ends}
 use Rattle.job_commands.specs.Histories.{Setup, Entries, IsLawful, StandsAs}
 use Rattle.job_commands.specs.Closings.{Worker, workers_views, views_of, numbers_in, commands_in, MainSees, Gathers}
 use Rattle.job_commands.specs.Runs.{IsRun}

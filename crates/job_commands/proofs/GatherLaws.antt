@@ -10,7 +10,7 @@ use Rattle.job_script.specs.declared.outcomes.Outcomes.{Outcomes}
 use Rattle.shared_cells.specs.declared.view.TableSize.{TableSize}
 use Rattle.shared_cells.specs.History.{StartsWith}
 use Rattle.shared_cells.specs.Views.{number_of, is_told}
-use Rattle.shared_index.specs.Passes.{Known, Learnt}
+use Rattle.qp_multi.specs.Passes.{Known, Learnt}
 use Rattle.job_commands.specs.Histories.{Setup, Entries}
 use Rattle.job_commands.specs.Commands.{IsIndex, IsSetup}
 use Rattle.job_commands.specs.Works.{IsNew, AreNew, WorkerRan, ended, only}

@@ -7,9 +7,9 @@ use Rattle.zone_model.specs.Versions.{Version}
 use Rattle.shared_cells.specs.declared.view.Naming.{Naming}
 use Rattle.shared_cells.specs.History.{StartsWith, IsPartOf, OpeningFits, entries_by, entry_of, version_after}
 use Rattle.shared_cells.specs.Views.{is_told}
-use Rattle.shared_index.specs.declared.meaning.Operation.{Operation}
-use Rattle.shared_index.specs.Operations.{applied}
-use Rattle.shared_index.specs.Passes.{first_version}
+use Rattle.qp_multi.specs.declared.meaning.Operation.{Operation}
+use Rattle.qp_multi.specs.Operations.{applied}
+use Rattle.qp_multi.specs.Passes.{first_version}
 use Rattle.job_commands.specs.Histories.{Setup, Commit, Entries, Sighting, index_at, StandsAs, AreVersions, Deeds, Explains, times_by}
 
 -- ---- beginnings

@@ -7,7 +7,7 @@ use Rattle.std.proofs.lemmas.List.Elements.{Contains-append_left, Contains-appen
 use Rattle.std.specs.List.{AllByRecursion}
 use Rattle.zone_model.specs.Versions.{Version}
 use Rattle.zone_model.specs.Transactions.{whole}
-use Rattle.zone_query.specs.Standing.{trie_entry}
+use Rattle.zone_answer.specs.Standing.{trie_entry}
 use Rattle.trie_model.specs.Shape.{nodes, keys_of}
 use Rattle.job_model.specs.Sizes.{node_count}
 use Rattle.job_model.specs.Outcomes.{Pair, is_committed, made, asked_by, asked_at, accepted_or, times_made, version_at, AllAlong, all_pairs, shown_in}
@@ -15,8 +15,8 @@ use Rattle.job_script.specs.Outcomes.{pairs_of, job_pairs, versions_made, AllTel
 use Rattle.shared_cells.specs.declared.view.Naming.{Naming}
 use Rattle.shared_cells.specs.History.{StartsWith, entries_by, version_after}
 use Rattle.shared_cells.specs.Views.{number_of}
-use Rattle.shared_index.specs.Operations.{applied}
-use Rattle.shared_index.specs.Passes.{Known}
+use Rattle.qp_multi.specs.Operations.{applied}
+use Rattle.qp_multi.specs.Passes.{Known}
 use Rattle.job_commands.specs.Histories.{Setup, Commit, Entries, index_at, StandsAs, AreVersions, AreAsked, Deeds, Explains, judged_by, times_by}
 use Rattle.job_commands.specs.Works.{Replayed}
 use Rattle.job_commands.specs.Closings.{Some', AreApart, Worker, second_view, workers_views, views_of, numbers_in, commands_in, outcomes_in, IsPass, Closed, MainSees}

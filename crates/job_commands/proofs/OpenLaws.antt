@@ -3,8 +3,8 @@ use Rattle.std.proofs.Common.{◌≡◌, ◌∙◌, ℕ, List, [], ◌∷◌, ma
 use Rattle.std.specs.Prelude.{IsSome}
 use Rattle.std.specs.List.{All, AllByRecursion}
 use Rattle.zone_model.specs.Names.{Name}
-use Rattle.shared_index.specs.Passes.{Known, commits_in, first_version, pinned_in, known_at}
-use Rattle.shared_index.specs.Openings.{SeesFirst}
+use Rattle.qp_multi.specs.Passes.{Known, commits_in, first_version, pinned_in, known_at}
+use Rattle.qp_multi.specs.Openings.{SeesFirst}
 use Rattle.job_commands.specs.Histories.{BeginsAt, Entries, IsZone}
 use Rattle.job_commands.specs.Commands.{OpensAt, Seat}
 use Rattle.job_commands.specs.Works.{IsNew, AreNew}

@@ -4,7 +4,7 @@ use Rattle.std.specs.Prelude.{IsSome}
 use Rattle.zone_model.specs.Names.{Name}
 use Rattle.zone_model.specs.Versions.{Version}
 use Rattle.pin_core.specs.declared.kept.CellAt.{CellAt}
-use Rattle.zone_query.specs.Standing.{Shows, ShowsSome}
+use Rattle.zone_answer.specs.Standing.{Shows, ShowsSome}
 use Rattle.job_model.specs.declared.Question.{Question}
 use Rattle.job_model.specs.Replies.{reply_of}
 use Rattle.job_script.specs.Outcomes.{Replies, ended_view}
@@ -13,9 +13,9 @@ use Rattle.shared_cells.specs.declared.view.PassView.{PassView}
 use Rattle.shared_cells.specs.declared.view.Progress.TheVariants as progress
 use Rattle.shared_cells.specs.Views.{number_of, is_told, with_pinned, with_progress}
 use Rattle.shared_cells.specs.History.{IsPartOf}
-use Rattle.shared_index.specs.declared.meaning.Operation.{Operation}
-use Rattle.shared_index.specs.Meanings.{Holds}
-use Rattle.shared_index.specs.Passes.{Known, known_at, version_seen, Pinned}
+use Rattle.qp_multi.specs.declared.meaning.Operation.{Operation}
+use Rattle.qp_multi.specs.Meanings.{Holds}
+use Rattle.qp_multi.specs.Passes.{Known, known_at, version_seen, Pinned}
 use Rattle.job_model.specs.Outcomes.{Shown}
 use Rattle.job_commands.specs.Histories.{Entries, IsLawful, StandsAs}
 use Rattle.job_commands.specs.Commands.{Asked, Seat}

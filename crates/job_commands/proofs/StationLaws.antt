@@ -13,7 +13,7 @@ use Rattle.job_script.specs.declared.commands.Command.{Command as Said}
 use Rattle.job_script.specs.declared.outcomes.Told.TheVariants.{Compacted}
 use Rattle.job_script.specs.declared.outcomes.Outcome.{Outcome}
 use Rattle.shared_cells.specs.Views.{is_told}
-use Rattle.shared_index.specs.Passes.{known_at, first_version}
+use Rattle.qp_multi.specs.Passes.{known_at, first_version}
 use Rattle.job_commands.specs.Histories.{Setup}
 use Rattle.job_commands.specs.Commands.{Asked, BlockRan, Seat}
 use Rattle.job_commands.specs.Steps.{Station, IsUnder, Moved, Step}

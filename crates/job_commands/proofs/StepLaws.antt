@@ -20,9 +20,9 @@ use Rattle.job_script.specs.declared.outcomes.Outcome.{Outcome}
 use Rattle.shared_cells.specs.declared.view.PassView.{PassView}
 use Rattle.shared_cells.specs.History.{StartsWith, IsPartOf, version_after}
 use Rattle.shared_cells.specs.Views.{is_told, with_pinned}
-use Rattle.shared_index.specs.declared.meaning.Operation.{Operation}
-use Rattle.shared_index.specs.Operations.{applied}
-use Rattle.shared_index.specs.Passes.{Known, first_version, version_seen}
+use Rattle.qp_multi.specs.declared.meaning.Operation.{Operation}
+use Rattle.qp_multi.specs.Operations.{applied}
+use Rattle.qp_multi.specs.Passes.{Known, first_version, version_seen}
 use Rattle.job_commands.specs.Histories.{Setup, Entries, StandsAs, AreVersions, Deeds, Explains, judged_by}
 use Rattle.job_commands.specs.Commands.{Asked, Transacts, BlockRan}
 use Rattle.job_commands.specs.Steps.{Station, HoldsLast, IsSight, IsUnder, Stays, Writes, Moved, Step}

@@ -23,23 +23,23 @@ use Rattle.shared_cells.specs.declared.view.PassView.{PassView}
 use Rattle.shared_cells.specs.History.{StartsWith, IsPartOf, OpeningFits, entry_of, version_after}
 use Rattle.shared_cells.specs.Views.{is_told, pass_of}
 use Rattle.shared_cells.specs.Steps.{IsNamed}
-use Rattle.shared_index.specs.declared.meaning.Operation.{Operation}
-use Rattle.shared_index.specs.declared.desk.Draft.{Draft}
-use Rattle.shared_index.specs.declared.kept.Versions.{Versions}
-use Rattle.shared_index.specs.Operations.{applied}
-use Rattle.shared_index.specs.Passes.{Known, first_version, version_seen}
-use Rattle.shared_index.specs.Drafts as drafts
-use Rattle.shared_index.specs.Drafts.{Begins, Works, base_of, working_set}
-use Rattle.shared_index.specs.Fulls.{version_at}
-use Rattle.shared_index.specs.Fulls as fulls
-use Rattle.shared_index.specs.Keepings.{GoesOn, versions_in}
+use Rattle.qp_multi.specs.declared.meaning.Operation.{Operation}
+use Rattle.qp_multi.specs.declared.desk.Draft.{Draft}
+use Rattle.qp_multi.specs.declared.kept.Versions.{Versions}
+use Rattle.qp_multi.specs.Operations.{applied}
+use Rattle.qp_multi.specs.Passes.{Known, first_version, version_seen}
+use Rattle.qp_multi.specs.Drafts as drafts
+use Rattle.qp_multi.specs.Drafts.{Begins, Works, base_of, working_set}
+use Rattle.qp_multi.specs.Fulls.{version_at}
+use Rattle.qp_multi.specs.Fulls as fulls
+use Rattle.qp_multi.specs.Keepings.{GoesOn, versions_in}
 use Rattle.zone_edit.specs.Stores.{WorksOn, WorksOnSome}
 use Rattle.zone_edit.specs.Blocks.{Executes, IsFullAt}
 use Rattle.zone_edit.proofs.ApplyLaws.{next_applied}
 use Rattle.trie_model.specs.Capacity.{is_roomy}
 use Rattle.chunk_usage.specs.Keeping.{kept_versions}
 use Rattle.pin_core.proofs.Lists.{contains_cases}
-use Rattle.shared_index.specs.Capacity.{BoundsHistory}
+use Rattle.qp_multi.specs.Capacity.{BoundsHistory}
 use Rattle.zone_edit.specs.declared.applying.Halt.TheVariants as halts
 use Rattle.job_commands.specs.Histories.{Setup, BeginsAt, Commit, Entries, IsLawful, StandsAs, AreVersions, Deeds, Explains, index_at, judged_by}
 use Rattle.job_commands.specs.Commands.{Accepts, Commits, OpensAt}

@@ -6,7 +6,7 @@ use Rattle.job_model.specs.Sizes.{trie_entries}
 use Rattle.report_laws.proofs.FirstLemmas.{zone_first}
 use Rattle.shared_cells.specs.History.{IsPartOf}
 use Rattle.shared_cells.specs.Views.{is_told}
-use Rattle.shared_index.specs.Passes.{Known}
+use Rattle.qp_multi.specs.Passes.{Known}
 use Rattle.job_commands.specs.Histories.{BeginsAt, Entries, IsLawful, IsZone}
 use Rattle.job_commands.specs.Commands.{OpensAt}
 use Rattle.job_commands.proofs.HistoryLaws.{opened_same}
@@ -18,7 +18,7 @@ use Rattle.zone_model.specs.Keys.{key_of}
 use Rattle.zone_model.specs.Versions.{Version}
 use Rattle.trie_model.specs.Keys.{Entry, Less, InList, Rises}
 use Rattle.trie_model.proofs.AboveLaws.{cmp_before}
-use Rattle.zone_query.specs.Standing.{IsStorable}
+use Rattle.zone_answer.specs.Standing.{IsStorable}
 
 -- its first name is its origin
 pub zone_begins : (origin : Name) (es : Entries) → IsZone origin es → BeginsAt origin es

@@ -7,8 +7,8 @@ use Rattle.shared_cells.specs.declared.view.Naming.{Naming}
 use Rattle.shared_cells.specs.declared.view.PassView.{PassView}
 use Rattle.shared_cells.specs.History.{StartsWith, entries_by}
 use Rattle.shared_cells.specs.Views.{number_of}
-use Rattle.shared_index.specs.declared.meaning.Operation.{Operation}
-use Rattle.shared_index.specs.Passes.{Known, first_version}
+use Rattle.qp_multi.specs.declared.meaning.Operation.{Operation}
+use Rattle.qp_multi.specs.Passes.{Known, first_version}
 use Rattle.job_commands.specs.Histories.{Setup, Commit}
 use Rattle.job_commands.specs.Steps.{Station}
 use Rattle.job_commands.specs.Works.{Numbers, WorkerRan}

@@ -18,14 +18,14 @@ use Rattle.shared_cells.specs.declared.view.PassView.{PassView}
 use Rattle.shared_cells.specs.declared.pass.PassSeat.{PassSeat}
 use Rattle.shared_cells.specs.History.{StartsWith, IsPartOf, entries_by, entry_of, version_after}
 use Rattle.shared_cells.specs.Views.{with_pinned}
-use Rattle.shared_index.specs.declared.index.Index.{Index}
-use Rattle.shared_index.specs.declared.meaning.Named.{Ghosts}
-use Rattle.shared_index.specs.declared.meaning.Operation.{Operation}
-use Rattle.shared_index.specs.declared.kept.Versions.{Versions}
-use Rattle.shared_index.specs.declared.pass.Pass.{Pass}
-use Rattle.shared_index.specs.Keepings.{versions_in}
-use Rattle.shared_index.specs.Operations.{applied}
-use Rattle.shared_index.specs.Passes.{Known, first_version, known_at, version_seen}
+use Rattle.qp_multi.specs.declared.index.Index.{Index}
+use Rattle.qp_multi.specs.declared.meaning.Named.{Ghosts}
+use Rattle.qp_multi.specs.declared.meaning.Operation.{Operation}
+use Rattle.qp_multi.specs.declared.kept.Versions.{Versions}
+use Rattle.qp_multi.specs.declared.pass.Pass.{Pass}
+use Rattle.qp_multi.specs.Keepings.{versions_in}
+use Rattle.qp_multi.specs.Operations.{applied}
+use Rattle.qp_multi.specs.Passes.{Known, first_version, known_at, version_seen}
 use Rattle.zone_edit.specs.declared.applying.Halt.{Halt}
 use Rattle.zone_edit.specs.declared.applying.Halt.TheVariants as halts
 use Rattle.job_commands.specs.Histories.{Setup, Commit as Commit', BeginsAt, StandsAs, AreVersions, Deeds, Explains, judged_by}

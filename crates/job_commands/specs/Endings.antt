@@ -3,8 +3,8 @@ use Rattle.std.specs.Prelude.{◌≡◌, ℕ, List, length}
 use Rattle.zone_model.specs.Versions.{Version}
 use Rattle.job_model.specs.Commands.{Command}
 use Rattle.job_script.specs.declared.outcomes.Outcomes.{Outcomes}
-use Rattle.shared_index.specs.Passes.{Known}
-use Rattle.shared_index.specs.Closings.{AreAll}
+use Rattle.qp_multi.specs.Passes.{Known}
+use Rattle.qp_multi.specs.Closings.{AreAll}
 use Rattle.job_commands.specs.declared.closing.Last.{Last}
 use Rattle.job_commands.specs.Histories.{Setup, StandsAs}
 use Rattle.job_commands.specs.Closings.{Gathers}

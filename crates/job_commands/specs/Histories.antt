@@ -5,7 +5,7 @@ use Rattle.zone_model.specs.Keys.{key_of}
 use Rattle.zone_model.specs.Versions.{Version}
 use Rattle.zone_model.specs.Transactions.{Transaction}
 use Rattle.trie_model.specs.Keys as trie
-use Rattle.zone_query.specs.Standing.{IsVersion}
+use Rattle.zone_answer.specs.Standing.{IsVersion}
 use Rattle.master_file.specs.Rows.{CanBeDumped}
 use Rattle.job_model.specs.Sizes.{trie_entries}
 use Rattle.job_model.specs.Outcomes.{Setting}
@@ -13,8 +13,8 @@ use Rattle.shared_cells.specs.declared.view.Entry.{Entry as Commit'}
 use Rattle.shared_cells.specs.declared.view.Naming.{Naming}
 use Rattle.shared_cells.specs.declared.view.Seen.{Seen}
 use Rattle.shared_cells.specs.History.{StartsWith, version_after}
-use Rattle.shared_index.specs.declared.meaning.Operation.{Operation}
-use Rattle.shared_index.specs.Operations.{applied}
+use Rattle.qp_multi.specs.declared.meaning.Operation.{Operation}
+use Rattle.qp_multi.specs.Operations.{applied}
 
 abbrev pub Entries : Type 0
 Entries = List trie.Entry

@@ -1,7 +1,7 @@
 -- The words that this crate's clauses cite, and those of the crates that run its commands in threads, passed on from one place. Declares nothing.
 pub use Rattle.zone_model.specs.Dumps.{all_rows}
-pub use Rattle.zone_query.specs.Around.{find}
-pub use Rattle.zone_query.specs.Prelude.{Shows, ShowsSome, Version, most_item_octets}
+pub use Rattle.zone_answer.specs.Around.{find}
+pub use Rattle.zone_answer.specs.Prelude.{Shows, ShowsSome, Version, most_item_octets}
 pub use Rattle.job_model.specs.Outcomes.{Committed, Refused, Spent as NoNumber}
 pub use Rattle.job_model.specs.Replies.{found_text, reply_of, reply_text, size_text}
 pub use Rattle.job_model.specs.Sizes.{node_count}
@@ -10,9 +10,9 @@ pub use Rattle.job_script.specs.Prelude.{NeedsNoSnapshot, command_view, ended_vi
 pub use Rattle.job_script.specs.Views.{asked_view}
 pub use Rattle.report_laws.specs.Prelude.{AllAsked, AllSaid}
 pub use Rattle.trie_write.specs.Entries.{entries_of_items}
-pub use Rattle.shared_index.specs.Closings.{AreAll}
-pub use Rattle.shared_index.specs.Passes.{Learnt}
-pub use Rattle.shared_index.specs.Prelude.{first_version, known_at, versions_in}
+pub use Rattle.qp_multi.specs.Closings.{AreAll}
+pub use Rattle.qp_multi.specs.Passes.{Learnt}
+pub use Rattle.qp_multi.specs.Prelude.{first_version, known_at, versions_in}
 pub use Rattle.zone_edit.specs.Blocks.{Edited}
 pub use Rattle.zone_edit.specs.Stores.{IsOfTheSame, WorksOnSome}
 pub use Rattle.job_commands.specs.Calls.{AllHeard, AreHeard, IsHeard}

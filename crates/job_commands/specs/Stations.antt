@@ -4,9 +4,9 @@ use Rattle.std.specs.Option.{is_some}
 use Rattle.trie_model.specs.Keys as trie
 use Rattle.shared_cells.specs.declared.pinned.PinnedSeat.{PinnedSeat}
 use Rattle.shared_cells.specs.Views.{pinned_image, spent_view}
-use Rattle.shared_index.specs.declared.meaning.Operation.{Operation}
-use Rattle.shared_index.specs.Meanings.{Holds}
-use Rattle.shared_index.specs.Passes.{Known, first_version, known_at, version_seen}
+use Rattle.qp_multi.specs.declared.meaning.Operation.{Operation}
+use Rattle.qp_multi.specs.Meanings.{Holds}
+use Rattle.qp_multi.specs.Passes.{Known, first_version, known_at, version_seen}
 use Rattle.job_commands.specs.Commands.{Seat}
 use Rattle.job_commands.specs.Histories.{IsLawful}
 use Rattle.job_commands.specs.Steps.{Station}

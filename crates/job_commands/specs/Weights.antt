@@ -3,7 +3,7 @@ use Rattle.std.specs.Prelude.{◌≡◌}
 use Rattle.job_model.specs.declared.Weight.{Weight}
 use Rattle.job_model.specs.declared.Weight.TheVariants.{Light, Heavy}
 use Rattle.chunk_usage.specs.Keeping.{full}
-use Rattle.shared_index.specs.declared.desk.Draft.{Draft}
+use Rattle.qp_multi.specs.declared.desk.Draft.{Draft}
 
 -- what is written goes on in the bump chunk, or begins a chunk of its own
 abbrev pub IsOfWeight : Weight → Draft → Type 0

@@ -9,8 +9,8 @@ use Rattle.job_script.specs.Outcomes.{pairs_of, EachTells}
 use Rattle.job_script.specs.declared.outcomes.Outcome.{Outcome}
 use Rattle.shared_cells.specs.declared.view.PassView.{PassView}
 use Rattle.shared_cells.specs.History.{StartsWith, entries_by}
-use Rattle.shared_index.specs.declared.meaning.Operation.{Operation}
-use Rattle.shared_index.specs.Passes.{Known, first_version}
+use Rattle.qp_multi.specs.declared.meaning.Operation.{Operation}
+use Rattle.qp_multi.specs.Passes.{Known, first_version}
 use Rattle.job_commands.specs.Histories.{Setup, Commit, Entries, index_at, StandsAs, AreVersions, Deeds, Explains, judged_by, times_by}
 use Rattle.job_commands.specs.Steps.{Station}
 

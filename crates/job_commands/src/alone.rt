@@ -10,7 +10,7 @@ use crate::room::Room;
 use crate::transactions::run_block;
 use dns_name::Name;
 use job_script::{Command, Outcome};
-use shared_index::{Index, Named, Pass};
+use qp_multi::{Index, Named, Pass};
 use std::alloc::{AllocError, Global};
 use std::sync::Wait;
 

@@ -8,7 +8,7 @@ use crate::room::Room;
 use dns_name::Name;
 use job_model::Question;
 use job_script::{Outcome, Told};
-use shared_index::{Index, Named, Pass};
+use qp_multi::{Index, Named, Pass};
 use std::alloc::{AllocError, Global};
 use trie_read::Reading;
 

@@ -3,7 +3,7 @@ ghost use Rattle.std.specs.Prelude.{◌≡◌, All, IsSome, IfOk, map};
 ghost use Rattle.job_commands.specs.Prelude.{known_at, EndsRun};
 
 use crate::law::ZoneLaw;
-use shared_index::{Index, Named, Pass};
+use qp_multi::{Index, Named, Pass};
 use std::alloc::AllocError;
 use trie_read::Reading;
 

@@ -5,7 +5,7 @@ ghost use Rattle.job_commands.specs.Prelude.{CompactionRan, MovedAt, known_at};
 
 use crate::law::ZoneLaw;
 use job_script::{Cause, Outcome, Told};
-use shared_index::{Index, Named, Pass, Receipt, Spent};
+use qp_multi::{Index, Named, Pass, Receipt, Spent};
 use std::sync::Wait;
 
 // How a compaction ended.

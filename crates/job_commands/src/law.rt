@@ -1,5 +1,5 @@
 //! Which versions the index of a zone may have.
-use shared_index::Law;
+use qp_multi::Law;
 
 /// Each version is one of a zone, whose origin is the opening version's first name: it has an SOA there alone, names at or under
 /// it, and an alias by itself.

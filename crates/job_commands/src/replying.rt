@@ -9,8 +9,8 @@ use job_model::Question;
 use job_script::{PrintedRows, push_answer, push_found, push_list, push_rows, push_size};
 use std::alloc::{AllocError, Global};
 use trie_read::Reading;
+use zone_answer::{Walker, answer_into, back, find, walk};
 use zone_dump::dump_text;
-use zone_query::{Walker, answer_into, back, find, walk};
 
 // Pushes all records of a version.
 fn push_all<V: Reading>(

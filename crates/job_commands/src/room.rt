@@ -2,8 +2,8 @@
 
 use job_script::PrintedRows;
 use std::alloc::{AllocError, Global};
+use zone_answer::Walker;
 use zone_edit::ItemBuffers;
-use zone_query::Walker;
 
 /// Room for items, for a way through a trie, for an answer's records, and for a reply that is printed. One value serves all
 /// commands of a worker.

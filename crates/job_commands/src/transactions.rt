@@ -7,7 +7,7 @@ use crate::law::ZoneLaw;
 use dns_name::Name;
 use job_model::{Ending, Weight};
 use job_script::{Block, Cause, Outcome, Told};
-use shared_index::{Index, Locked, Named, Pass, Receipt, Spent, Transaction, Versions};
+use qp_multi::{Index, Locked, Named, Pass, Receipt, Spent, Transaction, Versions};
 use std::alloc::{AllocError, Global};
 use std::sync::Wait;
 use zone_edit::{Halt, ItemBuffers, execute};

@@ -8,8 +8,8 @@ use Rattle.zone_model.specs.MasterFile.{name_word, type_word}
 use Rattle.zone_model.specs.Rows.{Row}
 use Rattle.zone_model.specs.Dumps.{all_rows}
 use Rattle.zone_model.specs.Versions.{Version}
-use Rattle.zone_query.specs.Answers.{Answer, answer}
-use Rattle.zone_query.specs.Around.{Found, find, walk, back}
+use Rattle.zone_answer.specs.Answers.{Answer, answer}
+use Rattle.zone_answer.specs.Around.{Found, find, walk, back}
 use Rattle.job_model.specs.Sizes.{node_count}
 use Rattle.job_model.specs.declared.Question.{Question}
 use Rattle.job_model.specs.declared.Question.TheVariants.{Get, Find, Walk, Back, Stat, Dump}

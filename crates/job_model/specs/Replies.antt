@@ -6,10 +6,10 @@ use Rattle.zone_model.specs.Names.{Name}
 use Rattle.zone_model.specs.NameText.{text_of}
 use Rattle.zone_model.specs.Rows.{Row, row_text}
 use Rattle.zone_model.specs.Versions.{Version}
-use Rattle.zone_query.specs.Answers.{Answer}
-use Rattle.zone_query.specs.declared.kind.Kind.{Kind}
-use Rattle.zone_query.specs.declared.kind.Kind.TheVariants.{Answered, Nodata, Nxdomain, Referral, Outside}
-use Rattle.zone_query.specs.Around.{Found}
+use Rattle.zone_answer.specs.Answers.{Answer}
+use Rattle.zone_answer.specs.declared.kind.Kind.{Kind}
+use Rattle.zone_answer.specs.declared.kind.Kind.TheVariants.{Answered, Nodata, Nxdomain, Referral, Outside}
+use Rattle.zone_answer.specs.Around.{Found}
 use Rattle.trie_read.specs.declared.found.Kind.{Kind as FoundKind}
 use Rattle.trie_read.specs.declared.found.Kind.TheVariants as there
 use Rattle.job_model.specs.declared.Question.{Question}

@@ -3,7 +3,7 @@ use Rattle.std.specs.Prelude.{ℕ, List, map}
 use Rattle.zone_model.specs.Versions.{Version}
 use Rattle.trie_model.specs.Keys as trie
 use Rattle.trie_model.specs.Shape.{nodes, keys_of, cells}
-use Rattle.zone_query.specs.Standing.{trie_entry}
+use Rattle.zone_answer.specs.Standing.{trie_entry}
 
 abbrev pub trie_entries : Version → List trie.Entry
 trie_entries version = map trie_entry version

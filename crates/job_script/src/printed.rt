@@ -6,7 +6,7 @@ use crate::replies::push_kind;
 use dns_name::Name;
 use rr_data::{SetView, push_record};
 use std::alloc::{AllocError, Global};
-use zone_query::{Kind, RowSink};
+use zone_answer::{Kind, RowSink};
 
 // The records of an RRset, each a line of a master file.
 fn push_set(out: &mut Vec<u8>, owner: &Name, set: &SetView<'_>) -> Result<(), AllocError>

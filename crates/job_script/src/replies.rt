@@ -7,7 +7,7 @@ use crate::marks::push_marked;
 use dns_name::Name;
 use std::alloc::AllocError;
 use trie_read::Kind as Presence;
-use zone_query::Found;
+use zone_answer::Found;
 use zone_text::push_decimal;
 
 /// Pushes the kind of a reply, and its count where it isn't 0.

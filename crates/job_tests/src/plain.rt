@@ -11,7 +11,7 @@ use std::alloc::Global;
 use std::test::Fail;
 use trie_read::CellReading;
 use trie_write::build;
-use zone_query::{Answer, Kind, answer};
+use zone_answer::{Answer, Kind, answer};
 
 /// A zone with an alias.
 const ZONE: &[u8] =

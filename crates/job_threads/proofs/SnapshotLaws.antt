@@ -9,16 +9,16 @@ use Rattle.job_script.specs.declared.outcomes.Outcome.{Outcome}
 use Rattle.shared_cells.specs.declared.pinned.PinnedSeat.{PinnedSeat}
 use Rattle.shared_cells.specs.History.{StartsWith, IsPartOf}
 use Rattle.shared_cells.specs.Views.{is_told, pinned_image, pinned_version, pinned_root}
-use Rattle.shared_index.specs.declared.meaning.Operation.{Operation}
-use Rattle.shared_index.specs.Passes.{Known, first_version, version_seen, Pinned}
+use Rattle.qp_multi.specs.declared.meaning.Operation.{Operation}
+use Rattle.qp_multi.specs.Passes.{Known, first_version, version_seen, Pinned}
 use Rattle.job_commands.specs.Histories.{Setup, StandsAs, IsLawful}
 use Rattle.job_threads.specs.Snapshots.{Held, AskedHeld, Released}
 use Rattle.job_commands.specs.Steps.{Station, HoldsLast, IsSight, IsUnder, Step}
 use Rattle.job_commands.proofs.HistoryLaws.{begins_length, opened_same, part_same}
 use Rattle.job_commands.proofs.ShowLaws.{shown_some}
 use Rattle.job_commands.proofs.StepLaws.{shows_at, shown_alone, stays_same, stays_pinned, writes_nothing, shown_plain, seen_stands}
-use Rattle.zone_query.specs.Standing.{ShowsSome}
-use Rattle.shared_index.specs.Meanings.{Holds}
+use Rattle.zone_answer.specs.Standing.{ShowsSome}
+use Rattle.qp_multi.specs.Meanings.{Holds}
 use Rattle.job_commands.specs.Stations.{IsHeld, Pinned as PinnedSeat'}
 
 -- ---- a pinned seat

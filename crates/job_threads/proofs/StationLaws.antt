@@ -5,7 +5,7 @@ use Rattle.std.specs.Option.{option_map}
 use Rattle.job_model.specs.declared.Question.{Question}
 use Rattle.job_model.specs.Commands.{Hold, AskHeld, Release}
 use Rattle.job_script.specs.declared.outcomes.Outcome.{Outcome}
-use Rattle.shared_index.specs.Passes.{known_at, first_version}
+use Rattle.qp_multi.specs.Passes.{known_at, first_version}
 use Rattle.job_commands.specs.Histories.{Setup}
 use Rattle.job_commands.specs.Commands.{Seat}
 use Rattle.job_threads.specs.Snapshots.{Held, AskedHeld, Released}

@@ -6,7 +6,7 @@ use Rattle.job_script.specs.Views.{command_view}
 use Rattle.job_script.specs.declared.commands.Command.{Command as Said}
 use Rattle.job_script.specs.declared.outcomes.Outcome.{Outcome as Told_outcome}
 use Rattle.shared_cells.specs.Views.{is_told}
-use Rattle.shared_index.specs.Passes.{Known}
+use Rattle.qp_multi.specs.Passes.{Known}
 use Rattle.job_commands.specs.Histories.{Setup}
 use Rattle.job_commands.specs.Steps.{Station, Step}
 use Rattle.job_commands.specs.Works.{Numbers, WorkerRan, ended}

@@ -8,8 +8,8 @@ use Rattle.zone_model.specs.declared.Style.{Style}
 use Rattle.job_model.specs.Sizes.{cell_count}
 use Rattle.shared_cells.specs.History.{IsPartOf}
 use Rattle.shared_cells.specs.Views.{with_pinned}
-use Rattle.shared_index.specs.Openings.{room_in}
-use Rattle.shared_index.specs.Passes.{Known, version_seen}
+use Rattle.qp_multi.specs.Openings.{room_in}
+use Rattle.qp_multi.specs.Passes.{Known, version_seen}
 use Rattle.zone_dump.specs.declared.refusal.DumpRefusal.{DumpRefusal}
 use Rattle.job_commands.specs.Histories.{Entries, StandsAs}
 use Rattle.job_threads.specs.declared.dumping.Dumped.{Dumped}

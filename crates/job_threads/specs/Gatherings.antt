@@ -1,8 +1,8 @@
 -- What workers have run, when their passes are back.
 use Rattle.std.specs.Prelude.{List}
 use Rattle.job_model.specs.Commands.{Command}
-use Rattle.shared_index.specs.declared.meaning.Named.{Ghosts}
-use Rattle.shared_index.specs.Passes.{Known, known_at}
+use Rattle.qp_multi.specs.declared.meaning.Named.{Ghosts}
+use Rattle.qp_multi.specs.Passes.{Known, known_at}
 use Rattle.job_commands.specs.Closings.{Gathers}
 use Rattle.job_commands.specs.Commands.{known_in}
 use Rattle.job_commands.specs.Histories.{Setup}

@@ -1,8 +1,8 @@
 -- A worker's two passes as a station.
 use Rattle.std.specs.Prelude.{Bool, Option}
 use Rattle.std.specs.Option.{is_some, option_map}
-use Rattle.shared_index.specs.declared.meaning.Named.{Ghosts}
-use Rattle.shared_index.specs.Passes.{Known}
+use Rattle.qp_multi.specs.declared.meaning.Named.{Ghosts}
+use Rattle.qp_multi.specs.Passes.{Known}
 use Rattle.job_commands.specs.Commands.{Seat}
 use Rattle.job_commands.specs.Stations.{IsPlaced, Pinned, holder_view, station}
 use Rattle.job_commands.specs.Steps.{Station}

@@ -13,8 +13,8 @@ use Rattle.shared_cells.specs.declared.view.Progress.TheVariants as progress
 use Rattle.shared_cells.specs.declared.pinned.PinnedSeat.{PinnedSeat}
 use Rattle.shared_cells.specs.History.{IsPartOf}
 use Rattle.shared_cells.specs.Views.{with_pinned, with_progress}
-use Rattle.shared_index.specs.declared.meaning.Operation.{Operation}
-use Rattle.shared_index.specs.Passes.{Known, version_seen}
+use Rattle.qp_multi.specs.declared.meaning.Operation.{Operation}
+use Rattle.qp_multi.specs.Passes.{Known, version_seen}
 use Rattle.job_commands.specs.Histories.{StandsAs}
 
 -- The second pass took a snapshot, when it had learnt what the first had seen, and then the first learnt what it has seen.

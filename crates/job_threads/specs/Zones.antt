@@ -5,7 +5,7 @@ use Rattle.zone_model.specs.Versions.{Version}
 use Rattle.job_model.specs.Commands.{Command}
 use Rattle.job_model.specs.Sizes.{cell_count}
 use Rattle.job_model.specs.Outcomes.{passes_for}
-use Rattle.shared_index.specs.Openings.{room_in}
+use Rattle.qp_multi.specs.Openings.{room_in}
 use Rattle.job_commands.specs.Runs.{IsRun}
 use Rattle.job_threads.specs.declared.zone.Ran.{Ran}
 use Rattle.job_threads.specs.declared.zone.Ran.TheVariants.{Finished, DoesNotFit}

@@ -6,7 +6,7 @@ ghost use Rattle.job_threads.specs.Prelude.{Entries, IsZone, StandsAs, AreNew, D
 use dns_name::Name;
 use job_commands::ZoneLaw;
 use outer_io::Sink;
-use shared_index::{Blank, Index, Named, OpenRefusal, Pass};
+use qp_multi::{Blank, Index, Named, OpenRefusal, Pass};
 use std::alloc::Global;
 use std::marker::Brand;
 use trie_write::Item;

@@ -6,7 +6,7 @@ use dns_name::Name;
 use job_commands::{Room, ZoneLaw, reply_text};
 use job_model::Question;
 use job_script::{Outcome, Told};
-use shared_index::{Index, Named, Pass, Snapshot};
+use qp_multi::{Index, Named, Pass, Snapshot};
 use std::alloc::{AllocError, Global};
 use trie_read::Reading;
 

@@ -8,7 +8,7 @@ use crate::worker::{Done, Task, run_worker};
 use dns_name::Name;
 use job_commands::{Gate, ZoneLaw, close_index};
 use job_script::{Job, Outcomes, Worker};
-use shared_index::{Index, Named, Pass};
+use qp_multi::{Index, Named, Pass};
 use std::alloc::{AllocError, Global};
 use std::sync::Wait;
 use std::thread::{Threads, join};

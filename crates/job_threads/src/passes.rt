@@ -8,7 +8,7 @@ use dns_name::Name;
 use job_commands::{Room, ZoneLaw};
 use job_model::Question;
 use job_script::Outcome;
-use shared_index::{Index, Named, Pass, Snapshot};
+use qp_multi::{Index, Named, Pass, Snapshot};
 use std::alloc::{AllocError, Global};
 
 /// A worker's passes. The second is spare while no snapshot is held.

@@ -8,7 +8,7 @@ use crate::passes::{Passes, ask_snapshot, give_back, second_pass, take_snapshot}
 use dns_name::Name;
 use job_commands::{Gate, Room, ZoneLaw, counted, run_alone, tell_after, tell_before};
 use job_script::{Command, Outcome, Outcomes};
-use shared_index::{Index, Named, Pass};
+use qp_multi::{Index, Named, Pass};
 use std::alloc::{AllocError, Global};
 use std::sync::Wait;
 

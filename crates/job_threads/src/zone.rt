@@ -7,7 +7,7 @@ use crate::job::{Finished, run_job};
 use dns_name::Name;
 use job_commands::{Gate, ZoneLaw};
 use job_script::Job;
-use shared_index::{Blank, Index, Named, OpenRefusal};
+use qp_multi::{Blank, Index, Named, OpenRefusal};
 use std::alloc::{AllocError, Global};
 use std::marker::Brand;
 use std::sync::Wait;

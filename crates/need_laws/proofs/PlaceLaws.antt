@@ -20,8 +20,8 @@ use Rattle.trie_model.specs.Keys.{InList, Less, Rises}
 use Rattle.trie_model.specs.Shape.{cells}
 use Rattle.trie_model.proofs.AboveLaws.{cmp_before}
 use Rattle.trie_model.proofs.NameLaws.{name_key}
-use Rattle.zone_query.specs.Standing.{IsStorable, IsVersion, trie_entry}
-use Rattle.zone_query.proofs.OwnedLaws.{self_equal}
+use Rattle.zone_answer.specs.Standing.{IsStorable, IsVersion, trie_entry}
+use Rattle.zone_answer.proofs.OwnedLaws.{self_equal}
 use Rattle.job_model.specs.Sizes.{trie_entries, cell_count}
 use Rattle.need_laws.proofs.CellLaws.{Between, IsSized, one_more, exchanged}
 use Rattle.need_laws.proofs.ItemLaws.{item_length, room}

@@ -10,7 +10,7 @@ use Rattle.job_model.specs.Commands.{Command, Ask, Hold, AskHeld, Release, Block
 use Rattle.job_model.specs.Sizes.{cell_count}
 use Rattle.job_model.specs.Needs.{cells_of_workers, most_cells, most_operations}
 use Rattle.job_model.specs.Outcomes.{Cause, Rule, Full, Spent, Causes, Ended, Shown, Committed, RolledBack, Refused, Pair, asked_by, Setting, setting_of, BlockEnds, Sight, sight_after, at_first, Shows, EndsLawfully, Along, AllAlong, all_pairs, Lawful, passes_for}
-use Rattle.shared_index.specs.Openings.{room_in}
+use Rattle.qp_multi.specs.Openings.{room_in}
 use Rattle.report_laws.specs.Versions.{AreOutcomesOf}
 use Rattle.need_laws.specs.Bounds.{IsSaidJob, IsSized, FindsRoom, AllFindRoom}
 use Rattle.need_laws.proofs.RunLaws.{IsShort, all_join, jobs_few, jobs_short}

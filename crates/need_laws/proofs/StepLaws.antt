@@ -7,7 +7,7 @@ use Rattle.zone_model.specs.Versions.{Version, Operation, owned, put, owner_of, 
 use Rattle.zone_model.specs.Transactions.{Transaction, all_met, whole}
 use Rattle.zone_model.specs.declared.Refusal.{Refusal}
 use Rattle.zone_model.specs.declared.Refusal.TheVariants.{Prereq}
-use Rattle.zone_query.specs.Standing.{IsStorable, IsVersion}
+use Rattle.zone_answer.specs.Standing.{IsStorable, IsVersion}
 use Rattle.job_model.specs.Sizes.{cell_count}
 use Rattle.job_model.specs.Needs.{cells_added, cells_of_operations}
 use Rattle.job_model.specs.Outcomes.{accepted_or, after}

@@ -14,4 +14,4 @@ pub use Rattle.report_laws.specs.Changes.{AllAsked}
 pub use Rattle.report_laws.specs.Octets.{AllOctets}
 pub use Rattle.report_laws.specs.Versions.{AreFedOutcomesOf, AreOutcomesOf}
 pub use Rattle.need_laws.specs.Bounds.{AllFedFindRoom, AllFindRoom, HaveFewCells, HaveFewOperations, IsSaidJob, IsSaidList, IsSized, IsSizedList}
-pub use Rattle.shared_index.specs.Openings.{room_in}
+pub use Rattle.qp_multi.specs.Openings.{room_in}

@@ -30,7 +30,7 @@ use Rattle.zone_text.specs.Views.{Reads}
 use Rattle.zone_text.specs.declared.refusal.ZoneRefusal.{ZoneRefusal}
 use Rattle.zone_text.specs.declared.refusal.ZoneRefusal.TheVariants as refusal
 use Rattle.job_model.specs.Sizes.{cell_count}
-use Rattle.shared_index.specs.Openings.{room_in}
+use Rattle.qp_multi.specs.Openings.{room_in}
 use Rattle.job_threads.specs.Dumps.{StopsOn}
 use Rattle.qp_main.specs.Fits.{fits, no_room_text, opened_text}
 use Rattle.qp_main.specs.Due.{Due, DueBytes, DueGiven, DueInput, Answers, FedAnswers, Checks, CutShort, Dumps, EndsLoad, IfAllFit, IfFits, Ends, JobRefuses, Refuses, RefusesScript, Reported, FedReported, Sized, Sizes, IsWritten, MayBeShort, Written, ZonesAnswers, ZonesReported, all_fit, input_of, is_streamed, streams, zone_kind_text, refusal_text}

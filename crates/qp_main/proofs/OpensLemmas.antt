@@ -11,8 +11,8 @@ use Rattle.zone_model.proofs.NameLemmas.{same_name-true}
 use Rattle.trie_model.specs.Keys.{Entry}
 use Rattle.trie_model.specs.Shape.{cells}
 use Rattle.shared_cells.specs.declared.view.TableSize.{TableSize}
-use Rattle.shared_index.specs.Openings.{room_in}
-use Rattle.zone_query.specs.Standing.{trie_entry}
+use Rattle.qp_multi.specs.Openings.{room_in}
+use Rattle.zone_answer.specs.Standing.{trie_entry}
 use Rattle.job_model.specs.Sizes.{cell_count}
 use Rattle.job_commands.specs.Histories.{IsZone}
 use Rattle.zone_list.specs.Parts.{AreListed}

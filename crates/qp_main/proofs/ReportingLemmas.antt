@@ -29,7 +29,7 @@ use Rattle.qp_main.specs.Tellings.{finished_text, told_text}
 use Rattle.qp_main.specs.declared.run_report.Telling.{Telling}
 use Rattle.qp_main.specs.declared.run_report.Telling.TheVariants.{Report, Summary}
 use Rattle.job_model.specs.Sizes.{cell_count}
-use Rattle.shared_index.specs.Openings.{room_in}
+use Rattle.qp_multi.specs.Openings.{room_in}
 use Rattle.job_commands.specs.Runs.{IsRun}
 use Rattle.feed_threads.specs.Zones.{FedRanOn}
 use Rattle.job_threads.specs.Zones.{RanOn}

@@ -10,7 +10,7 @@ use Rattle.trie_model.specs.Keys.{Entry as TrieEntry, Rises}
 use Rattle.trie_model.proofs.KeyLaws.{in_left}
 use Rattle.trie_size.specs.declared.size.TrieSize.{TrieSize}
 use Rattle.trie_size.specs.Sizes.{IsSizeOf, Follows}
-use Rattle.zone_query.specs.Standing.{trie_entry}
+use Rattle.zone_answer.specs.Standing.{trie_entry}
 use Rattle.master_file.specs.Rows.{CanBeDumped}
 use Rattle.job_model.specs.Sizes.{trie_entries}
 use Rattle.job_commands.specs.Histories.{IsZone}

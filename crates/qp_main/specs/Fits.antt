@@ -4,7 +4,7 @@ use Rattle.std.specs.Fmt.{decimal}
 use Rattle.zone_model.specs.Versions.{Version}
 use Rattle.job_model.specs.Sizes.{cell_count, node_count}
 use Rattle.job_model.specs.Replies.{size_text}
-use Rattle.shared_index.specs.Openings.{room_in}
+use Rattle.qp_multi.specs.Openings.{room_in}
 
 abbrev pub fits : ℕ → Version → Bool
 fits chunks version = nat_le (cell_count version) (room_in chunks)

@@ -13,7 +13,7 @@ use command_line::Invocation;
 use job_commands::ZoneLaw;
 use job_threads::{Dumped, dump_zone, table_for};
 use outer_io::Sink;
-use shared_index::Blank;
+use qp_multi::Blank;
 use std::alloc::Global;
 use trie_write::Item;
 use zone_dump::DumpRefusal;

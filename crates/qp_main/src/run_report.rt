@@ -12,7 +12,7 @@ use job_commands::{Gate, ZoneLaw};
 use job_report::{Pieces, print_fed, print_outcomes};
 use job_script::{Command, Job, any_fed_refused, any_refused, print_summary};
 use job_threads::{Finished, Ran, run_zone};
-use shared_index::Blank;
+use qp_multi::Blank;
 use std::alloc::{AllocError, Global};
 use std::sync::Wait;
 use std::thread::Threads;

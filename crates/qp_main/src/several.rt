@@ -15,7 +15,7 @@ use dns_name::Name;
 use job_commands::{Gate, ZoneLaw};
 use job_report::Pieces;
 use master_file::Zone;
-use shared_index::Blank;
+use qp_multi::Blank;
 use std::alloc::{AllocError, Global};
 use std::sync::Wait;
 use std::thread::Threads;

@@ -7,8 +7,8 @@ use crate::size_lines::size_line;
 use crate::status::Status;
 use job_report::Pieces;
 use master_file::{Zone, ZoneItems};
+use qp_multi::room_in;
 use rr_data::item_buffer;
-use shared_index::room_in;
 use std::alloc::{AllocError, Global};
 use trie_size::TrieSize;
 

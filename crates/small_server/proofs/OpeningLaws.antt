@@ -4,7 +4,7 @@ use Rattle.std.specs.List.{All, IsDistinct}
 use Rattle.std.proofs.lemmas.List.Elements.{All-nil, All-cons}
 use Rattle.zone_model.specs.Names.{Name, same_name}
 use Rattle.trie_model.specs.Keys.{Entry, Rises}
-use Rattle.zone_query.specs.Standing.{ShowsSome}
+use Rattle.zone_answer.specs.Standing.{ShowsSome}
 use Rattle.zone_edit.proofs.SetLaws.{entries_rise}
 
 -- what names own stands in the order of their keys

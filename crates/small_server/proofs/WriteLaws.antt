@@ -4,11 +4,11 @@ use Rattle.std.specs.Prelude.{IsSomeAnd}
 use Rattle.trie_model.specs.Keys.{Entry}
 use Rattle.zone_model.specs.Names.{Name}
 use Rattle.zone_model.specs.Transactions.{Transaction}
-use Rattle.zone_query.specs.Standing.{ShowsSome}
-use Rattle.shared_index.specs.declared.desk.Draft.{Draft}
-use Rattle.shared_index.specs.Operations.{applied}
-use Rattle.shared_index.specs.Passes.{Known}
-use Rattle.shared_index.specs.Drafts.{Begins, Works, base_of, working_set}
+use Rattle.zone_answer.specs.Standing.{ShowsSome}
+use Rattle.qp_multi.specs.declared.desk.Draft.{Draft}
+use Rattle.qp_multi.specs.Operations.{applied}
+use Rattle.qp_multi.specs.Passes.{Known}
+use Rattle.qp_multi.specs.Drafts.{Begins, Works, base_of, working_set}
 use Rattle.zone_edit.specs.Stores.{WorksOnSome}
 use Rattle.zone_edit.specs.Blocks.{Edited, Executes, most_done}
 use Rattle.zone_edit.proofs.EditLaws.{edits_some, some_weaker}

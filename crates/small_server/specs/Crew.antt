@@ -2,7 +2,7 @@
 use Rattle.std.specs.Prelude.{List}
 use Rattle.std.specs.Option.{ForSome}
 use Rattle.zone_model.specs.Names.{Name}
-use Rattle.shared_index.specs.declared.meaning.Named.{Ghosts}
+use Rattle.qp_multi.specs.declared.meaning.Named.{Ghosts}
 use Rattle.zone_table.specs.Notes.{IsNoteOf}
 use Rattle.zone_table.specs.Passes.{IsPassOf}
 use Rattle.small_server.specs.declared.serving.Passes.{Passes}

@@ -4,11 +4,11 @@ ghost use Rattle.zone_table.specs.Passes.{IsPassOf};
 
 use crate::law::Stored;
 use dns_name::Name;
-use shared_index::{Index, Named, Pass};
+use qp_multi::{Index, Named, Pass};
 use std::alloc::{AllocError, Global};
 use std::fmt;
 use trie_read::Reading;
-use zone_query::{Answer, Kind, answer};
+use zone_answer::{Answer, Kind, answer};
 use zone_table::{Zones, ZonesPass};
 
 /// The answer to a question, from the zone that the name is in.

@@ -5,7 +5,7 @@ ghost use Rattle.zone_table.specs.Passes.{IsPassOf};
 use crate::failure::Failure;
 use crate::law::Stored;
 use dns_name::Name;
-use shared_index::{Index, Locked, Named, Pass};
+use qp_multi::{Index, Locked, Named, Pass};
 use std::alloc::Global;
 use std::sync::Wait;
 use zone_change::Operation;

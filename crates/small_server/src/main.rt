@@ -1,4 +1,4 @@
-//! A small server of two zones, as the author of one would write it over `zone_table` and `shared_index`: docs/SERVER.md goes
+//! A small server of two zones, as the author of one would write it over `zone_table` and `qp_multi`: docs/SERVER.md goes
 //! through it. Threads that answer and one that writes run beside each other, while a version is held for a transfer; what is
 //! printed is the same on every run.
 #![tactic(auto)]

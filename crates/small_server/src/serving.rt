@@ -8,7 +8,7 @@ use crate::law::Stored;
 use crate::threads::{Changed, Task, answer_both};
 use crate::transfer::{Beside, Transfer, transfer_beside};
 use dns_name::Name;
-use shared_index::{Blank, Named};
+use qp_multi::{Blank, Named};
 use std::alloc::{AllocError, Global};
 use std::marker::Brand;
 use std::sync::Wait;

@@ -7,7 +7,7 @@ use crate::changing::change_zone;
 use crate::failure::Failure;
 use crate::law::Stored;
 use dns_name::Name;
-use shared_index::Named;
+use qp_multi::Named;
 use std::alloc::Global;
 use std::sync::Wait;
 use std::thread::{Threads, join};

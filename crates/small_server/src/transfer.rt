@@ -5,8 +5,8 @@ ghost use Rattle.small_server.specs.Prelude.{ShowsSome, IsPassOf, AreBesideOf, I
 use crate::failure::Failure;
 use crate::law::Stored;
 use crate::threads::{Answered, Changed, Task, answer, write};
+use qp_multi::{Index, Named, Pass};
 use rr_data::item_buffer;
-use shared_index::{Index, Named, Pass};
 use std::alloc::{AllocError, Global};
 use std::sync::Wait;
 use std::thread::{Threads, join};

@@ -8,7 +8,7 @@ use Rattle.zone_model.specs.Versions.{Version}
 use Rattle.zone_model.specs.Rows.{Directives}
 use Rattle.zone_model.specs.Dumps.{rows_at, all_rows, owner_lines, version_lines}
 use Rattle.trie_model.specs.Keys.{Entry}
-use Rattle.zone_query.specs.Standing.{Shows, trie_entry}
+use Rattle.zone_answer.specs.Standing.{Shows, trie_entry}
 use Rattle.zone_dump.specs.Writing.{Passes}
 use Rattle.zone_dump.specs.Walks.{Faces, GivesFirst, GoesOn}
 use Rattle.zone_dump.proofs.WritingLaws.{part_start, part_more, part_end, part_stops, part_front}

@@ -9,7 +9,7 @@ pub use Rattle.zone_model.specs.Rows.{line_text, row_text, rows_of}
 pub use Rattle.zone_model.specs.Versions.{Version}
 pub use Rattle.outer_io.specs.Bytes.{Grows, GrowsByFront}
 pub use Rattle.outer_io.specs.Faults.{Rose}
-pub use Rattle.zone_query.specs.Standing.{Shows, ShowsSome}
+pub use Rattle.zone_answer.specs.Standing.{Shows, ShowsSome}
 pub use Rattle.zone_dump.specs.Files.{directives_in, file_text, head_text, lines_from}
 pub use Rattle.zone_dump.specs.Walks.{Faces, FacesSome, GivesNext}
 pub use Rattle.zone_dump.specs.Writing.{Passes}

@@ -8,7 +8,7 @@ use Rattle.zone_model.specs.Rows.{Directives}
 use Rattle.zone_model.specs.Dumps.{all_rows, version_lines}
 use Rattle.outer_io.specs.Bytes.{Held}
 use Rattle.trie_model.specs.Keys as trie
-use Rattle.zone_query.specs.Standing.{IsStorable, trie_entry}
+use Rattle.zone_answer.specs.Standing.{IsStorable, trie_entry}
 use Rattle.zone_dump.specs.Writing.{PassesPart}
 
 -- an iterator stands before these names, each with an item

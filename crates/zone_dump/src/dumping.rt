@@ -14,8 +14,8 @@ use shift_key::Key;
 use std::alloc::{AllocError, Global};
 use std::mem::replace;
 use trie_read::{Iter, Reading};
+use zone_answer::read_owned;
 use zone_model::Style;
-use zone_query::read_owned;
 
 /// Reads the item of the next name into the beginning of a buffer, and gives its length; None at the end.
 fn next_item<V: Reading>(version: &mut V, iter: &mut Iter, item: &mut [u8]) -> Option<usize>

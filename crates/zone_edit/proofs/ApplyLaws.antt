@@ -12,7 +12,7 @@ use Rattle.zone_model.specs.declared.Refusal.TheVariants.{Soa, Cname, Long}
 use Rattle.zone_model.proofs.NameLemmas.{same_name-true}
 use Rattle.rr_data.specs.ItemViews.{SaysEntry}
 use Rattle.zone_change.specs.Counts.{candidate}
-use Rattle.zone_query.specs.Standing.{IsStorable, IsVersion}
+use Rattle.zone_answer.specs.Standing.{IsStorable, IsVersion}
 use Rattle.zone_edit.proofs.ShrinkLaws.{IsLess, set_less, record_less, item_less}
 use Rattle.zone_edit.proofs.StoreLaws.{owns_some}
 

@@ -8,33 +8,33 @@ use Rattle.zone_model.specs.Records.{Entry, IsItem}
 use Rattle.zone_model.specs.Versions.{Version, owned, put}
 use Rattle.trie_model.specs.Keys as trie
 use Rattle.trie_model.specs.Keys.{InList}
-use Rattle.zone_query.specs.Standing.{IsVersion, trie_entry}
+use Rattle.zone_answer.specs.Standing.{IsVersion, trie_entry}
 use Rattle.job_model.specs.Sizes.{trie_entries}
-use Rattle.shared_index.specs.declared.desk.Draft.{Draft}
-use Rattle.shared_index.specs.declared.refusal.Full.{Full}
-use Rattle.shared_index.specs.declared.meaning.Operation.{Operation}
-use Rattle.shared_index.specs.declared.meaning.Operation.TheVariants as operation
-use Rattle.shared_index.specs.Operations.{operated, applied, with_entry, without}
-use Rattle.shared_index.specs.Drafts.{Operates, IsFull, IsSame, Between, base_of, working_set}
-use Rattle.shared_index.specs.Bounds.{IsCramped}
-use Rattle.shared_index.specs.Capacity.{BoundsHistory}
-use Rattle.shared_index.specs.Rooms.{SparesReserve}
-use Rattle.shared_index.specs.Fulls.{CausedFrom, cells_kept}
-use Rattle.shared_index.specs.Passes.{Known, version_seen}
+use Rattle.qp_multi.specs.declared.desk.Draft.{Draft}
+use Rattle.qp_multi.specs.declared.refusal.Full.{Full}
+use Rattle.qp_multi.specs.declared.meaning.Operation.{Operation}
+use Rattle.qp_multi.specs.declared.meaning.Operation.TheVariants as operation
+use Rattle.qp_multi.specs.Operations.{operated, applied, with_entry, without}
+use Rattle.qp_multi.specs.Drafts.{Operates, IsFull, IsSame, Between, base_of, working_set}
+use Rattle.qp_multi.specs.Bounds.{IsCramped}
+use Rattle.qp_multi.specs.Capacity.{BoundsHistory}
+use Rattle.qp_multi.specs.Rooms.{SparesReserve}
+use Rattle.qp_multi.specs.Fulls.{CausedFrom, cells_kept}
+use Rattle.qp_multi.specs.Passes.{Known, version_seen}
 use Rattle.trie_model.specs.Capacity.{is_roomy}
 use Rattle.chunk_usage.specs.Ledger.{Ledger, Row, reserve_of}
 use Rattle.shared_cells.specs.declared.view.Entry.{Entry as Commit'}
 use Rattle.shared_cells.specs.History.{StartsWith, version_after}
 use Rattle.trie_model.specs.Shape.{cells}
 use Rattle.std.proofs.lemmas.List.{length-map}
-use Rattle.shared_index.specs.Keepings.{GoesOn, versions_in}
-use Rattle.shared_index.proofs.GoesLaws.{base_goes_on, applied_more, goes_further}
-use Rattle.shared_index.proofs.StayLaws.{chunks_stay}
-use Rattle.shared_index.proofs.WorkLaws.{both, between_as}
+use Rattle.qp_multi.specs.Keepings.{GoesOn, versions_in}
+use Rattle.qp_multi.proofs.GoesLaws.{base_goes_on, applied_more, goes_further}
+use Rattle.qp_multi.proofs.StayLaws.{chunks_stay}
+use Rattle.qp_multi.proofs.WorkLaws.{both, between_as}
 use Rattle.zone_edit.proofs.VersionLaws.{version_put, version_gone}
 use Rattle.zone_edit.proofs.StoreLaws.{put_some, storable, same_entry, record_of}
 use Rattle.trie_read.specs.Readings.{Fetched}
-use Rattle.zone_query.specs.Parts.{IsRead}
+use Rattle.zone_answer.specs.Parts.{IsRead}
 use Rattle.zone_edit.specs.declared.storing.NoRoom.{NoRoom}
 use Rattle.zone_edit.specs.Stores.{WorksOn, WorksOnSome, Owns, EditsOne, Edits, Reads, Stores, IsFullOn}
 use Rattle.zone_edit.proofs.SetLaws.{IsOwner, inserted, exchanged, deleted}

@@ -4,7 +4,7 @@ use Rattle.zone_model.specs.Names.{Name}
 use Rattle.zone_model.specs.Versions.{Version, all_applied}
 use Rattle.zone_model.specs.Transactions.{Transaction, all_met, whole}
 use Rattle.zone_model.specs.declared.Refusal.TheVariants.{Prereq}
-use Rattle.shared_index.specs.declared.desk.Draft.{Draft}
+use Rattle.qp_multi.specs.declared.desk.Draft.{Draft}
 use Rattle.zone_edit.specs.Blocks.{AppliesAll, Executes}
 use Rattle.zone_edit.specs.declared.applying.Halt.{Halt}
 use Rattle.zone_edit.specs.declared.applying.Halt.TheVariants as halts

@@ -18,10 +18,10 @@ use Rattle.trie_model.specs.Changes.{Inserted}
 use Rattle.trie_model.proofs.AboveLaws.{cmp_before}
 use Rattle.trie_write.specs.Exchanges.{Exchanged}
 use Rattle.trie_write.specs.Deletions.{Deleted}
-use Rattle.zone_query.specs.Standing.{IsStorable, IsVersion, trie_entry}
+use Rattle.zone_answer.specs.Standing.{IsStorable, IsVersion, trie_entry}
 use Rattle.job_model.specs.Sizes.{trie_entries}
-use Rattle.shared_index.specs.Operations.{with_entry, without}
-use Rattle.shared_index.proofs.OperationLaws as sets
+use Rattle.qp_multi.specs.Operations.{with_entry, without}
+use Rattle.qp_multi.proofs.OperationLaws as sets
 use Rattle.zone_edit.proofs.VersionLaws.{by_name, after_all, inserted_is, exchanged_is, deleted_is}
 
 abbrev Entries : Type 0

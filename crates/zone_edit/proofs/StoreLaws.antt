@@ -13,8 +13,8 @@ use Rattle.zone_model.specs.Versions.{Version, entry_of, owned, put}
 use Rattle.rr_data.specs.ItemViews.{SaysEntry}
 use Rattle.rr_data.proofs.EntryChanges.{item_once}
 use Rattle.trie_model.specs.Keys as trie
-use Rattle.zone_query.specs.Standing.{IsStorable, IsVersion, trie_entry}
-use Rattle.zone_query.proofs.OwnedLaws.{self_equal, kept, entry_there, nothing_owned}
+use Rattle.zone_answer.specs.Standing.{IsStorable, IsVersion, trie_entry}
+use Rattle.zone_answer.proofs.OwnedLaws.{self_equal, kept, entry_there, nothing_owned}
 use Rattle.job_model.specs.Sizes.{trie_entries}
 use Rattle.zone_edit.proofs.VersionLaws.{by_name, put_here, put_over, put_later, gone_here, gone_later, turned, after_all}
 

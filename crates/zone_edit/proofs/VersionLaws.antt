@@ -19,9 +19,9 @@ use Rattle.trie_model.specs.Changes.{Inserted}
 use Rattle.trie_model.proofs.KeyLaws.{in_right}
 use Rattle.trie_write.specs.Exchanges.{Exchanged}
 use Rattle.trie_write.specs.Deletions.{Deleted}
-use Rattle.zone_query.specs.Standing.{IsStorable, IsVersion, trie_entry}
-use Rattle.zone_query.proofs.KeyOrder.{before_key}
-use Rattle.zone_query.proofs.OwnedLaws.{later_name, self_equal}
+use Rattle.zone_answer.specs.Standing.{IsStorable, IsVersion, trie_entry}
+use Rattle.zone_answer.proofs.KeyOrder.{before_key}
+use Rattle.zone_answer.proofs.OwnedLaws.{later_name, self_equal}
 use Rattle.job_model.specs.Sizes.{trie_entries}
 
 abbrev List' : Type 0

@@ -5,17 +5,17 @@ use Rattle.zone_model.specs.Records.{Entry}
 use Rattle.zone_model.specs.Versions.{Version, owned, put}
 use Rattle.chunk_usage.specs.Ledger.{reserve_of}
 use Rattle.chunk_usage.specs.Keeping.{kept_versions}
-use Rattle.zone_query.specs.Parts.{IsRead}
-use Rattle.zone_query.specs.Standing.{IsVersion}
+use Rattle.zone_answer.specs.Parts.{IsRead}
+use Rattle.zone_answer.specs.Standing.{IsVersion}
 use Rattle.job_model.specs.Sizes.{trie_entries, cell_count}
 use Rattle.shared_cells.specs.Steps.{IsNamed}
-use Rattle.shared_index.specs.declared.desk.Draft.{Draft}
-use Rattle.shared_index.specs.declared.meaning.Named.{Ghosts}
-use Rattle.shared_index.specs.declared.transaction.Transaction.{Transaction}
-use Rattle.shared_index.specs.Bounds.{IsCramped}
-use Rattle.shared_index.specs.Drafts.{Works, Between, working_set}
-use Rattle.shared_index.specs.Fulls.{cells_kept}
-use Rattle.shared_index.specs.Keepings.{GoesOn}
+use Rattle.qp_multi.specs.declared.desk.Draft.{Draft}
+use Rattle.qp_multi.specs.declared.meaning.Named.{Ghosts}
+use Rattle.qp_multi.specs.declared.transaction.Transaction.{Transaction}
+use Rattle.qp_multi.specs.Bounds.{IsCramped}
+use Rattle.qp_multi.specs.Drafts.{Works, Between, working_set}
+use Rattle.qp_multi.specs.Fulls.{cells_kept}
+use Rattle.qp_multi.specs.Keepings.{GoesOn}
 use Rattle.zone_edit.specs.declared.storing.NoRoom.{NoRoom}
 
 -- the working set is the version

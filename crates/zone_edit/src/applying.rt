@@ -8,13 +8,13 @@ use crate::buffers::ItemBuffers;
 use crate::reading::read_owned;
 use crate::storing::{NoRoom, store};
 use dns_name::Name;
+use qp_multi::{Law, Named, Transaction};
 use rr_data::Entry;
-use shared_index::{Law, Named, Transaction};
 use shift_key::Key;
 use std::alloc::{AllocError, Global};
+use zone_answer::entry_of;
 use zone_change::{Operation, changed, refusal};
 use zone_model::Refusal;
-use zone_query::entry_of;
 
 /// Why operations change nothing.
 #[derive(Clone, Copy)]

@@ -7,7 +7,7 @@ use crate::applying::{Halt, apply_all};
 use crate::buffers::ItemBuffers;
 use crate::prerequisites::meets_all;
 use dns_name::Name;
-use shared_index::{Law, Named, Transaction};
+use qp_multi::{Law, Named, Transaction};
 use std::alloc::Global;
 use zone_change::{Operation, Prerequisite};
 use zone_model::Refusal;

@@ -4,8 +4,8 @@ ghost use Rattle.std.specs.Prelude.{◌≡◌, ◌≤◌, length, IsSomeAnd, map
 ghost use Rattle.zone_edit.specs.Prelude.{most_item_octets, prerequisite_view, WorksOnSome, Edits, Meets, MeetsAll, IsOfTheSame};
 
 use crate::reading::read_owned;
+use qp_multi::{Law, Named, Transaction};
 use rr_data::ItemView;
-use shared_index::{Law, Named, Transaction};
 use shift_key::Key;
 use zone_change::Prerequisite;
 

@@ -4,7 +4,7 @@ ghost use Rattle.std.specs.Prelude.{◌≡◌, ◌≤◌, length, IsSomeAnd};
 ghost use Rattle.zone_edit.specs.Prelude.{key_of, most_item_octets, Between, IsSame, WorksOnSome, Reads, Edits, IsOfTheSame};
 
 use dns_name::Name;
-use shared_index::{Law, Named, Transaction};
+use qp_multi::{Law, Named, Transaction};
 use shift_key::Key;
 
 /// Reads the item of a name into the beginning of a buffer, and gives its length: 0 where the name owns nothing.

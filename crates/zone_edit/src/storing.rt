@@ -4,8 +4,8 @@ ghost use Rattle.std.specs.Prelude.{◌≡◌, ◌<◌, ◌≤◌, [], List, len
 ghost use Rattle.zone_edit.specs.Prelude.{key_of, item, item_limit, IsItem, owned, SaysEntry, Owns, Stores, Edits, done_by, IsOfTheSame};
 
 use dns_name::Name;
+use qp_multi::{ChangeRefusal, InsertRefusal, Law, Named, Transaction};
 use rr_data::Entry;
-use shared_index::{ChangeRefusal, InsertRefusal, Law, Named, Transaction};
 use shift_key::Key;
 
 /// There is no room for an entry.

@@ -10,12 +10,12 @@ use Rattle.trie_model.proofs.ChainLaws.{begins_same, begins_short, begins_take}
 use Rattle.pin_core.specs.declared.version.Spent.{Spent as NoNumber}
 use Rattle.shared_cells.specs.History.{IsPartOf}
 use Rattle.shared_cells.specs.Views.{is_told}
-use Rattle.shared_index.specs.declared.commit.Receipt.{Receipt}
-use Rattle.shared_index.specs.declared.desk.Draft.{Draft}
-use Rattle.shared_index.specs.declared.meaning.Operation.{Operation}
-use Rattle.shared_index.specs.declared.meaning.Operation.TheVariants.{Insert, Delete}
-use Rattle.shared_index.specs.Drafts.{Operates, Between}
-use Rattle.shared_index.specs.Passes.{Known, first_version}
+use Rattle.qp_multi.specs.declared.commit.Receipt.{Receipt}
+use Rattle.qp_multi.specs.declared.desk.Draft.{Draft}
+use Rattle.qp_multi.specs.declared.meaning.Operation.{Operation}
+use Rattle.qp_multi.specs.declared.meaning.Operation.TheVariants.{Insert, Delete}
+use Rattle.qp_multi.specs.Drafts.{Operates, Between}
+use Rattle.qp_multi.specs.Passes.{Known, first_version}
 use Rattle.zone_table.specs.declared.change.TableRefusal.{TableRefusal}
 use Rattle.zone_table.specs.declared.change.TableRefusal.TheVariants.{Spent}
 use Rattle.zone_table.specs.Changes.{IsChanged, IsUnchanged, Attaches, Detaches, last_number}

@@ -15,20 +15,20 @@ use Rattle.pin_core.specs.declared.version.Spent.{Spent as NoNumber}
 use Rattle.shared_cells.specs.declared.view.Entry.{Entry as Commit}
 use Rattle.shared_cells.specs.History.{IsPartOf, entries_by, entry_of, version_after}
 use Rattle.shared_cells.specs.Views.{is_told}
-use Rattle.shared_index.specs.declared.commit.Receipt.{Receipt}
-use Rattle.shared_index.specs.declared.meaning.Named.{Ghosts}
-use Rattle.shared_index.specs.declared.pass.Pass.{Pass}
-use Rattle.shared_index.specs.declared.desk.Draft.{Draft}
-use Rattle.shared_index.specs.declared.meaning.Operation.{Operation}
-use Rattle.shared_index.specs.declared.meaning.Operation.TheVariants.{Insert, Delete}
-use Rattle.shared_index.specs.Bases.{CommitsAreWithin}
-use Rattle.shared_index.specs.Bounds.{BoundsDraft, IsCramped}
-use Rattle.shared_index.specs.Drafts.{Begins, Commits, IsBack, Operates, Between, base_of, working_set}
-use Rattle.shared_index.specs.Keepings.{GoesOn}
-use Rattle.shared_index.specs.Operations.{operated, applied, below, above, AreWithin}
-use Rattle.shared_index.specs.Passes.{Known, known_at, first_version, version_seen}
-use Rattle.shared_index.proofs.GoesLaws.{base_goes_on, first_goes_on}
-use Rattle.shared_index.proofs.WorkLaws.{Both, both}
+use Rattle.qp_multi.specs.declared.commit.Receipt.{Receipt}
+use Rattle.qp_multi.specs.declared.meaning.Named.{Ghosts}
+use Rattle.qp_multi.specs.declared.pass.Pass.{Pass}
+use Rattle.qp_multi.specs.declared.desk.Draft.{Draft}
+use Rattle.qp_multi.specs.declared.meaning.Operation.{Operation}
+use Rattle.qp_multi.specs.declared.meaning.Operation.TheVariants.{Insert, Delete}
+use Rattle.qp_multi.specs.Bases.{CommitsAreWithin}
+use Rattle.qp_multi.specs.Bounds.{BoundsDraft, IsCramped}
+use Rattle.qp_multi.specs.Drafts.{Begins, Commits, IsBack, Operates, Between, base_of, working_set}
+use Rattle.qp_multi.specs.Keepings.{GoesOn}
+use Rattle.qp_multi.specs.Operations.{operated, applied, below, above, AreWithin}
+use Rattle.qp_multi.specs.Passes.{Known, known_at, first_version, version_seen}
+use Rattle.qp_multi.proofs.GoesLaws.{base_goes_on, first_goes_on}
+use Rattle.qp_multi.proofs.WorkLaws.{Both, both}
 use Rattle.zone_table.specs.Changes.{IsChanged, IsUnchanged, last_number}
 use Rattle.zone_table.specs.Passes.{IsPassOf, table_known}
 use Rattle.zone_table.specs.Tables.{IsTable, IsAmong}

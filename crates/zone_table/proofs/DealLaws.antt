@@ -8,11 +8,11 @@ use Rattle.zone_model.specs.Names.{Name}
 use Rattle.trie_model.specs.Keys.{Entry}
 use Rattle.shared_cells.specs.declared.view.TableSize.{TableSize}
 use Rattle.zone_table.proofs.RefusalLaws.{places_count, place_zone}
-use Rattle.shared_index.specs.declared.meaning.Named.{Ghosts}
-use Rattle.shared_index.specs.declared.pass.Pass.{Pass}
-use Rattle.shared_index.specs.Closings.{AreAll}
-use Rattle.shared_index.specs.Openings.{SeesFirst}
-use Rattle.shared_index.specs.Passes.{Known, known_at, commits_in, pinned_in, first_version}
+use Rattle.qp_multi.specs.declared.meaning.Named.{Ghosts}
+use Rattle.qp_multi.specs.declared.pass.Pass.{Pass}
+use Rattle.qp_multi.specs.Closings.{AreAll}
+use Rattle.qp_multi.specs.Openings.{SeesFirst}
+use Rattle.qp_multi.specs.Passes.{Known, known_at, commits_in, pinned_in, first_version}
 use Rattle.zone_table.specs.declared.opening.Opened.{Opened}
 use Rattle.zone_table.specs.declared.opening.ZoneItems.{ZoneItems}
 use Rattle.zone_table.specs.declared.pass.ZonesPass.{ZonesPass}

@@ -8,9 +8,9 @@ use Rattle.shared_cells.specs.declared.view.Seen.{Seen}
 use Rattle.shared_cells.specs.declared.view.Progress.{Progress}
 use Rattle.shared_cells.specs.History.{IsPartOf, OpeningFits, StartsWith, version_after}
 use Rattle.shared_cells.specs.Views.{is_told, with_progress}
-use Rattle.shared_index.specs.declared.meaning.Operation.{Operation}
-use Rattle.shared_index.specs.Operations.{applied}
-use Rattle.shared_index.specs.Passes.{Known, known_at, first_version, version_seen, Pinned}
+use Rattle.qp_multi.specs.declared.meaning.Operation.{Operation}
+use Rattle.qp_multi.specs.Operations.{applied}
+use Rattle.qp_multi.specs.Passes.{Known, known_at, first_version, version_seen, Pinned}
 use Rattle.zone_table.specs.Tables.{IsTable, IsPart, IsAmong}
 use Rattle.zone_table.proofs.Lists.{none_left}
 

@@ -6,10 +6,10 @@ use Rattle.std.specs.Option.{option_map}
 use Rattle.std.proofs.lemmas.Bool.{cases_lt}
 use Rattle.std.proofs.lemmas.List.{take_at}
 use Rattle.std.specs.List.{slice_get}
-use Rattle.shared_index.specs.declared.meaning.Named.{Ghosts}
-use Rattle.shared_index.specs.declared.note.Note.{Note}
-use Rattle.shared_index.specs.declared.pass.Pass.{Pass}
-use Rattle.shared_index.specs.Passes.{Known, known_at, Learnt}
+use Rattle.qp_multi.specs.declared.meaning.Named.{Ghosts}
+use Rattle.qp_multi.specs.declared.note.Note.{Note}
+use Rattle.qp_multi.specs.declared.pass.Pass.{Pass}
+use Rattle.qp_multi.specs.Passes.{Known, known_at, Learnt}
 use Rattle.zone_table.specs.Notes.{Sighting, LearntAt}
 use Rattle.zone_table.proofs.Lists.{cut_behind, at_seam, get_set, get_set_other, mapped_at, some_is}
 

@@ -3,9 +3,9 @@ use Rattle.std.proofs.Common.{◌≡◌, ℕ, true, List, Option, Some, sym, sub
 use Rattle.std.specs.Prelude.{IfSome, IsSome}
 use Rattle.zone_model.specs.Names.{Name}
 use Rattle.shared_cells.specs.Views.{is_told}
-use Rattle.shared_index.specs.declared.meaning.Named.{Ghosts}
-use Rattle.shared_index.specs.declared.pass.Pass.{Pass}
-use Rattle.shared_index.specs.Passes.{known_at, version_seen, Pinned}
+use Rattle.qp_multi.specs.declared.meaning.Named.{Ghosts}
+use Rattle.qp_multi.specs.declared.pass.Pass.{Pass}
+use Rattle.qp_multi.specs.Passes.{known_at, version_seen, Pinned}
 use Rattle.zone_table.specs.declared.pass.ZonesPass.{ZonesPass}
 use Rattle.zone_table.specs.declared.recalled.Recalled.{Recalled}
 use Rattle.zone_table.specs.Passes.{IsPassOf, table_known}

@@ -8,7 +8,7 @@ use Rattle.zone_table.specs.declared.opening.ZoneItems.{ZoneItems}
 use Rattle.zone_table.specs.declared.opening.ZonesRefusal.{ZonesRefusal}
 use Rattle.zone_table.specs.declared.opening.ZonesRefusal.TheVariants.{Memory}
 use Rattle.zone_table.proofs.RefusalLaws.{kept, places_more, places_count}
-use Rattle.shared_index.specs.declared.meaning.Named.{Ghosts}
+use Rattle.qp_multi.specs.declared.meaning.Named.{Ghosts}
 use Rattle.zone_table.specs.declared.opening.Opened.{Opened}
 use Rattle.zone_table.specs.Openings.{Place, places_of, entries_in, AllFit, MayFit, IsBegun, AreBegun, OpensZones, RefusesZones}
 use Rattle.zone_table.proofs.Lists.{place_in, last_or_before, get_in, read_at}

@@ -11,9 +11,9 @@ use Rattle.std.proofs.lemmas.Option.{slice_get-map, slice_get_within, get_or_fro
 use Rattle.std.proofs.Math.Seq.{map-set_same}
 use Rattle.zone_model.specs.Names.{Name}
 use Rattle.shared_cells.specs.Views.{is_told}
-use Rattle.shared_index.specs.declared.meaning.Named.{Ghosts}
-use Rattle.shared_index.specs.declared.pass.Pass.{Pass}
-use Rattle.shared_index.specs.Passes.{Known, known_at}
+use Rattle.qp_multi.specs.declared.meaning.Named.{Ghosts}
+use Rattle.qp_multi.specs.declared.pass.Pass.{Pass}
+use Rattle.qp_multi.specs.Passes.{Known, known_at}
 use Rattle.zone_table.specs.Passes.{IsPassOf, zone_known}
 use Rattle.zone_table.specs.declared.pass.ZonesPass.{ZonesPass}
 use Rattle.zone_table.proofs.KnownLaws.{seat_told}

@@ -11,7 +11,7 @@ use Rattle.trie_model.specs.Order.{IsThere}
 use Rattle.trie_read.specs.Reads.{FindsLeaf}
 use Rattle.shared_cells.specs.History.{IsPartOf}
 use Rattle.shared_cells.specs.Views.{is_told}
-use Rattle.shared_index.specs.Passes.{version_seen}
+use Rattle.qp_multi.specs.Passes.{version_seen}
 use Rattle.zone_table.specs.Recalled.{AreAttached, Recalls, is_marked}
 use Rattle.zone_table.specs.Tables.{IsAttached}
 use Rattle.zone_table.proofs.KnownLaws.{Sighting, part_itself, part_more, version_same}

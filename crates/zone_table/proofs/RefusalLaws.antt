@@ -10,8 +10,8 @@ use Rattle.pin_core.proofs.Lists.{contains_cases}
 use Rattle.zone_model.specs.Names.{Name, name_cmp}
 use Rattle.zone_model.specs.NameOrder.{name_cmp_total}
 use Rattle.shared_cells.specs.declared.view.TableSize.{TableSize}
-use Rattle.shared_index.specs.declared.opening.OpenRefusal.TheVariants as refusal
-use Rattle.shared_index.specs.Openings.{Refuses}
+use Rattle.qp_multi.specs.declared.opening.OpenRefusal.TheVariants as refusal
+use Rattle.qp_multi.specs.Openings.{Refuses}
 use Rattle.zone_table.specs.declared.opening.ZoneItems.{ZoneItems}
 use Rattle.zone_table.specs.declared.opening.ZonesRefusal.{ZonesRefusal}
 use Rattle.zone_table.specs.declared.opening.ZonesRefusal.TheVariants.{Full, Memory}

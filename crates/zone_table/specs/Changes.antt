@@ -5,11 +5,11 @@ use Rattle.zone_model.specs.Keys.{key_of}
 use Rattle.trie_model.specs.Keys.{Entry}
 use Rattle.shared_cells.specs.declared.view.PassView.{PassView}
 use Rattle.shared_cells.specs.History.{StartsWith, IsPartOf, entries_by, entry_of}
-use Rattle.shared_index.specs.declared.commit.Receipt.{Receipt}
-use Rattle.shared_index.specs.declared.meaning.Operation.{Operation}
-use Rattle.shared_index.specs.declared.meaning.Operation.TheVariants.{Insert, Delete}
-use Rattle.shared_index.specs.Operations.{operated}
-use Rattle.shared_index.specs.Passes.{Known, version_seen}
+use Rattle.qp_multi.specs.declared.commit.Receipt.{Receipt}
+use Rattle.qp_multi.specs.declared.meaning.Operation.{Operation}
+use Rattle.qp_multi.specs.declared.meaning.Operation.TheVariants.{Insert, Delete}
+use Rattle.qp_multi.specs.Operations.{operated}
+use Rattle.qp_multi.specs.Passes.{Known, version_seen}
 use Rattle.zone_table.specs.declared.change.TableRefusal.{TableRefusal}
 use Rattle.zone_table.specs.declared.change.TableRefusal.TheVariants.{Exists, Missing, Spent}
 use Rattle.zone_table.specs.Notes.{Sighting}

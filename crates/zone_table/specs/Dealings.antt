@@ -1,11 +1,11 @@
 -- How the passes of the table and of the zones are put together.
 use Rattle.std.specs.Prelude.{◌≡◌, ℕ, ◌<◌, List, [], ◌∷◌, ◌++◌, length, map, All, Some, None, slice_get}
 use Rattle.trie_model.specs.Keys.{Entry}
-use Rattle.shared_index.specs.declared.meaning.Named.{Ghosts}
-use Rattle.shared_index.specs.declared.pass.Pass.{Pass}
-use Rattle.shared_index.specs.Closings.{AreAll}
-use Rattle.shared_index.specs.Openings.{SeesFirst}
-use Rattle.shared_index.specs.Passes.{Known, commits_in, first_version, pinned_in}
+use Rattle.qp_multi.specs.declared.meaning.Named.{Ghosts}
+use Rattle.qp_multi.specs.declared.pass.Pass.{Pass}
+use Rattle.qp_multi.specs.Closings.{AreAll}
+use Rattle.qp_multi.specs.Openings.{SeesFirst}
+use Rattle.qp_multi.specs.Passes.{Known, commits_in, first_version, pinned_in}
 use Rattle.zone_table.specs.declared.opening.ZoneItems.{ZoneItems}
 use Rattle.zone_table.specs.declared.pass.ZonesPass.{ZonesPass}
 use Rattle.zone_table.specs.Openings.{entries_in, origins_of}

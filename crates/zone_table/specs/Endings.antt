@@ -1,11 +1,11 @@
 -- How the zones end.
 use Rattle.std.specs.Prelude.{◌≡◌, ℕ, ◌+◌, List, [], ◌∷◌, ◌++◌, Vec, length, map, All, IsSome, Some, slice_get, slice_index}
 use Rattle.std.specs.Global.{Global}
-use Rattle.shared_index.specs.declared.index.Index.{Index}
-use Rattle.shared_index.specs.declared.meaning.Named.{Ghosts}
-use Rattle.shared_index.specs.declared.pass.Pass.{Pass}
-use Rattle.shared_index.specs.Closings.{AllSeen, Ends}
-use Rattle.shared_index.specs.Passes.{Known, known_at}
+use Rattle.qp_multi.specs.declared.index.Index.{Index}
+use Rattle.qp_multi.specs.declared.meaning.Named.{Ghosts}
+use Rattle.qp_multi.specs.declared.pass.Pass.{Pass}
+use Rattle.qp_multi.specs.Closings.{AllSeen, Ends}
+use Rattle.qp_multi.specs.Passes.{Known, known_at}
 use Rattle.zone_table.specs.declared.pass.ZonesPass.{ZonesPass}
 use Rattle.zone_table.specs.Passes.{zone_known}
 

@@ -2,9 +2,9 @@
 use Rattle.std.specs.Prelude.{ℕ}
 use Rattle.std.specs.Borrow.{Lends, Fml, RattleType, MutBor}
 use Rattle.std.specs.Vec.{with_item}
-use Rattle.shared_index.specs.declared.meaning.Named.{Ghosts}
-use Rattle.shared_index.specs.declared.pass.Pass.{Pass}
-use Rattle.shared_index.specs.contracts.pass.Pass.{the_row as pass_row}
+use Rattle.qp_multi.specs.declared.meaning.Named.{Ghosts}
+use Rattle.qp_multi.specs.declared.pass.Pass.{Pass}
+use Rattle.qp_multi.specs.contracts.pass.Pass.{the_row as pass_row}
 use Rattle.zone_table.specs.declared.pass.ZonesPass.{ZonesPass}
 use Rattle.zone_table.specs.contracts.pass.ZonesPass.{the_row}
 

@@ -4,9 +4,9 @@ use Rattle.std.specs.List.{range_with_len}
 use Rattle.zone_model.specs.Names.{Name}
 use Rattle.trie_model.specs.Keys.{Entry}
 use Rattle.shared_cells.specs.declared.view.Seen.{Seen}
-use Rattle.shared_index.specs.declared.meaning.Named.{Ghosts}
-use Rattle.shared_index.specs.declared.meaning.Operation.{Operation}
-use Rattle.shared_index.specs.Passes.{Known, Learnt}
+use Rattle.qp_multi.specs.declared.meaning.Named.{Ghosts}
+use Rattle.qp_multi.specs.declared.meaning.Operation.{Operation}
+use Rattle.qp_multi.specs.Passes.{Known, Learnt}
 use Rattle.zone_table.specs.declared.note.ZonesNote.{ZonesNote}
 use Rattle.zone_table.specs.declared.pass.ZonesPass.{ZonesPass}
 use Rattle.zone_table.specs.Passes.{table_known, zones_known}

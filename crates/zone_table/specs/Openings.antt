@@ -7,11 +7,11 @@ use Rattle.trie_model.specs.Keys.{Entry}
 use Rattle.trie_model.specs.Shape.{cells}
 use Rattle.trie_write.specs.Entries.{entries_of_items}
 use Rattle.shared_cells.specs.declared.view.TableSize.{TableSize}
-use Rattle.shared_index.specs.declared.meaning.Named.{Ghosts}
-use Rattle.shared_index.specs.declared.opening.OpenRefusal.TheVariants as refusal
-use Rattle.shared_index.specs.Closings.{AreAll}
-use Rattle.shared_index.specs.Openings.{Refuses, SeesFirst, room_in}
-use Rattle.shared_index.specs.Passes.{known_at, commits_in, pinned_in}
+use Rattle.qp_multi.specs.declared.meaning.Named.{Ghosts}
+use Rattle.qp_multi.specs.declared.opening.OpenRefusal.TheVariants as refusal
+use Rattle.qp_multi.specs.Closings.{AreAll}
+use Rattle.qp_multi.specs.Openings.{Refuses, SeesFirst, room_in}
+use Rattle.qp_multi.specs.Passes.{known_at, commits_in, pinned_in}
 use Rattle.zone_table.specs.declared.opening.Opened.{Opened}
 use Rattle.zone_table.specs.declared.opening.ZoneItems.{ZoneItems}
 use Rattle.zone_table.specs.declared.opening.ZonesRefusal.{ZonesRefusal}

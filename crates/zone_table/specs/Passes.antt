@@ -2,8 +2,8 @@
 use Rattle.std.specs.Prelude.{◌≡◌, ℕ, List, length, map, All, IfSome, IsSome, None, slice_get, unwrap_or}
 use Rattle.std.specs.List.{range_with_len}
 use Rattle.zone_model.specs.Names.{Name}
-use Rattle.shared_index.specs.declared.meaning.Named.{Ghosts}
-use Rattle.shared_index.specs.Passes.{Known, known_at, first_version}
+use Rattle.qp_multi.specs.declared.meaning.Named.{Ghosts}
+use Rattle.qp_multi.specs.Passes.{Known, known_at, first_version}
 use Rattle.zone_table.specs.declared.pass.ZonesPass.{ZonesPass}
 use Rattle.zone_table.specs.Recalled.{Recalls}
 use Rattle.zone_table.specs.Tables.{IsTable}

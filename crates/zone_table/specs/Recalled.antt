@@ -5,8 +5,8 @@ use Rattle.trie_model.specs.Keys.{Entry}
 use Rattle.shared_cells.specs.declared.view.Seen.{Seen}
 use Rattle.shared_cells.specs.History.{IsPartOf}
 use Rattle.shared_cells.specs.Views.{is_told}
-use Rattle.shared_index.specs.declared.meaning.Operation.{Operation}
-use Rattle.shared_index.specs.Passes.{version_seen}
+use Rattle.qp_multi.specs.declared.meaning.Operation.{Operation}
+use Rattle.qp_multi.specs.Passes.{version_seen}
 use Rattle.zone_table.specs.Tables.{IsAttached}
 
 -- what is told of a zone, by its number

@@ -11,7 +11,7 @@ use crate::shelves::shelves_for;
 use crate::table::table_items;
 use crate::zones::Zones;
 use dns_name::Name;
-use shared_index::{Blank, Index, Law, Named, OpenRefusal};
+use qp_multi::{Blank, Index, Law, Named, OpenRefusal};
 use std::alloc::{AllocError, Global};
 
 // The origins of the zones.

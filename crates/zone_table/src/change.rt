@@ -4,7 +4,7 @@ ghost use Rattle.zone_table.specs.Prelude.{IsPassOf, table_known, Attaches, Deta
 
 use crate::pass::ZonesPass;
 use crate::zones::Zones;
-use shared_index::{ChangeRefusal, InsertRefusal, Law, Locked, Named, Receipt, Spent};
+use qp_multi::{ChangeRefusal, InsertRefusal, Law, Locked, Named, Receipt, Spent};
 use shift_key::Key;
 use std::sync::Wait;
 

@@ -4,7 +4,7 @@ ghost use Rattle.zone_table.specs.Prelude.{IsPassOf, table_known, AreAdded, AreE
 
 use crate::pass::ZonesPass;
 use crate::zones::Zones;
-use shared_index::{Index, Law, Named, Pass};
+use qp_multi::{Index, Law, Named, Pass};
 use std::alloc::{AllocError, Global};
 
 // So many lists without any pass.

@@ -5,7 +5,7 @@ ghost use Rattle.zone_table.specs.Dealings.{AreDealt, IsGrid};
 use crate::opening::Opened;
 use crate::pass::ZonesPass;
 use crate::recalled::Recalled;
-use shared_index::{Index, Law, Named, Pass};
+use qp_multi::{Index, Law, Named, Pass};
 use std::alloc::{AllocError, Global};
 
 // Passes of the table, without any of a zone yet.

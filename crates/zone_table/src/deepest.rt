@@ -5,7 +5,7 @@ ghost use Rattle.zone_table.specs.Prelude.{IsSpelled, Spells, Entry, Labels, IsZ
 use crate::shelves::shelf_of;
 use crate::zones::Zones;
 use dns_name::first_label;
-use shared_index::{Law, Named};
+use qp_multi::{Law, Named};
 
 impl<L: Law, N: Named> Zones<L, N> {
     // Whether a zone is attached and has just this origin.

@@ -1,5 +1,5 @@
 //! Which versions the table of zones may have.
-use shared_index::Law;
+use qp_multi::Law;
 
 /// A version has no origin but those that the table was opened with. A commit puts one in or takes one out.
 pub struct TableLaw;

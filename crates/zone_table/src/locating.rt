@@ -5,7 +5,7 @@ ghost use Rattle.zone_table.specs.Prelude.{known_at, version_seen, Pinned, IsAmo
 use crate::pass::ZonesPass;
 use crate::zones::Zones;
 use dns_name::Name;
-use shared_index::{Law, Named};
+use qp_multi::{Law, Named};
 use trie_read::Reading;
 
 /// Which zone a name is in, by a version of the table.

@@ -4,7 +4,7 @@ ghost use Rattle.zone_table.specs.Prelude.{Known, known_at, IsPassOf, IsNoteOf, 
 
 use crate::pass::ZonesPass;
 use crate::zones::Zones;
-use shared_index::{Index, Law, Named, Note, Pass};
+use qp_multi::{Index, Law, Named, Note, Pass};
 use std::alloc::{AllocError, Global};
 
 /// What a pass had seen of the table and of each zone, for another to learn. It may go to another thread.

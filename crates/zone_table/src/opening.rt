@@ -4,7 +4,7 @@ ghost use Rattle.zone_table.specs.Prelude.{Rises, TableSize, Refuses, Place, pla
 
 use crate::law::TableLaw;
 use dns_name::Name;
-use shared_index::{Blank, Index, Law, Named, OpenRefusal, Pass};
+use qp_multi::{Blank, Index, Law, Named, OpenRefusal, Pass};
 use std::alloc::{AllocError, Global};
 use trie_write::Item;
 

@@ -4,7 +4,7 @@ ghost use Rattle.zone_table.specs.Prelude.{sem, known_at, IsPassOf, zone_known, 
 
 use crate::recalled::Recalled;
 use crate::zones::Zones;
-use shared_index::{Law, Named, Pass};
+use qp_multi::{Law, Named, Pass};
 
 /// A reader's place in the table and in each zone. It asks one thing at a time; it may go to another thread.
 #[derive(Drop)]

@@ -7,7 +7,7 @@ ghost use Rattle.zone_table.specs.Shelves.{AreFiled, AreZones};
 
 use crate::law::TableLaw;
 use dns_name::Name;
-use shared_index::{Index, Law, Named};
+use qp_multi::{Index, Law, Named};
 
 /// Zones that are served at once, each an index of its own, and the table of their origins, which is an index too. A zone's number is its
 /// place in the list that they were opened with.

@@ -1,5 +1,5 @@
 //! A law for indexes that are looked at no further.
-use shared_index::Law;
+use qp_multi::Law;
 
 /// Every version is lawful, and a commit has any number of operations.
 pub(crate) struct Flat;

@@ -7,7 +7,7 @@ ghost use Rattle.zone_table.specs.Passes.{IsPassOf};
 
 use crate::flat::Flat;
 use dns_name::Name;
-use shared_index::{Blank, Named};
+use qp_multi::{Blank, Named};
 use std::alloc::Global;
 use std::marker::Brand;
 use std::sync::Wait;

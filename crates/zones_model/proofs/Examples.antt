@@ -7,7 +7,7 @@ use Rattle.zone_model.specs.DataText.{fields_text}
 use Rattle.zone_model.specs.Records.{Rrset}
 use Rattle.zone_model.specs.MasterFile.{Zone}
 use Rattle.zone_model.specs.Versions.{DeleteName}
-use Rattle.zone_query.specs.Answers.{followed}
+use Rattle.zone_answer.specs.Answers.{followed}
 use Rattle.job_model.specs.Outcomes as one
 use Rattle.job_model.specs.declared.Ending.TheVariants.{Commit}
 use Rattle.job_model.specs.declared.Weight.TheVariants.{Light}

@@ -7,7 +7,7 @@ use Rattle.zone_model.specs.Names.{Name, name_cmp}
 use Rattle.zone_model.specs.NameText.{text_of}
 use Rattle.zone_model.specs.MasterFile.{Zone}
 use Rattle.zone_model.specs.Versions.{Version}
-use Rattle.zone_query.specs.Answers.{answer}
+use Rattle.zone_answer.specs.Answers.{answer}
 use Rattle.job_model.specs.Outcomes.{is_refused}
 use Rattle.job_model.specs.Replies.{answer_text}
 use Rattle.job_model.specs.Reports.{ended_text}

@@ -9,7 +9,7 @@ use Rattle.zone_model.specs.NameText.{text_of}
 use Rattle.zone_model.specs.MasterFile.{Zone}
 use Rattle.zone_model.specs.Transactions.{Transaction}
 use Rattle.zone_model.specs.Versions.{Version}
-use Rattle.zone_query.specs.Answers.{answer}
+use Rattle.zone_answer.specs.Answers.{answer}
 use Rattle.job_model.specs.Commands as jobs
 use Rattle.job_model.specs.declared.Ending.{Ending}
 use Rattle.job_model.specs.declared.Question.TheVariants as question

@@ -8,10 +8,10 @@ use Rattle.shared_cells.specs.declared.view.Seen.{Seen}
 use Rattle.shared_cells.specs.History.{IsPartOf, OpeningFits, entry_of, version_after}
 use Rattle.shared_cells.specs.declared.view.PassView.{PassView}
 use Rattle.shared_cells.specs.Views.{is_told}
-use Rattle.shared_index.specs.declared.commit.Receipt.{Receipt}
-use Rattle.shared_index.specs.declared.meaning.Operation.{Operation}
-use Rattle.shared_index.specs.Operations.{applied}
-use Rattle.shared_index.specs.Passes.{Known, first_version}
+use Rattle.qp_multi.specs.declared.commit.Receipt.{Receipt}
+use Rattle.qp_multi.specs.declared.meaning.Operation.{Operation}
+use Rattle.qp_multi.specs.Operations.{applied}
+use Rattle.qp_multi.specs.Passes.{Known, first_version}
 use Rattle.job_commands.proofs.HistoryLaws.{part_more}
 use Rattle.zone_table.specs.declared.change.TableRefusal.{TableRefusal}
 use Rattle.zone_table.specs.declared.change.TableRefusal.TheVariants as refusal

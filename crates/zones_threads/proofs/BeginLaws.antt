@@ -7,9 +7,9 @@ use Rattle.zone_model.specs.MasterFile.{Zone}
 use Rattle.zone_model.specs.Names.{Name}
 use Rattle.trie_model.specs.Keys.{Rises}
 use Rattle.shared_cells.specs.declared.view.TableSize.{TableSize}
-use Rattle.shared_index.specs.declared.meaning.Named.{Ghosts}
-use Rattle.shared_index.specs.Closings.{AreAll}
-use Rattle.shared_index.specs.Passes.{first_version}
+use Rattle.qp_multi.specs.declared.meaning.Named.{Ghosts}
+use Rattle.qp_multi.specs.Closings.{AreAll}
+use Rattle.qp_multi.specs.Passes.{first_version}
 use Rattle.job_commands.specs.Histories.{BeginsAt, IsLawful, IsZone}
 use Rattle.job_commands.specs.Works.{AreNew}
 use Rattle.job_commands.proofs.OpenLaws.{new_view}

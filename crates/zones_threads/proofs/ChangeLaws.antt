@@ -12,7 +12,7 @@ use Rattle.zone_model.proofs.NameLemmas.{same_name-true}
 use Rattle.trie_model.specs.Keys.{Entry, InList}
 use Rattle.trie_model.proofs.AboveLaws.{cmp_before}
 use Rattle.trie_model.proofs.OrderLaws.{less_not_back}
-use Rattle.shared_index.specs.Operations.{below, above, applied}
+use Rattle.qp_multi.specs.Operations.{below, above, applied}
 use Rattle.zone_table.specs.Tables.{IsAttached, entry_for}
 use Rattle.zones_threads.specs.Steps.{IsOrNot, operation_for}
 

@@ -12,9 +12,9 @@ use Rattle.shared_cells.specs.declared.view.PassView.{PassView}
 use Rattle.shared_cells.specs.declared.view.Progress.TheVariants as progress
 use Rattle.shared_cells.specs.History.{StartsWith}
 use Rattle.shared_cells.specs.Views.{number_of, is_told, with_pinned, with_progress}
-use Rattle.shared_index.specs.declared.meaning.Operation.{Operation}
-use Rattle.shared_index.specs.Closings.{AllSeen, AreAll, Ends}
-use Rattle.shared_index.specs.Passes.{Known, Pinned, version_seen}
+use Rattle.qp_multi.specs.declared.meaning.Operation.{Operation}
+use Rattle.qp_multi.specs.Closings.{AllSeen, AreAll, Ends}
+use Rattle.qp_multi.specs.Passes.{Known, Pinned, version_seen}
 use Rattle.job_commands.specs.Closings.{numbers_in}
 use Rattle.job_commands.specs.Histories.{IsLawful, Setup, StandsAs}
 use Rattle.job_commands.specs.Runs.{IsRun}

@@ -15,8 +15,8 @@ use Rattle.job_script.specs.declared.outcomes.Outcomes.{Outcomes}
 use Rattle.shared_cells.specs.declared.view.TableSize.{TableSize}
 use Rattle.shared_cells.specs.History.{StartsWith}
 use Rattle.shared_cells.specs.Views.{number_of, is_told}
-use Rattle.shared_index.specs.declared.meaning.Named.{Ghosts}
-use Rattle.shared_index.specs.Passes.{Known, known_at, Learnt}
+use Rattle.qp_multi.specs.declared.meaning.Named.{Ghosts}
+use Rattle.qp_multi.specs.Passes.{Known, known_at, Learnt}
 use Rattle.job_commands.specs.Histories.{Setup, Entries}
 use Rattle.job_commands.specs.Commands.{IsIndex, IsSetup}
 use Rattle.job_commands.specs.Closings.{numbers_in}

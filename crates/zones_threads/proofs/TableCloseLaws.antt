@@ -9,9 +9,9 @@ use Rattle.std.proofs.lemmas.List.Elements.{All-contains}
 use Rattle.zone_model.specs.Names.{Name, IsName}
 use Rattle.shared_cells.specs.History.{StartsWith, entries_by, version_after}
 use Rattle.shared_cells.specs.Views.{number_of}
-use Rattle.shared_index.specs.Operations.{applied}
-use Rattle.shared_index.specs.Passes.{Known, first_version, version_seen}
-use Rattle.shared_index.specs.Closings.{AllSeen, Includes, AreAll, IsCommitOf, Ends}
+use Rattle.qp_multi.specs.Operations.{applied}
+use Rattle.qp_multi.specs.Passes.{Known, first_version, version_seen}
+use Rattle.qp_multi.specs.Closings.{AllSeen, Includes, AreAll, IsCommitOf, Ends}
 use Rattle.job_commands.specs.Closings.{Some', AreApart as NumbersApart, IsPass, numbers_in}
 use Rattle.job_commands.specs.Histories.{Commit, Entries, index_at, times_by}
 use Rattle.job_commands.proofs.CloseLaws.{all_rec, apart, none_entries, part_entries, pass_of, seen_all, some_of}

@@ -8,9 +8,9 @@ use Rattle.zone_model.specs.Names.{Name}
 use Rattle.shared_cells.specs.Views.{is_told, with_pinned}
 use Rattle.shared_cells.specs.declared.view.PassView.{PassView}
 use Rattle.shared_cells.specs.History.{StartsWith, IsPartOf, entries_by, entry_of, version_after}
-use Rattle.shared_index.specs.declared.meaning.Operation.{Operation}
-use Rattle.shared_index.specs.Operations.{applied}
-use Rattle.shared_index.specs.Passes.{Known, first_version, version_seen}
+use Rattle.qp_multi.specs.declared.meaning.Operation.{Operation}
+use Rattle.qp_multi.specs.Operations.{applied}
+use Rattle.qp_multi.specs.Passes.{Known, first_version, version_seen}
 use Rattle.job_commands.specs.Histories.{Commit, Entries, index_at, times_by}
 use Rattle.job_commands.specs.Works.{IsNew}
 use Rattle.job_commands.proofs.HistoryLaws.{begins_same, begins_more, begins_length, index_front, index_last, opened_same, part_same, by-push, times_front, times_past, times_there, times_else}

@@ -1,7 +1,7 @@
 -- Zones that are counted one after another.
 use Rattle.std.proofs.Common.{◌≡◌, ◌≢◌, ◌∙◌, ◌⊎◌, ⊎_elim, ℕ, ◌<◌, List, [], ◌∷◌, ◌++◌, length, Some, sym, subst, arith}
 use Rattle.std.specs.List.{slice_get}
-use Rattle.shared_index.specs.Passes.{Known}
+use Rattle.qp_multi.specs.Passes.{Known}
 use Rattle.zone_table.proofs.Lists.{last_or_before}
 use Rattle.zones_threads.specs.Visits.{Counted}
 

@@ -10,8 +10,8 @@ use Rattle.job_model.specs.Commands.{NeedsNoSnapshot}
 use Rattle.job_script.specs.declared.outcomes.Outcome.{Outcome}
 use Rattle.shared_cells.specs.Views.{is_told}
 use Rattle.shared_cells.specs.History.{IsPartOf}
-use Rattle.shared_index.specs.declared.meaning.Named.{Ghosts}
-use Rattle.shared_index.specs.Passes.{Known, first_version}
+use Rattle.qp_multi.specs.declared.meaning.Named.{Ghosts}
+use Rattle.qp_multi.specs.Passes.{Known, first_version}
 use Rattle.job_commands.specs.Histories.{Setup}
 use Rattle.job_commands.specs.Commands.{IsSetup}
 use Rattle.job_commands.specs.Works.{only, IsNew, ended}

@@ -1,6 +1,6 @@
 -- What is told of a change of the table.
 use Rattle.std.specs.Prelude.{ℕ, Option, Some, None, Result, Ok, Err}
-use Rattle.shared_index.specs.declared.commit.Receipt.{Receipt}
+use Rattle.qp_multi.specs.declared.commit.Receipt.{Receipt}
 use Rattle.zone_table.specs.declared.change.TableRefusal.{TableRefusal}
 use Rattle.zone_table.specs.declared.change.TableRefusal.TheVariants as refusal
 use Rattle.zones_model.specs.declared.TableCause.{TableCause}

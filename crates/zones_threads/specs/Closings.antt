@@ -6,9 +6,9 @@ use Rattle.job_script.specs.declared.outcomes.Outcome.{Outcome}
 use Rattle.job_script.specs.declared.outcomes.Outcomes.{Outcomes}
 use Rattle.shared_cells.specs.declared.view.PassView.{PassView}
 use Rattle.shared_cells.specs.History.{StartsWith}
-use Rattle.shared_index.specs.declared.meaning.Named.{Ghosts}
-use Rattle.shared_index.specs.declared.meaning.Operation.{Operation}
-use Rattle.shared_index.specs.Passes.{Known, first_version}
+use Rattle.qp_multi.specs.declared.meaning.Named.{Ghosts}
+use Rattle.qp_multi.specs.declared.meaning.Operation.{Operation}
+use Rattle.qp_multi.specs.Passes.{Known, first_version}
 use Rattle.job_commands.specs.Histories.{Setup}
 use Rattle.job_commands.specs.Closings.{Gathers, numbers_in}
 use Rattle.zones_model.specs.Commands.{Command}

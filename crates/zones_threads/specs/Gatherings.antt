@@ -1,7 +1,7 @@
 -- What workers of several zones are given, and what they come to.
 use Rattle.std.specs.Prelude.{◌≡◌, ℕ, ◌+◌, List, length, All}
 use Rattle.std.specs.List.{AllByRecursion}
-use Rattle.shared_index.specs.declared.meaning.Named.{Ghosts}
+use Rattle.qp_multi.specs.declared.meaning.Named.{Ghosts}
 use Rattle.job_commands.specs.Commands.{IsIndex}
 use Rattle.job_commands.specs.Histories.{Setup}
 use Rattle.job_commands.specs.Works.{AreNew, IsNew}

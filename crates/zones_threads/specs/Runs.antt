@@ -2,8 +2,8 @@
 use Rattle.std.specs.Prelude.{◌≡◌, ℕ, List, length, Some, slice_get}
 use Rattle.zone_model.specs.MasterFile.{Zone}
 use Rattle.zone_model.specs.Names.{Name}
-use Rattle.shared_index.specs.Closings.{AreAll}
-use Rattle.shared_index.specs.Passes.{Known}
+use Rattle.qp_multi.specs.Closings.{AreAll}
+use Rattle.qp_multi.specs.Passes.{Known}
 use Rattle.job_commands.specs.Histories.{Entries, StandsAs}
 use Rattle.job_commands.specs.Works.{AreNew}
 use Rattle.zones_model.specs.Commands.{Command, origins_of}

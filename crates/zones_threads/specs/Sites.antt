@@ -3,8 +3,8 @@ use Rattle.std.specs.Prelude.{◌≡◌, ◌<◌, ℕ, List, Some, length, slice
 use Rattle.zone_model.specs.Names.{Name}
 use Rattle.report_laws.specs.Changes.{AllSaid}
 use Rattle.shared_cells.specs.declared.view.TableSize.{TableSize}
-use Rattle.shared_index.specs.declared.meaning.Named.{Ghosts}
-use Rattle.shared_index.specs.declared.index.Index.{Index}
+use Rattle.qp_multi.specs.declared.meaning.Named.{Ghosts}
+use Rattle.qp_multi.specs.declared.index.Index.{Index}
 use Rattle.zones_model.specs.Commands.{Command, Get, Block, Attach, Detach}
 use Rattle.zone_table.specs.declared.zones.Zones.{Zones}
 use Rattle.zone_table.specs.declared.pass.ZonesPass.{ZonesPass}

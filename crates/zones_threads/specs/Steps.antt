@@ -7,11 +7,11 @@ use Rattle.trie_model.specs.Keys.{Entry}
 use Rattle.shared_cells.specs.declared.view.PassView.{PassView}
 use Rattle.shared_cells.specs.History.{StartsWith, IsPartOf, entries_by, entry_of, version_after}
 use Rattle.shared_cells.specs.Views.{is_told}
-use Rattle.shared_index.specs.declared.meaning.Named.{Ghosts}
-use Rattle.shared_index.specs.declared.meaning.Operation.{Operation}
-use Rattle.shared_index.specs.declared.meaning.Operation.TheVariants.{Insert, Delete}
-use Rattle.shared_index.specs.Operations.{applied}
-use Rattle.shared_index.specs.Passes.{Known, Pinned, first_version, version_seen}
+use Rattle.qp_multi.specs.declared.meaning.Named.{Ghosts}
+use Rattle.qp_multi.specs.declared.meaning.Operation.{Operation}
+use Rattle.qp_multi.specs.declared.meaning.Operation.TheVariants.{Insert, Delete}
+use Rattle.qp_multi.specs.Operations.{applied}
+use Rattle.qp_multi.specs.Passes.{Known, Pinned, first_version, version_seen}
 use Rattle.job_model.specs.Outcomes.{last_version}
 use Rattle.job_commands.specs.Histories.{Setup, Commit}
 use Rattle.job_commands.specs.Commands.{IsSetup}

@@ -2,7 +2,7 @@
 use Rattle.std.specs.Prelude.{◌≡◌, ℕ, length}
 use Rattle.shared_cells.specs.declared.view.Progress.TheVariants as progress
 use Rattle.shared_cells.specs.Views.{with_progress}
-use Rattle.shared_index.specs.Passes.{Known, Pinned, version_seen}
+use Rattle.qp_multi.specs.Passes.{Known, Pinned, version_seen}
 use Rattle.job_commands.specs.Histories.{IsLawful}
 
 -- A pass took the current version, and left it again. It had so many names.

@@ -4,7 +4,7 @@ ghost use Rattle.zones_model.specs.Commands as model;
 ghost use Rattle.zones_threads.specs.Prelude.{IsPassOf, cause_told, version_told, Goes};
 
 use job_commands::ZoneLaw;
-use shared_index::{Named, Receipt};
+use qp_multi::{Named, Receipt};
 use std::sync::Wait;
 use zone_table::{TableRefusal, Zones, ZonesPass};
 use zones_model::TableCause;

@@ -3,7 +3,7 @@ ghost use Rattle.std.specs.Prelude.{◌≡◌, ◌≢◌, ◌<◌, ℕ, Some, If
 ghost use Rattle.zones_threads.specs.Prelude.{known_at, IsPassOf, table_known, zone_known, Counted};
 
 use job_commands::ZoneLaw;
-use shared_index::{Index, Named, Pass};
+use qp_multi::{Index, Named, Pass};
 use std::alloc::{AllocError, Global};
 use trie_read::Reading;
 use zone_table::{Zones, ZonesPass};

@@ -4,7 +4,7 @@ ghost use Rattle.zones_threads.specs.Prelude.{IsPassOf, table_known, zone_known,
 
 use crate::closing::all_names;
 use job_commands::ZoneLaw;
-use shared_index::Named;
+use qp_multi::Named;
 use std::alloc::{AllocError, Global};
 use zone_table::{Zones, ZonesPass};
 

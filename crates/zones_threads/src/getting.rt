@@ -6,7 +6,7 @@ ghost use Rattle.zones_threads.specs.Prelude.{IsPassOf, Goes};
 use dns_name::Name;
 use job_commands::{Room, ZoneLaw, run_question};
 use job_model::Question;
-use shared_index::Named;
+use qp_multi::Named;
 use std::alloc::{AllocError, Global};
 use zone_table::{Zones, ZonesPass};
 use zones_report::{Answer, Done};

@@ -8,7 +8,7 @@ ghost use Rattle.zones_threads.specs.Prelude.{IsSaid, IsSite, Opens, Site, comma
 use crate::ending::close_zones;
 use crate::worker::{Ended, Task, run_worker};
 use job_commands::{Gate, ZoneLaw};
-use shared_index::Named;
+use qp_multi::Named;
 use std::alloc::{AllocError, Global};
 use std::sync::Wait;
 use std::thread::{Threads, join};

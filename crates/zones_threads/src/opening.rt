@@ -6,7 +6,7 @@ ghost use Rattle.zone_table.specs.Openings.{origins_of};
 
 use crate::job::run_zones;
 use job_commands::{Gate, ZoneLaw};
-use shared_index::{Blank, Named};
+use qp_multi::{Blank, Named};
 use std::alloc::{AllocError, Global};
 use std::marker::Brand;
 use std::sync::Wait;

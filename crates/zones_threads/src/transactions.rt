@@ -5,7 +5,7 @@ ghost use Rattle.zones_model.specs.Commands as model;
 
 use job_commands::{Room, ZoneLaw, run_block};
 use job_script::Block;
-use shared_index::Named;
+use qp_multi::Named;
 use std::alloc::{AllocError, Global};
 use std::sync::Wait;
 use zone_table::{Zones, ZonesPass};

@@ -6,7 +6,7 @@ use crate::changing::{attach, detach};
 use crate::getting::get;
 use crate::transactions::change_zone;
 use job_commands::{Gate, Room, ZoneLaw, counted, tell_after, tell_before};
-use shared_index::Named;
+use qp_multi::Named;
 use std::alloc::{AllocError, Global};
 use std::sync::Wait;
 use zone_table::{Zones, ZonesPass};

@@ -3,7 +3,7 @@ use Rattle.std.specs.Prelude.{IsSome}
 use Rattle.job_script.specs.Views.{command_view}
 use Rattle.job_script.proofs.ReportLemmas.{if_ok}
 use Rattle.feed_core.specs.Feeds.{Takings, new_seat}
-use Rattle.shared_index.specs.Passes.{known_at}
+use Rattle.qp_multi.specs.Passes.{known_at}
 use Rattle.job_commands.specs.Commands.{OpensAt}
 use Rattle.feed_threads.specs.Feeds.{FedHeard, commands_at, commands_served, outcomes_served}
 use Rattle.job_commands.proofs.ShowLaws.{seat_told}

@@ -5,8 +5,8 @@ use Rattle.std.proofs.lemmas.List.{length-map, length-replicate}
 use Rattle.zone_model.specs.Names.{Name}
 use Rattle.job_script.specs.Views.{command_view}
 use Rattle.feed_core.specs.Feeds.{StandsOnce, Takings, lists_of, new_seat}
-use Rattle.shared_index.specs.Closings.{AreAll}
-use Rattle.shared_index.specs.Passes.{known_at}
+use Rattle.qp_multi.specs.Closings.{AreAll}
+use Rattle.qp_multi.specs.Passes.{known_at}
 use Rattle.feed_threads.specs.Feeds.{AreInOrder, commands_served, numbers_served, outcomes_served}
 use Rattle.job_commands.specs.Runs.{IsRun}
 use Rattle.feed_threads.proofs.FedRunLaws.{fed_run}

@@ -7,7 +7,7 @@ use Rattle.job_commands.specs.Works.{only}
 use Rattle.std.specs.List.{AllByRecursion}
 use Rattle.job_commands.specs.Calls.{IsHeard}
 use Rattle.report_laws.specs.Changes.{AllAsked}
-use Rattle.shared_index.specs.Passes.{first_version, known_at}
+use Rattle.qp_multi.specs.Passes.{first_version, known_at}
 use Rattle.job_commands.specs.Histories.{Setup}
 use Rattle.job_commands.specs.Stations.{station}
 use Rattle.feed_threads.proofs.ServeLaws.{command_here, plain_here, so_here, serve_starts, serve_next}

@@ -3,7 +3,7 @@ use Rattle.std.specs.Prelude.{IsSome}
 use Rattle.std.specs.List.{AllByRecursion}
 use Rattle.job_script.specs.Views.{command_view}
 use Rattle.feed_core.specs.Feeds.{remaining}
-use Rattle.shared_index.specs.Passes.{known_at}
+use Rattle.qp_multi.specs.Passes.{known_at}
 use Rattle.job_commands.specs.Histories.{Setup}
 use Rattle.job_commands.specs.Calls.{IsHeard}
 use Rattle.job_commands.specs.Commands.{IsSetup, OpensAt}

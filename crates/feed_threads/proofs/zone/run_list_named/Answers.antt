@@ -1,5 +1,5 @@
 use Rattle.std.proofs.Common.{◌≡◌, ◌≤◌, refl, sym, ap, subst}
-use Rattle.shared_index.specs.Openings.{room_in}
+use Rattle.qp_multi.specs.Openings.{room_in}
 use Rattle.trie_model.specs.Shape.{cells}
 use Rattle.trie_write.specs.Entries.{entries_of_items}
 use Rattle.job_commands.specs.Histories.{Setup}

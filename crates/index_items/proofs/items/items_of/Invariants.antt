@@ -1,7 +1,7 @@
 use Rattle.std.proofs.Common.{◌≡◌, ◌++◌, length}
 use Rattle.std.specs.List.{AllByRecursion}
 use Rattle.trie_write.specs.Entries.{entries_of_items}
-use Rattle.zone_query.specs.Standing.{IsStorable}
+use Rattle.zone_answer.specs.Standing.{IsStorable}
 use Rattle.job_model.specs.Sizes.{trie_entries}
 use Rattle.index_items.proofs.items.items_of.Given as goal
 

@@ -1,7 +1,7 @@
 use Rattle.std.proofs.Common.{sym, subst}
 use Rattle.job_script.specs.Views.{asked_view}
 use Rattle.job_script.proofs.ReportLemmas.{if_ok}
-use Rattle.shared_index.specs.Passes.{known_at}
+use Rattle.qp_multi.specs.Passes.{known_at}
 use Rattle.job_commands.specs.Commands.{Asked}
 use Rattle.job_commands.specs.Steps.{MovedAt}
 use Rattle.job_commands.proofs.StationLaws.{ask_done, block_done, compact_done, if_both, step_is}

@@ -1,9 +1,9 @@
 use Rattle.std.proofs.Common.{rules, ◌∙◌, refl, sym, ap, subst}
 use Rattle.shared_cells.specs.declared.view.Progress.TheVariants as progress
 use Rattle.shared_cells.specs.Views.{with_progress, pinned_image}
-use Rattle.shared_index.specs.Meanings.{Holds}
-use Rattle.shared_index.specs.Passes.{Known, known_at}
-use Rattle.zone_query.specs.Standing.{Shows, ShowsSome}
+use Rattle.qp_multi.specs.Meanings.{Holds}
+use Rattle.qp_multi.specs.Passes.{Known, known_at}
+use Rattle.zone_answer.specs.Standing.{Shows, ShowsSome}
 use Rattle.job_script.specs.declared.outcomes.Told.TheVariants as told
 use Rattle.job_script.specs.declared.outcomes.Outcome.{Outcome}
 use Rattle.job_commands.specs.Commands.{Asked}

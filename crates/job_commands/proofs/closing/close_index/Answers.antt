@@ -2,8 +2,8 @@ use Rattle.std.proofs.Common.{rules, ◌≡◌, ◌∙◌, sym, ap, subst}
 use Rattle.std.specs.Prelude.{IsSome}
 use Rattle.shared_cells.specs.Views.{with_progress, pinned_image}
 use Rattle.shared_cells.specs.declared.view.Progress.TheVariants as progress
-use Rattle.shared_index.specs.Meanings.{Holds}
-use Rattle.shared_index.specs.Passes.{known_at, version_seen}
+use Rattle.qp_multi.specs.Meanings.{Holds}
+use Rattle.qp_multi.specs.Passes.{known_at, version_seen}
 use Rattle.job_commands.proofs.ShowLaws.{seat_told}
 use Rattle.job_commands.proofs.EndLaws.{all_handed, job_ended}
 use Rattle.job_commands.proofs.closing.close_index.Goals as goal

@@ -1,4 +1,4 @@
-use Rattle.shared_index.specs.Passes.{known_at}
+use Rattle.qp_multi.specs.Passes.{known_at}
 use Rattle.job_commands.proofs.CompactionLaws.{compaction_ran}
 use Rattle.job_commands.proofs.ShowLaws.{seat_told}
 use Rattle.job_commands.proofs.compactions.run_compaction.Goals as goal

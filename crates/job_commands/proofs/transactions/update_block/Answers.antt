@@ -2,7 +2,7 @@ use Rattle.std.proofs.Common.{rules, ◌∙◌, ◌+◌, ◌*◌, Ok, Err, refl,
 use Rattle.std.specs.Prelude.{IsSomeAnd}
 use Rattle.job_model.specs.declared.Weight.{Weight}
 use Rattle.job_script.specs.Views.{asked_view}
-use Rattle.shared_index.specs.Passes.{known_at}
+use Rattle.qp_multi.specs.Passes.{known_at}
 use Rattle.zone_edit.specs.Blocks.{Executes}
 use Rattle.zone_edit.proofs.EditLaws.{is_there}
 use Rattle.job_commands.specs.Weights.{IsOfWeight}

@@ -1,7 +1,7 @@
 use Rattle.std.proofs.Common.{rules, ◌∙◌, ap, subst}
 use Rattle.shared_cells.specs.declared.view.Progress.TheVariants as progress
 use Rattle.shared_cells.specs.Views.{with_progress}
-use Rattle.shared_index.specs.Passes.{Known, known_at, version_seen}
+use Rattle.qp_multi.specs.Passes.{Known, known_at, version_seen}
 use Rattle.job_threads.specs.Dumps.{WritesSeen}
 use Rattle.job_commands.specs.Histories.{StandsAs}
 use Rattle.job_commands.proofs.ShowLaws.{shown}

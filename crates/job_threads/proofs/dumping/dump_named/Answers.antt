@@ -2,7 +2,7 @@ use Rattle.std.proofs.Common.{◌≡◌, ◌≤◌, inl, sym, subst}
 use Rattle.job_model.specs.Sizes.{trie_entries}
 use Rattle.trie_model.specs.Shape.{cells}
 use Rattle.trie_write.specs.Entries.{entries_of_items}
-use Rattle.shared_index.specs.Openings.{room_in}
+use Rattle.qp_multi.specs.Openings.{room_in}
 use Rattle.zone_dump.proofs.WritingLaws.{on_any_err}
 use Rattle.job_threads.specs.Dumps.{StopsOn}
 use Rattle.job_commands.proofs.ZoneLaws.{zone_rises, zone_lawful}

@@ -1,7 +1,7 @@
 use Rattle.std.proofs.Common.{◌≡◌, ◌∙◌, arith, subst, vec_len}
 use Rattle.std.specs.Prelude.{IsSome}
 use Rattle.std.specs.List.{All}
-use Rattle.shared_index.specs.Passes.{known_at}
+use Rattle.qp_multi.specs.Passes.{known_at}
 use Rattle.job_commands.specs.Histories.{Entries}
 use Rattle.job_threads.specs.Dumps.{Writes}
 use Rattle.job_threads.proofs.DumpLaws.{of_one, set_one, opened_shows}

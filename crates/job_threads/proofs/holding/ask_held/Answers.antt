@@ -1,8 +1,8 @@
 use Rattle.std.proofs.Common.{refl, sym, subst}
 use Rattle.shared_cells.specs.Views.{pinned_image}
-use Rattle.shared_index.specs.Meanings.{Holds}
-use Rattle.shared_index.specs.Passes.{version_seen}
-use Rattle.zone_query.specs.Standing.{Shows, ShowsSome}
+use Rattle.qp_multi.specs.Meanings.{Holds}
+use Rattle.qp_multi.specs.Passes.{version_seen}
+use Rattle.zone_answer.specs.Standing.{Shows, ShowsSome}
 use Rattle.job_commands.proofs.ShowLaws.{shown}
 use Rattle.job_threads.proofs.SnapshotLaws.{held_shows}
 use Rattle.job_threads.proofs.holding.ask_held.Goals as goal

@@ -3,7 +3,7 @@ use Rattle.std.specs.Prelude.{IsSome}
 use Rattle.std.specs.List.{AllByRecursion}
 use Rattle.job_model.specs.Commands.{InTurn}
 use Rattle.job_script.specs.Views.{worker_view, workers_view}
-use Rattle.shared_index.specs.Passes.{known_at}
+use Rattle.qp_multi.specs.Passes.{known_at}
 use Rattle.std.proofs.lemmas.List.{nil_from_length}
 use Rattle.report_laws.specs.Changes.{AllAsked}
 use Rattle.job_commands.specs.Calls.{AllHeard}

@@ -1,8 +1,8 @@
 use Rattle.std.proofs.Common.{◌∙◌, List, map, sym, subst}
 use Rattle.std.proofs.lemmas.List.{length-map}
 use Rattle.zone_model.specs.Names.{Name}
-use Rattle.shared_index.specs.Closings.{AreAll}
-use Rattle.shared_index.specs.Passes.{known_at}
+use Rattle.qp_multi.specs.Closings.{AreAll}
+use Rattle.qp_multi.specs.Passes.{known_at}
 use Rattle.job_script.specs.Views.{worker_view}
 use Rattle.job_commands.specs.Calls.{AllHeard}
 use Rattle.job_commands.specs.Closings.{Gathers}

@@ -1,6 +1,6 @@
 use Rattle.std.proofs.Common.{◌≡◌, ◌∙◌, subst}
 use Rattle.std.specs.Prelude.{IsSome}
-use Rattle.shared_index.specs.Passes.{known_at, Learnt}
+use Rattle.qp_multi.specs.Passes.{known_at, Learnt}
 use Rattle.job_threads.proofs.GatherLaws.{two_more, two_views}
 use Rattle.job_threads.proofs.job.with_done.Goals as goal
 

@@ -1,7 +1,7 @@
 use Rattle.std.proofs.Common.{Some, None, refl, sym, subst}
 use Rattle.std.specs.Option.{option_map}
 use Rattle.job_model.specs.Commands.{AskHeld}
-use Rattle.shared_index.specs.Passes.{first_version, known_at}
+use Rattle.qp_multi.specs.Passes.{first_version, known_at}
 use Rattle.job_commands.specs.Histories.{Setup}
 use Rattle.job_commands.specs.Steps.{Step}
 use Rattle.job_commands.specs.Stations.{station}

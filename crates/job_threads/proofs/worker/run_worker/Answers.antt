@@ -4,7 +4,7 @@ use Rattle.std.specs.Option.{option_map, is_some}
 use Rattle.job_script.specs.Views.{command_view}
 use Rattle.job_script.specs.declared.outcomes.Outcome.{Outcome}
 use Rattle.report_laws.specs.Changes.{AllAsked}
-use Rattle.shared_index.specs.Passes.{known_at}
+use Rattle.qp_multi.specs.Passes.{known_at}
 use Rattle.job_commands.specs.Calls.{IsHeard, next_number}
 use Rattle.job_commands.specs.Stations.{station}
 use Rattle.job_commands.specs.Works.{ended}

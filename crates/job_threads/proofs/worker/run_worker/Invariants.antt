@@ -5,7 +5,7 @@ use Rattle.std.specs.List.{AllByRecursion}
 use Rattle.job_model.specs.Commands.{InTurn}
 use Rattle.job_script.specs.Views.{command_view}
 use Rattle.report_laws.specs.Changes.{AllAsked}
-use Rattle.shared_index.specs.Passes.{known_at}
+use Rattle.qp_multi.specs.Passes.{known_at}
 use Rattle.job_commands.specs.Histories.{Setup}
 use Rattle.job_commands.specs.Calls.{IsHeard, next_number}
 use Rattle.job_commands.specs.Commands.{IsSetup, OpensAt}

@@ -3,7 +3,7 @@ use Rattle.std.proofs.lemmas.List.{length-map}
 use Rattle.job_model.specs.Outcomes.{passes_for}
 use Rattle.job_script.specs.Views.{job_view, worker_view}
 use Rattle.job_commands.specs.Runs.{IsRun}
-use Rattle.shared_index.specs.Openings.{room_in}
+use Rattle.qp_multi.specs.Openings.{room_in}
 use Rattle.trie_model.specs.Shape.{cells}
 use Rattle.trie_write.specs.Entries.{entries_of_items}
 use Rattle.job_commands.specs.Histories.{Setup}

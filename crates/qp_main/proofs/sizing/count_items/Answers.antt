@@ -1,5 +1,5 @@
 use Rattle.std.proofs.Common.{take}
-use Rattle.zone_query.specs.Standing.{trie_entry}
+use Rattle.zone_answer.specs.Standing.{trie_entry}
 use Rattle.qp_main.proofs.SizingLemmas.{comes_next, one_more}
 use Rattle.qp_main.proofs.sizing.count_items.Goals as goal
 

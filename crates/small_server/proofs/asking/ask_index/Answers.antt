@@ -1,7 +1,7 @@
 use Rattle.std.proofs.Common.{sym, subst}
 use Rattle.shared_cells.specs.Views.{pinned_image}
-use Rattle.shared_index.specs.Meanings.{Holds}
-use Rattle.zone_query.specs.Standing.{ShowsSome}
+use Rattle.qp_multi.specs.Meanings.{Holds}
+use Rattle.zone_answer.specs.Standing.{ShowsSome}
 use Rattle.small_server.proofs.ShowLaws.{shows_held}
 use Rattle.small_server.proofs.asking.ask_index.Goals as goal
 

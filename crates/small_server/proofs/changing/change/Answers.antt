@@ -1,7 +1,7 @@
 use Rattle.std.proofs.Common.{[], map}
 use Rattle.zone_model.specs.Transactions.{Transaction}
 use Rattle.zone_change.specs.Views.{operation_view}
-use Rattle.shared_index.specs.Passes.{known_at}
+use Rattle.qp_multi.specs.Passes.{known_at}
 use Rattle.small_server.proofs.WriteLaws.{begun, done_works, done_stored}
 use Rattle.small_server.proofs.changing.change.Goals as goal
 

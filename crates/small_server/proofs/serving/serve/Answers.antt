@@ -1,6 +1,6 @@
 use Rattle.std.proofs.Common.{◌≡◌, false}
 use Rattle.zone_model.specs.Names.{same_name}
-use Rattle.zone_query.specs.Standing.{ShowsSome}
+use Rattle.zone_answer.specs.Standing.{ShowsSome}
 use Rattle.zone_table.specs.Openings.{entries_in}
 use Rattle.small_server.proofs.OpeningLaws.{both_are, two_apart}
 use Rattle.small_server.proofs.serving.serve.Goals as goal

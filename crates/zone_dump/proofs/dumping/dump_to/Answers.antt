@@ -2,7 +2,7 @@ use Rattle.std.proofs.Common.{◌∙◌, ℕ, List, Option, ap, sym, subst}
 use Rattle.std.specs.Prelude.{OnOk, OnErr}
 use Rattle.outer_io.specs.Bytes.{Grows, GrowsByFront}
 use Rattle.zone_model.specs.Rows.{Directives}
-use Rattle.zone_query.specs.Standing.{Shows}
+use Rattle.zone_answer.specs.Standing.{Shows}
 use Rattle.zone_dump.specs.Files.{file_text}
 use Rattle.zone_dump.proofs.LineLaws.{file_is_dump}
 use Rattle.zone_dump.proofs.dumping.dump_to.Goals as goal

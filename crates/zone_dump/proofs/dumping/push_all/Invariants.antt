@@ -1,6 +1,6 @@
 use Rattle.std.proofs.Common.{◌≡◌, ◌≤◌}
 use Rattle.zone_model.specs.Versions.{Version}
-use Rattle.zone_query.specs.Standing.{Shows}
+use Rattle.zone_answer.specs.Standing.{Shows}
 use Rattle.zone_dump.specs.Walks.{GoesOn}
 use Rattle.zone_dump.proofs.dumping.push_all.Given as goal
 

@@ -5,7 +5,7 @@ use Rattle.zone_model.specs.Versions.{Version, Operation, all_applied}
 use Rattle.zone_model.specs.declared.Refusal.{Refusal}
 use Rattle.zone_change.specs.Views.{operation_view}
 use Rattle.zone_change.specs.declared.operations.Operation.{Operation as Said}
-use Rattle.shared_index.specs.declared.desk.Draft.{Draft}
+use Rattle.qp_multi.specs.declared.desk.Draft.{Draft}
 use Rattle.zone_edit.proofs.ApplyLaws.{next_applied, refused_applied, up_to, all_around, few_in_front}
 use Rattle.zone_edit.specs.Stores.{WorksOn, WorksOnSome, Edits}
 use Rattle.zone_edit.specs.Blocks.{Applies, AppliesAll}

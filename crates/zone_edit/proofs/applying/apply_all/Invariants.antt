@@ -1,7 +1,7 @@
 use Rattle.std.proofs.Common.{◌≡◌, length, map, take, Ok}
 use Rattle.std.specs.Prelude.{IsSomeAnd}
 use Rattle.zone_model.specs.Versions.{Version, all_applied}
-use Rattle.shared_index.specs.declared.desk.Draft.{Draft}
+use Rattle.qp_multi.specs.declared.desk.Draft.{Draft}
 use Rattle.zone_change.specs.Views.{operation_view}
 use Rattle.zone_edit.specs.Stores.{WorksOn, WorksOnSome, Edits}
 use Rattle.zone_edit.proofs.applying.apply_all.Given as goal

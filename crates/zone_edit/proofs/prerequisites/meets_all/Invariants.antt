@@ -2,7 +2,7 @@ use Rattle.std.proofs.Common.{◌≡◌, map, drop}
 use Rattle.std.specs.Prelude.{IsSomeAnd}
 use Rattle.zone_model.specs.Versions.{Version}
 use Rattle.zone_model.specs.Transactions.{all_met}
-use Rattle.shared_index.specs.declared.desk.Draft.{Draft}
+use Rattle.qp_multi.specs.declared.desk.Draft.{Draft}
 use Rattle.zone_change.specs.Views.{prerequisite_view}
 use Rattle.zone_edit.specs.Stores.{WorksOn, WorksOnSome, Edits}
 use Rattle.zone_edit.proofs.prerequisites.meets_all.Given as goal

@@ -1,6 +1,6 @@
 use Rattle.std.proofs.Common.{Some, None}
-use Rattle.shared_index.specs.Drafts.{Works}
-use Rattle.zone_query.proofs.HeldLaws.{fetched, not_fetched}
+use Rattle.qp_multi.specs.Drafts.{Works}
+use Rattle.zone_answer.proofs.HeldLaws.{fetched, not_fetched}
 use Rattle.zone_edit.specs.Stores.{WorksOnSome}
 use Rattle.zone_edit.proofs.EditLaws.{some_weaker, read_as, read_within}
 use Rattle.zone_edit.proofs.reading.read_owned.Goals as goal

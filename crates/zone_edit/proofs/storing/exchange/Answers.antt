@@ -3,8 +3,8 @@ use Rattle.std.specs.Prelude.{IsOk}
 use Rattle.zone_model.specs.Records.{Entry}
 use Rattle.trie_model.specs.Keys as trie
 use Rattle.trie_model.specs.Keys.{InList}
-use Rattle.shared_index.specs.declared.meaning.Operation.TheVariants as operation
-use Rattle.shared_index.specs.declared.refusal.ChangeRefusal.TheVariants.{NotFound}
+use Rattle.qp_multi.specs.declared.meaning.Operation.TheVariants as operation
+use Rattle.qp_multi.specs.declared.refusal.ChangeRefusal.TheVariants.{NotFound}
 use Rattle.zone_edit.proofs.StoreLaws.{somebody, put_changes, record_of}
 use Rattle.zone_edit.proofs.SetLaws.{owner_in}
 use Rattle.zone_edit.proofs.EditLaws.{stored, no_room, refused_set, put_over}

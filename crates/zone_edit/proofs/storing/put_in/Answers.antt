@@ -2,8 +2,8 @@ use Rattle.std.proofs.Common.{◌≡◌, ◌∙◌, ℕ, [], List, Err, refl, sy
 use Rattle.std.specs.Prelude.{IsOk}
 use Rattle.trie_model.specs.Keys as trie
 use Rattle.trie_model.specs.Keys.{InList}
-use Rattle.shared_index.specs.declared.meaning.Operation.TheVariants as operation
-use Rattle.shared_index.specs.declared.refusal.InsertRefusal.TheVariants.{Exists}
+use Rattle.qp_multi.specs.declared.meaning.Operation.TheVariants as operation
+use Rattle.qp_multi.specs.declared.refusal.InsertRefusal.TheVariants.{Exists}
 use Rattle.zone_edit.proofs.StoreLaws.{nobody, put_changes, nothing_some, record_of}
 use Rattle.zone_edit.proofs.EditLaws.{stored, no_room, refused_set, put_new}
 use Rattle.zone_edit.proofs.storing.put_in.Goals as goal

@@ -1,7 +1,7 @@
 use Rattle.std.proofs.Common.{arith, sym, subst}
 use Rattle.trie_model.specs.Keys.{Rises}
 use Rattle.trie_write.specs.Entries.{entries_of_items}
-use Rattle.shared_index.specs.Openings.{Refuses}
+use Rattle.qp_multi.specs.Openings.{Refuses}
 use Rattle.zone_table.specs.Tables.{IsTable, IsPart}
 use Rattle.zone_table.proofs.CapacityLaws.{few_cells}
 use Rattle.zone_table.proofs.assembly.open_table.Goals as goal

@@ -2,7 +2,7 @@ use Rattle.std.proofs.Common.{◌≡◌, ◌∙◌, ◌<◌, ◌∷◌, [], leng
 use Rattle.std.specs.List.{slice_get}
 use Rattle.std.proofs.lemmas.List.{length-map}
 use Rattle.std.proofs.lemmas.Option.{slice_get_within}
-use Rattle.shared_index.specs.Passes.{known_at}
+use Rattle.qp_multi.specs.Passes.{known_at}
 use Rattle.zone_table.proofs.Lists.{read_at, alike_at, alike_length}
 use Rattle.zone_table.proofs.PassLaws.{kept_first, kept_set}
 use Rattle.zone_table.proofs.LearnLaws.{learn_first, learn_next, last_note}

@@ -1,5 +1,5 @@
 use Rattle.std.proofs.Common.{◌∙◌, ◌+◌, List, map, take, arith, sym, ap}
-use Rattle.shared_index.specs.Passes.{Known, known_at}
+use Rattle.qp_multi.specs.Passes.{Known, known_at}
 use Rattle.zone_table.proofs.Lists.{read_at, alike_at, alike_length, mapped_at, told_more}
 use Rattle.zone_table.proofs.PassLaws.{kept_set, known_set}
 use Rattle.zone_table.proofs.note.note_each.Goals as goal

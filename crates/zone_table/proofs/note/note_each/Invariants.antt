@@ -1,5 +1,5 @@
 use Rattle.std.specs.Prelude.{◌≡◌, map, take}
-use Rattle.shared_index.specs.Passes.{Known, known_at}
+use Rattle.qp_multi.specs.Passes.{Known, known_at}
 use Rattle.zone_table.proofs.PassLaws.{Kept}
 use Rattle.zone_table.proofs.note.note_each.Given as goal
 

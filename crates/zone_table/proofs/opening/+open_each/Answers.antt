@@ -2,7 +2,7 @@ use Rattle.std.proofs.Common.{rules, ◌≡◌, ◌∙◌, inl, ◌+◌, ◌<◌
 use Rattle.std.specs.List.{slice_get}
 use Rattle.trie_model.specs.Shape.{cells}
 use Rattle.trie_write.specs.Entries.{entries_of_items}
-use Rattle.shared_index.specs.Openings.{Refuses, room_in}
+use Rattle.qp_multi.specs.Openings.{Refuses, room_in}
 use Rattle.zone_table.specs.declared.opening.Opened.{Opened}
 use Rattle.zone_table.specs.declared.opening.ZoneItems.{ZoneItems}
 use Rattle.zone_table.specs.Openings.{Place, places_of, RefusesZones, IsBegun}

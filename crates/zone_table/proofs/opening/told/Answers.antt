@@ -1,5 +1,5 @@
 use Rattle.std.proofs.Common.{subst}
-use Rattle.shared_index.specs.Openings.{Refuses}
+use Rattle.qp_multi.specs.Openings.{Refuses}
 use Rattle.zone_table.specs.Openings.{places_of, entries_in, RefusesZones}
 use Rattle.zone_table.proofs.RefusalLaws.{kept, told_first, told_last, told_alone, zone_within}
 use Rattle.zone_table.proofs.opening.told.Goals as goal

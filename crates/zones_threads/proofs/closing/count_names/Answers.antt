@@ -1,7 +1,7 @@
 use Rattle.std.proofs.Common.{rules, ◌∙◌, ap, subst}
 use Rattle.shared_cells.specs.declared.view.Progress.TheVariants as progress
 use Rattle.shared_cells.specs.Views.{with_progress}
-use Rattle.shared_index.specs.Passes.{Known, known_at, version_seen}
+use Rattle.qp_multi.specs.Passes.{Known, known_at, version_seen}
 use Rattle.zones_threads.specs.Visits.{Counted}
 use Rattle.zones_threads.proofs.closing.count_names.Goals as goal
 

@@ -2,8 +2,8 @@ use Rattle.std.proofs.Common.{◌≡◌, ◌∙◌, ◌+◌, ◌<◌, ℕ, List,
 use Rattle.std.specs.Prelude.{unwrap_or, slice_index}
 use Rattle.std.specs.List.{slice_get}
 use Rattle.std.proofs.lemmas.Option.{slice_get_within}
-use Rattle.shared_index.specs.Closings.{AreAll, Ends}
-use Rattle.shared_index.specs.Passes.{Known, Pinned, known_at, version_seen}
+use Rattle.qp_multi.specs.Closings.{AreAll, Ends}
+use Rattle.qp_multi.specs.Passes.{Known, Pinned, known_at, version_seen}
 use Rattle.job_commands.proofs.EndLaws.{all_handed}
 use Rattle.zone_table.specs.Passes.{IsPassOf, table_known, zone_known}
 use Rattle.zone_table.specs.Tables.{IsAmong}

@@ -4,7 +4,7 @@ use Rattle.std.proofs.lemmas.Option.{slice_get_within}
 use Rattle.zone_model.specs.Names.{Name}
 use Rattle.job_model.specs.Commands.{Ask}
 use Rattle.job_model.specs.declared.Question.TheVariants.{Get}
-use Rattle.shared_index.specs.Passes.{Known, version_seen}
+use Rattle.qp_multi.specs.Passes.{Known, version_seen}
 use Rattle.job_commands.specs.Commands.{Asked}
 use Rattle.job_commands.specs.Works.{ended}
 use Rattle.zone_table.specs.Locations.{IsZoneOf}

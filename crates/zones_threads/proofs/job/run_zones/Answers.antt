@@ -4,7 +4,7 @@ use Rattle.std.proofs.lemmas.List.{length-map}
 use Rattle.std.proofs.lemmas.Option.{slice_get_within}
 use Rattle.zone_model.specs.Names.{Name}
 use Rattle.zones_model.specs.Outcomes.{passes_for}
-use Rattle.shared_index.specs.Closings.{AreAll}
+use Rattle.qp_multi.specs.Closings.{AreAll}
 use Rattle.job_commands.specs.Histories.{Setup}
 use Rattle.zone_table.specs.Passes.{table_known, zone_known}
 use Rattle.zone_table.proofs.Lists.{get_in, mapped_at}

@@ -5,7 +5,7 @@ use Rattle.zone_model.specs.Names.{Name}
 use Rattle.job_model.specs.Commands.{Block}
 use Rattle.job_script.specs.Views.{asked_view}
 use Rattle.shared_cells.specs.declared.view.TableSize.{TableSize}
-use Rattle.shared_index.specs.Passes.{Known, known_at}
+use Rattle.qp_multi.specs.Passes.{Known, known_at}
 use Rattle.job_commands.specs.Commands.{BlockRan, IsSetup, OpensAt}
 use Rattle.job_commands.specs.Works.{ended}
 use Rattle.zone_table.specs.Passes.{zone_known}

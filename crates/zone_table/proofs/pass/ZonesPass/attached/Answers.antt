@@ -1,7 +1,7 @@
 use Rattle.std.proofs.Common.{◌≡◌, ◌∙◌, sym, ap, subst}
 use Rattle.shared_cells.specs.declared.view.Progress.TheVariants as progress
 use Rattle.shared_cells.specs.Views.{with_progress}
-use Rattle.shared_index.specs.Passes.{known_at, Pinned}
+use Rattle.qp_multi.specs.Passes.{known_at, Pinned}
 use Rattle.zone_table.specs.Tables.{IsAmong}
 use Rattle.zone_table.proofs.KnownLaws.{pinned_left}
 use Rattle.zone_table.proofs.LookLaws.{asked}

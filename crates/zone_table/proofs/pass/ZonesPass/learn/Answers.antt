@@ -1,5 +1,5 @@
 use Rattle.std.proofs.Common.{◌∙◌, sym, subst}
-use Rattle.shared_index.specs.Passes.{known_at}
+use Rattle.qp_multi.specs.Passes.{known_at}
 use Rattle.zone_table.specs.Passes.{table_known}
 use Rattle.zone_table.specs.Tables.{IsTable}
 use Rattle.zone_table.proofs.KnownLaws.{opened_same, seat_told}

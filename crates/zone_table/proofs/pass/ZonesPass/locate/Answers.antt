@@ -1,4 +1,4 @@
-use Rattle.shared_index.specs.Passes.{known_at, version_seen}
+use Rattle.qp_multi.specs.Passes.{known_at, version_seen}
 use Rattle.zone_table.proofs.pass.ZonesPass.locate.Goals as goal
 
 pub returns-clause-zone : goal.returns-clause-zone

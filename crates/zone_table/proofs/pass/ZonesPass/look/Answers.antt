@@ -2,7 +2,7 @@ use Rattle.std.proofs.Common.{◌≡◌, ◌∙◌, List, refl, sym, ap, subst}
 use Rattle.zone_model.specs.Names.{Name}
 use Rattle.shared_cells.specs.declared.view.Progress.TheVariants as progress
 use Rattle.shared_cells.specs.Views.{with_progress}
-use Rattle.shared_index.specs.Passes.{Known, known_at, version_seen, Pinned}
+use Rattle.qp_multi.specs.Passes.{Known, known_at, version_seen, Pinned}
 use Rattle.zone_table.specs.Recalled.{AreAttached}
 use Rattle.zone_table.specs.Tables.{IsAmong}
 use Rattle.zone_table.proofs.KnownLaws.{pinned_left}

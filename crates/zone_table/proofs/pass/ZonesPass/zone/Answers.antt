@@ -3,7 +3,7 @@ use Rattle.std.proofs.lemmas.List.{length-map}
 use Rattle.std.specs.Prelude.{IsSome, None, unwrap_or}
 use Rattle.std.specs.List.{slice_get}
 use Rattle.std.proofs.lemmas.List.FromFn.{length-range_with_len}
-use Rattle.shared_index.specs.Passes.{Known, known_at}
+use Rattle.qp_multi.specs.Passes.{Known, known_at}
 use Rattle.zone_table.proofs.Lists.{read_at, all_at, mapped_at, numbered_at}
 use Rattle.zone_table.proofs.pass.ZonesPass.zone.Goals as goal
 

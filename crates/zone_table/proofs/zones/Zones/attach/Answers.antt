@@ -1,10 +1,10 @@
 use Rattle.std.proofs.Common.{◌≡◌, ◌∙◌, ◌≤◌, length, Ok, Err, arith, ap, subst, refl}
 use Rattle.zone_model.specs.Names.{wire}
 use Rattle.zone_model.specs.Keys.{key_of}
-use Rattle.shared_index.specs.declared.meaning.Operation.TheVariants.{Insert}
-use Rattle.shared_index.specs.declared.refusal.InsertRefusal.{InsertRefusal}
-use Rattle.shared_index.specs.declared.refusal.InsertRefusal.TheVariants.{Exists as IsThere}
-use Rattle.shared_index.specs.Passes.{known_at}
+use Rattle.qp_multi.specs.declared.meaning.Operation.TheVariants.{Insert}
+use Rattle.qp_multi.specs.declared.refusal.InsertRefusal.{InsertRefusal}
+use Rattle.qp_multi.specs.declared.refusal.InsertRefusal.TheVariants.{Exists as IsThere}
+use Rattle.qp_multi.specs.Passes.{known_at}
 use Rattle.zone_table.specs.declared.change.TableRefusal.TheVariants.{Exists}
 use Rattle.zone_table.specs.Changes.{Attaches}
 use Rattle.zone_table.specs.Passes.{table_known}

@@ -1,7 +1,7 @@
 use Rattle.std.proofs.Common.{◌≡◌, ◌∙◌, arith, length, map, sym, ap, subst}
 use Rattle.std.specs.Prelude.{IsSome}
 use Rattle.std.specs.List.{All}
-use Rattle.shared_index.specs.Passes.{known_at}
+use Rattle.qp_multi.specs.Passes.{known_at}
 use Rattle.zone_table.specs.Endings.{IsEnd}
 use Rattle.zone_table.specs.Passes.{table_known}
 use Rattle.zone_table.proofs.EndLaws.{belong, zones_end, tables_here, tables_known}

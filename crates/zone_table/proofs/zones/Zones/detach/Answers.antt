@@ -1,9 +1,9 @@
 use Rattle.std.proofs.Common.{◌≡◌, ◌∙◌, ◌≤◌, length, Ok, Err, arith, ap, subst, refl}
 use Rattle.zone_model.specs.Keys.{key_of}
-use Rattle.shared_index.specs.declared.meaning.Operation.TheVariants.{Delete}
-use Rattle.shared_index.specs.declared.refusal.ChangeRefusal.{ChangeRefusal}
-use Rattle.shared_index.specs.declared.refusal.ChangeRefusal.TheVariants.{NotFound}
-use Rattle.shared_index.specs.Passes.{known_at}
+use Rattle.qp_multi.specs.declared.meaning.Operation.TheVariants.{Delete}
+use Rattle.qp_multi.specs.declared.refusal.ChangeRefusal.{ChangeRefusal}
+use Rattle.qp_multi.specs.declared.refusal.ChangeRefusal.TheVariants.{NotFound}
+use Rattle.qp_multi.specs.Passes.{known_at}
 use Rattle.zone_table.specs.declared.change.TableRefusal.TheVariants.{Missing}
 use Rattle.zone_table.specs.Changes.{Detaches}
 use Rattle.zone_table.specs.Passes.{table_known}

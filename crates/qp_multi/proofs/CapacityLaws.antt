@@ -1,0 +1,140 @@
+-- Where a table is roomy for what is published and done, each step of a transaction leaves it so.
+use Rattle.std.proofs.Common.{◌≡◌, ◌∙◌, ⊎_elim, ℕ, suc, ◌+◌, ◌-◌, ◌*◌, ◌/◌, ◌<◌, ◌≤◌, nat_lt, Bool, true, false, not, List, [], ◌∷◌, ◌++◌, length, Option, Some, refl, sym, ap, subst, arith, append_assoc, append-nil, length-append}
+use Rattle.std.specs.Prelude.{unwrap_or, count_by}
+use Rattle.std.specs.List.{All, Contains, filter}
+use Rattle.std.proofs.lemmas.List.Elements.{All-cons, All-filter, All-nil, All-push, Contains-append_left, Contains-push}
+use Rattle.std.proofs.lemmas.List.Sums.{count_by-le-length, fold-append}
+use Rattle.trie_model.specs.Keys.{Entry}
+use Rattle.trie_model.specs.Shape.{cells}
+use Rattle.chunk_usage.specs.declared.space.Full.{Full as NoRoom}
+use Rattle.trie_model.specs.Capacity.{is_roomy}
+use Rattle.chunk_usage.specs.Handing.{Lacks, consumed}
+use Rattle.chunk_usage.specs.Keeping.{closed, is_among, rows_of}
+use Rattle.chunk_usage.specs.Ledger.{Ledger, Frozen, Row, free_count, reserve_of}
+use Rattle.shared_cells.specs.declared.view.Entry.{Entry as Commit}
+use Rattle.shared_cells.specs.declared.view.Seen.{Seen}
+use Rattle.shared_cells.specs.History.{StartsWith, entry_of, version_after}
+use Rattle.qp_multi.specs.declared.desk.Draft.{Draft}
+use Rattle.qp_multi.specs.declared.meaning.Operation.{Operation}
+use Rattle.qp_multi.specs.Bounds.{IsCramped}
+use Rattle.qp_multi.specs.Capacity.{BoundsHistory, EachRoomy, RestsRoomy, RowsAreFew, WorksRoomy, given_count, most_at_rest, most_met, row_size}
+use Rattle.qp_multi.specs.Closings.{AllSeen}
+use Rattle.qp_multi.specs.Drafts.{working_set}
+use Rattle.qp_multi.specs.Operations.{applied}
+use Rattle.qp_multi.specs.Passes.{first_version, version_seen}
+use Rattle.qp_multi.specs.Tries.{Grown}
+use Rattle.qp_multi.proofs.GivenLaws.{given_short, given_consumed, consumed_given}
+
+-- ---- numbers that bound a history bound what it begins with
+
+pub bounds_part : {c o : ℕ} (s t : AllSeen) → t.opening ≡ s.opening → StartsWith t.history s.history → BoundsHistory c o t → BoundsHistory c o s
+bounds_part {c} {o} s t opening grows b = record {
+  versions = λ part st. subst (λ (x : Option (List Entry)). cells (version_after applied (unwrap_or x []) part) ≤ c) opening
+      (b.versions part (st.0 ++ grows.0, grows.1 ∙ ap (λ (h : List (Commit (List Operation))). h ++ grows.0) st.1 ∙ append_assoc part st.0 grows.0));
+  commits = λ e h. b.commits e (subst (λ (hs : List (Commit (List Operation))). Contains hs e) (sym grows.1) (Contains-append_left s.history grows.0 e h));
+}
+
+pub same_part : (s t : AllSeen) → t.history ≡ s.history → StartsWith t.history s.history
+same_part s t e = ([], e ∙ sym (append-nil s.history))
+
+-- what they say of the version, and of the operations, that were published last
+
+pub last_cells : {c o : ℕ} (s t : AllSeen) (entry : Commit (List Operation)) → t.opening ≡ s.opening → t.history ≡ s.history ++ entry ∷ [] → BoundsHistory c o t → cells (applied (version_seen s) entry.change) ≤ c
+last_cells {c} s t entry opening history b =
+    let all = b.versions t.history ([], sym (append-nil t.history)) in
+    let e : version_after applied (first_version t) t.history ≡ applied (version_seen s) entry.change =
+    ap (λ (x : Option (List Entry)). version_after applied (unwrap_or x []) t.history) opening ∙ ap (version_after applied (first_version s)) history
+    ∙ fold-append (λ (x : List Entry) (y : Commit (List Operation)). applied x y.change) (first_version s) s.history (entry ∷ []) in
+    subst (λ (es : List Entry). cells es ≤ c) e all
+
+pub last_operations : {c o : ℕ} (s t : AllSeen) (entry : Commit (List Operation)) → t.history ≡ s.history ++ entry ∷ [] → BoundsHistory c o t → length entry.change ≤ o
+last_operations s t entry history b = b.commits entry (subst (λ (hs : List (Commit (List Operation))). Contains hs entry) (sym history) (Contains-push s.history entry))
+
+-- ---- what holds where a table is roomy, of another ledger of that table and of what was seen later
+
+pub each_on : (u n : Ledger) (s t : AllSeen) {P Q : ℕ → ℕ → Type 0} → n.passes ≡ u.passes → length n.given ≡ length u.given → t.opening ≡ s.opening → StartsWith t.history s.history → ((c o : ℕ) → BoundsHistory c o t → P c o → Q c o) → EachRoomy u s P → EachRoomy n t Q
+each_on u n s t passes wide opening history weaker each c o some b roomy =
+    weaker c o b (each c o some (bounds_part s t opening history b)
+    (subst (λ (p : ℕ). is_roomy p c o (length u.given)) passes (subst (λ (k : ℕ). is_roomy n.passes c o k) wide roomy)))
+
+pub rest_same : (u n : Ledger) (c : ℕ) → n.passes ≡ u.passes → most_at_rest n c ≡ most_at_rest u c
+rest_same u n c passes = ap (λ (p : ℕ). (p + 1) * most_met c + 2) passes
+
+-- ---- numbers
+
+more_passes : (p w : ℕ) → (p + 2) * w ≡ (p + 1) * w + w
+more_passes p w = omega arith
+
+pub some_passes : (p w : ℕ) → w ≤ (p + 1) * w
+some_passes p w = let e : (p + 1) * w ≡ p * w + w = omega arith in omega arith
+
+given_all : (u : Ledger) → length u.given ≤ given_count u + free_count u
+given_all u = omega arith
+
+-- a try finds room: of what was given before, 40 chunks more are given at most, and those are no more than the reserve leaves
+pub no_shortage : (c o : ℕ) (u n : Ledger) (f : NoRoom) (done : ℕ) → 1 ≤ o → is_roomy u.passes c o (length u.given) → length n.given ≡ length u.given → done ≤ o → consumed u ≤ 769 * (most_at_rest u c + 40 * done) → consumed n ≤ consumed u + 30760 → Lacks n f → ⊥
+no_shortage c o u n f done some roomy wide few before after lacks =
+    let w = most_met c in
+    let a = more_passes u.passes w in
+    let b = some_passes u.passes w in
+    let g = given_short n f lacks in
+    let h = given_all n in
+    let none = lacks.0.none_free in omega arith
+
+-- an evacuation finds a chunk for each 769 cells
+pub none_wanting : (c o : ℕ) (u n : Ledger) (done many : ℕ) → is_roomy u.passes c o (length u.given) → done ≤ o → consumed u ≤ 769 * (most_at_rest u c + 40 * done) → many ≤ c → free_count n ≡ 0 → free_count u + 1 ≤ free_count n + (many / 769 + 1) → ⊥
+none_wanting c o u n done many roomy few before fits none asks =
+    let w = most_met c in
+    let a = more_passes u.passes w in
+    let g = given_consumed u in
+    let h = given_all u in omega arith
+
+-- ---- a transaction begins
+
+pub begins_roomy : (u : Ledger) (s : AllSeen) → RestsRoomy u s → WorksRoomy u s 0
+begins_roomy u s r = record {
+  rows = r.rows;
+  consumes = λ c o some b roomy few. let a = r.given c o some b roomy in let e = consumed_given u in omega arith;
+}
+
+pub closed_roomy : (u n : Ledger) (s : AllSeen) → n ≡ closed u → RestsRoomy u s → RestsRoomy n s
+closed_roomy u n s after r = subst (λ (l : Ledger). RestsRoomy l s) (sym after) (record { rows = r.rows; given = r.given })
+
+-- ---- an operation was tried
+
+pub tried_rows : (u n : Ledger) (s t : AllSeen) → Grown u n → t.opening ≡ s.opening → t.history ≡ s.history → EachRoomy u s (λ c _. RowsAreFew c u.rows) → EachRoomy n t (λ c _. RowsAreFew c n.rows)
+tried_rows u n s t grown opening history rows =
+    let row : n.rows ≡ u.rows = ap (λ (f : Frozen). f.rows) grown.frozen in
+    each_on u n s t (ap (λ (f : Frozen). f.passes) grown.frozen) grown.wide opening (same_part s t history) (λ c o b few. subst (RowsAreFew c) (sym row) few) rows
+
+-- it was done
+pub done_roomy : (u n : Ledger) (s t : AllSeen) (done now : ℕ) → Grown u n → t.opening ≡ s.opening → t.history ≡ s.history → consumed n ≤ consumed u + 30760 → now ≡ done + 1 → WorksRoomy u s done → WorksRoomy n t now
+done_roomy u n s t done now grown opening history cost one r =
+    let passes : n.passes ≡ u.passes = ap (λ (f : Frozen). f.passes) grown.frozen in
+    record {
+      rows = tried_rows u n s t grown opening history r.rows;
+      consumes = each_on u n s t passes grown.wide opening (same_part s t history) (λ c o b before few. let a = before (omega arith) in let e = rest_same u n c passes in omega arith) r.consumes;
+    }
+
+-- it found no room: so none of these numbers are such
+pub cramped_of : (u n : Ledger) (s : AllSeen) (done : ℕ) (f : NoRoom) → length n.given ≡ length u.given → consumed n ≤ consumed u + 30760 → Lacks n f → WorksRoomy u s done → EachRoomy u s (λ c o. done ≤ o → ⊥)
+cramped_of u n s done f wide cost lacks r c o some b roomy few = no_shortage c o u n f done some roomy wide few (r.consumes c o some b roomy few) cost lacks
+
+pub short_roomy : (u n : Ledger) (s t : AllSeen) (done : ℕ) (f : NoRoom) → Grown u n → t.opening ≡ s.opening → t.history ≡ s.history → consumed n ≤ consumed u + 30760 → Lacks n f → WorksRoomy u s done → WorksRoomy n t done
+short_roomy u n s t done f grown opening history cost lacks r = record {
+  rows = tried_rows u n s t grown opening history r.rows;
+  consumes = each_on u n s t (ap (λ (f : Frozen). f.passes) grown.frozen) grown.wide opening (same_part s t history) (λ c o b none few. absurd (none few)) (cramped_of u n s done f grown.wide cost lacks r);
+}
+
+-- ---- rows
+
+pub rows_narrowed : (c : ℕ) (versions : List ℕ) (rows : List Row) → RowsAreFew c rows → RowsAreFew c (rows_of versions rows)
+rows_narrowed c versions rows few = All-filter (λ (r : Row). is_among versions r.version) (λ (r : Row). row_size r ≤ most_met c) rows few
+
+-- ---- of a draft
+
+pub cramped_draft : (d : Draft) → EachRoomy d.usage d.seat.place.me.0.seen (λ c o. length d.log.operations ≤ o → ⊥) → IsCramped d
+cramped_draft d none c o b roomy = none c o b.some b.history (subst (λ (p : ℕ). is_roomy p c o (length d.usage.given)) (sym d.agrees.passes) roomy) b.operations
+
+pub each_cramped : (d : Draft) → IsCramped d → EachRoomy d.usage d.seat.place.me.0.seen (λ c o. length d.log.operations ≤ o → ⊥)
+each_cramped d none c o some b roomy few = none c o (record { some = some; history = b; operations = few }) (subst (λ (p : ℕ). is_roomy p c o (length d.usage.given)) d.agrees.passes roomy)

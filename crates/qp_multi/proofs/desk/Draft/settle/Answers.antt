@@ -1,0 +1,39 @@
+use Rattle.std.proofs.Common.{true, false, subst, arith, ◌+◌, ◌/◌, ◌≤◌}
+use Rattle.trie_model.specs.Shape.{cells}
+use Rattle.chunk_usage.specs.Ledger.{free_count}
+use Rattle.evacuate.specs.declared.evacuation.Done.{Done}
+use Rattle.evacuate.specs.Evacuations.{refused}
+use Rattle.qp_multi.specs.Drafts.{working_set}
+use Rattle.qp_multi.specs.Movings.{Evacuates}
+use Rattle.qp_multi.proofs.RoomyLaws.{whole_where}
+use Rattle.qp_multi.proofs.MovingLaws.{thin_sparse, thin_dense}
+use Rattle.qp_multi.proofs.SettleLaws.{settles_few, settles_many}
+use Rattle.qp_multi.proofs.desk.Draft.settle.Goals as goal
+
+pub returns-then-sparse-most-clause-settles : goal.returns-then-sparse-most-clause-settles
+returns-then-sparse-most-clause-settles g c = settles_few c.args.self c.requires.works (let n = c.sparse.ensures in let few = c.if-sparse-most.true in omega arith)
+
+pub returns-then-sparse-most-clause-whole : goal.returns-then-sparse-most-clause-whole
+returns-then-sparse-most-clause-whole g c e = thin_sparse c.args.most c.args.self.usage (let n = c.sparse.ensures in let few = c.if-sparse-most.true in omega arith)
+
+pub returns-in-Whole-clause-settles : goal.returns-in-Whole-clause-settles
+returns-in-Whole-clause-settles g c =
+    let e = c.evacuate-draft.ensures in
+    settles_many true (let n = c.sparse.ensures in let many = c.if-sparse-most.false in omega arith) e.goes_on e.seen e.works e.log (subst (Evacuates c.args.self.usage c.evacuate-draft.result.0.usage) c.in-Whole.is e.evacuates)
+
+pub returns-in-Whole-clause-whole : goal.returns-in-Whole-clause-whole
+returns-in-Whole-clause-whole g c e = thin_dense c.args.most c.evacuate-draft.result.0.usage (c.evacuate-draft.ensures.evacuates.whole c.in-Whole.is)
+
+pub returns-in-Stopped-clause-settles : goal.returns-in-Stopped-clause-settles
+returns-in-Stopped-clause-settles g c =
+    let e = c.evacuate-draft.ensures in
+    settles_many false (let n = c.sparse.ensures in let many = c.if-sparse-most.false in omega arith) e.goes_on e.seen e.works e.log (subst (Evacuates c.args.self.usage c.evacuate-draft.result.0.usage) c.in-Stopped.is e.evacuates)
+
+pub returns-in-Stopped-clause-stopped : goal.returns-in-Stopped-clause-stopped
+returns-in-Stopped-clause-stopped g c e = (c.evacuate-draft.ensures.evacuates.stopped c.in-Stopped.is).0.consumed.none_free
+
+pub returns-in-Stopped-clause-roomy : goal.returns-in-Stopped-clause-roomy
+returns-in-Stopped-clause-roomy g c room =
+    let e = c.evacuate-draft.ensures in
+    let asks = subst (λ (done : Done). free_count c.args.self.usage + refused done ≤ free_count c.evacuate-draft.result.0.usage + (cells (working_set c.args.self) / 769 + 1)) c.in-Stopped.is e.asks in
+    whole_where c.args.self c.evacuate-draft.result.0 _ room (e.evacuates.stopped c.in-Stopped.is).0.consumed.none_free asks

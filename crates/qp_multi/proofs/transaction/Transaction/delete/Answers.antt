@@ -1,0 +1,13 @@
+use Rattle.std.proofs.Common.{◌≡◌}
+use Rattle.trie_write.specs.Paths.{delete_asks}
+use Rattle.qp_multi.specs.declared.refusal.ChangeRefusal.TheVariants.{NotFound}
+use Rattle.qp_multi.proofs.WorkLaws.{refusal_told, cause_told}
+use Rattle.qp_multi.proofs.transaction.Transaction.delete.Goals as goal
+
+pub returns-in-Err-Refused-clause-deletes : goal.returns-in-Err-Refused-clause-deletes
+returns-in-Err-Refused-clause-deletes g c = refusal_told _ _ c.args.self.now.locked.now.draft c.change.new.self.draft c.change.result c.in-Err-Refused.field-0 NotFound c.in-Err-Refused.is c.in-Err-Refused.field-0-is c.change.ensures.operates
+
+pub returns-in-Err-Full-clause-cause : goal.returns-in-Err-Full-clause-cause
+returns-in-Err-Full-clause-cause g c f e =
+    let same : c.full.result ≡ f = cc in
+    cause_told c.args.key.now 1 delete_asks _ _ c.change.result _ c.in-Err-Full.full c.full.result f c.in-Err-Full.is c.in-Err-Full.field-0-is c.full.ensures same c.change.ensures.cause

@@ -1,0 +1,541 @@
+//! Transactions: one at a time, each of a pass that has joined the turn.
+ghost use Rattle.std.specs.Prelude.{◌≡◌, ◌≢◌, ◌↔◌, ◌+◌, ◌≤◌, Some, Err, IsSome, IsNone, IfSome, IsSomeAnd, IsOk, IsErr, IfOk, IfErr, length, slice_get};
+ghost use Rattle.zone_model.specs.Keys.{most_item_octets};
+ghost use Rattle.trie_model.specs.Extents.{cells_in};
+ghost use Rattle.qp_multi.specs.Passes.{known_at};
+ghost use Rattle.std.specs.Option.{ForSome};
+ghost use Rattle.std.proofs.Props.{props};
+ghost use Rattle.chunk_usage.specs.Keeping.{full};
+ghost use Rattle.qp_multi.specs.Bounds.{HasRoom, IsCramped};
+
+use crate::change::Change;
+use crate::commit::Receipt;
+use crate::desk::{Desk, Draft};
+use crate::index::{Index, Turn};
+use crate::kept::Versions;
+use crate::meaning::{Law, Meaning, Named, Operations, Version};
+use crate::pass::Pass;
+use crate::refusal::{ChangeRefusal, Full, InsertRefusal};
+use pin_core::{LAST_VERSION, Spent};
+use shared_cells::{PassSeat, Shared};
+use shift_key::Key;
+use std::marker::PhantomData;
+use std::sync::{MutexGuard, Wait};
+use trie_write::Unchanged;
+
+/// Where a transaction keeps the lock and its working set: a local of the caller, which outlives the transaction.
+#[derive(Drop)]
+pub struct Locked<'i, L: Law, N: Named> {
+    guard: Option<MutexGuard<'i, Option<Turn<N>>>>,
+    pub(crate) place: u32,
+    pub(crate) shared: &'i Shared<Version, Operations, Meaning<L>>,
+    /// It is away while a call works on it, and between transactions.
+    pub(crate) draft: Option<Draft>,
+    ghost named: { slice_get N.tables place ≡ Some shared.now.table.shared.table_id },
+    ghost here: { ForSome draft (λ d. d.seat.place.table_id ≡ shared.now.table.shared.table_id) },
+    ghost room: { ForSome draft HasRoom } by { Prim.hlevel props },
+}
+
+/// A kind of transaction.
+pub trait Kind {
+    ghost use Rattle.std.specs.Prelude.{ℕ, ◌≤◌};
+
+    // A commit moves what lies in sparse chunks where these are more than so many, which are few.
+    ghost MOST_SPARSE: { ℕ };
+
+    ghost few: { MOST_SPARSE ≤ 8 };
+
+    const MOST_SPARSE: u32;
+}
+
+/// A light transaction: what it writes goes on in the bump chunk.
+pub struct Light;
+
+impl Kind for Light {
+    ghost use Rattle.std.proofs.Common.{le_refl};
+
+    ghost MOST_SPARSE = { 8 };
+
+    ghost few = { le_refl 8 };
+
+    const MOST_SPARSE: u32 = 8;
+}
+
+/// A heavy transaction: it begins a chunk of its own.
+pub struct Heavy;
+
+impl Kind for Heavy {
+    ghost use Rattle.std.proofs.Common.{zero-le};
+
+    ghost MOST_SPARSE = { 0 };
+
+    ghost few = { zero-le };
+
+    const MOST_SPARSE: u32 = 0;
+}
+
+/// A transaction on the current version, its base. Until it commits, what it writes is seen by nobody else. Dropping it rolls
+/// it back.
+pub struct Transaction<'t, 'i, L: Law, N: Named, K> {
+    pub(crate) home: &'t mut Pass<N>,
+    pub(crate) locked: &'t mut Locked<'i, L, N>,
+    kind: PhantomData<K>,
+}
+
+pub type Write<'t, 'i, L, N> = Transaction<'t, 'i, L, N, Light>;
+
+pub type Update<'t, 'i, L, N> = Transaction<'t, 'i, L, N, Heavy>;
+
+impl<'i, L: Law, N: Named> Locked<'i, L, N> {
+    ghost use Rattle.qp_multi.specs.Changes.{operation_of, key_of, written_by, asked_by, LeadsItem, IsRefused};
+    ghost use Rattle.trie_read.specs.Readings.{Fetched};
+    ghost use Rattle.qp_multi.specs.Drafts.{Works, Operates, IsFull, IsSame, Between, working_set};
+    ghost use Rattle.qp_multi.specs.Fulls.{CausedFrom, full_with};
+    ghost use Rattle.qp_multi.specs.Rooms.{SparesReserve};
+    ghost use Rattle.qp_multi.specs.Keepings.{versions_in};
+    ghost use Rattle.qp_multi.specs.declared.kept.Versions.{Versions as Kept};
+    ghost use Rattle.chunk_usage.specs.Keeping.{kept_versions};
+
+    /// For transactions of an index, none of which has the lock by it yet.
+    pub fn of(index: &'i Index<L, N>) -> Self
+        ensures place { result.place ≡ index.now.place }
+        ensures none { IsNone result.draft }
+    {
+        Locked {
+            guard: None,
+            place: index.place,
+            shared: &index.shared,
+            draft: None,
+        }
+    }
+
+    // The turn goes back, and the lock with it.
+    fn put_back(&mut self, turn: Turn<N>)
+        ensures same { (self.new.place ≡ self.old.place) × (self.new.draft ≡ self.old.draft) }
+        ensures unlocked { IsNone self.new.guard }
+    {
+        if let Some(mut guard) = self.guard.take() {
+            *guard = Some(turn);
+        }
+    }
+
+    // Gives the turn back with this desk.
+    fn leave(&mut self, desk: Desk)
+        requires { desk.seat.place.table_id ≡ self.old.shared.now.table.shared.table_id }
+        ensures same { (self.new.place ≡ self.old.place) × (self.new.draft ≡ self.old.draft) }
+        ensures unlocked { IsNone self.new.guard }
+    {
+        let place = self.place;
+        self.put_back(Turn {
+            place,
+            desk,
+            names: PhantomData,
+        });
+    }
+
+    // The pass of this seat, in its place.
+    fn pass_of(&self, seat: PassSeat<Version, Operations>) -> Pass<N>
+        requires { seat.place.table_id ≡ self.now.shared.now.table.shared.table_id }
+        ensures place { result.place ≡ self.now.place }
+        ensures here { IsSome result.seat }
+        ensures known { known_at result.seat ≡ seat.place.me.0 }
+    {
+        Pass {
+            place: self.place,
+            seat: Some(seat),
+            names: PhantomData,
+        }
+    }
+
+    // Does an operation on the working set.
+    fn change(&mut self, change: &Change<'_>) -> Result<(), Unchanged>
+        requires works { IsSomeAnd self.old.draft Works }
+        requires leads { LeadsItem change.now }
+        ensures place { self.new.place ≡ self.old.place }
+        ensures operates { Between (λ d e. Operates (operation_of change.now) (IsRefused change.now) d e (IsOk result) (result ≡ Err Unchanged.Refused))
+            self.old.draft self.new.draft }
+        ensures spares { Between SparesReserve self.old.draft self.new.draft }
+        ensures full { (f : _) (kept : Kept) → result ≡ Err (Unchanged.Full f) → IfSome self.new.draft (λ d. versions_in kept ≡ kept_versions d.usage)
+            → IsSomeAnd self.new.draft (λ d. IsFull d (full_with f kept)) }
+        ensures cause { (f : _) (kept : Kept) → result ≡ Err (Unchanged.Full f) → IfSome self.new.draft (λ d. versions_in kept ≡ kept_versions d.usage)
+            → Between (λ d e. CausedFrom d e (key_of change.now) (written_by change.now) (asked_by change.now) (full_with f kept))
+            self.old.draft self.new.draft }
+        ensures cramped { (f : _) → result ≡ Err (Unchanged.Full f) → IsSomeAnd self.old.draft IsCramped }
+    {
+        let Some(draft) = self.draft.take() else {
+            // A transaction's draft is there between two calls.
+            unreachable!()
+        };
+        let (draft, outcome) = draft.change(self.shared, change);
+        self.draft = Some(draft);
+        outcome
+    }
+
+    // The versions that are kept.
+    fn kept(&self) -> Versions
+        requires { IsSome self.now.draft }
+        ensures { IfSome self.now.draft (λ d. versions_in result ≡ kept_versions d.usage) }
+    {
+        match &self.draft {
+            Some(draft) => Versions::of(&draft.usage),
+            // A transaction's draft is there between two calls.
+            None => unreachable!(),
+        }
+    }
+
+    // Why there is no room, with the versions that are kept.
+    fn full(&self, full: chunk_usage::Full) -> Full
+        requires { IsSome self.now.draft }
+        ensures { (kept : Kept) × IfSome self.now.draft (λ d. versions_in kept ≡ kept_versions d.usage) × (result ≡ full_with full kept) }
+    {
+        Full::of(full, self.kept())
+    }
+
+    // Reads an item of the working set.
+    fn fetch(&mut self, key: &Key, out: &mut [u8]) -> Option<usize>
+        requires works { IsSomeAnd self.old.draft Works }
+        requires room { most_item_octets ≤ length out.old }
+        ensures place { self.new.place ≡ self.old.place }
+        ensures same { Between IsSame self.old.draft self.new.draft }
+        ensures item { IfSome self.old.draft (λ d. Fetched key.now (working_set d) out.old out.new result) }
+    {
+        let Some(draft) = self.draft.take() else {
+            // A transaction's draft is there between two calls.
+            unreachable!()
+        };
+        let (draft, found) = draft.fetch(self.shared, key, out);
+        self.draft = Some(draft);
+        found
+    }
+}
+
+impl<L: Law, N: Named> Index<L, N> {
+    ghost use Rattle.qp_multi.specs.Bases.{CommitsAreWithin};
+    ghost use Rattle.qp_multi.specs.Drafts.{Begins};
+    ghost use Rattle.qp_multi.specs.Capacity.{RestsRoomy};
+
+    // The lock, and the turn out of it.
+    fn wait<'i, R: Wait>(&'i self, rt: &R) -> (MutexGuard<'i, Option<Turn<N>>>, Desk)
+        ensures table { slice_get N.tables self.now.place ≡ Some result.1.seat.place.table_id }
+        ensures passes { result.1.seat.passes ≡ self.now.passes }
+    {
+        for _ in rt.forever() {
+            let mut guard = self.turn.lock(rt);
+            if let Some(turn) = guard.take() {
+                let Turn { place, desk, names } = turn;
+                if place == self.place && desk.seat.passes == self.passes {
+                    return (guard, desk);
+                }
+                *guard = Some(Turn { place, desk, names });
+            }
+        }
+        // The loop has no end but that return.
+        unreachable!()
+    }
+
+    // Waits for the turn, and joins the pass to it. The pass is then away.
+    fn join<'i, R: Wait>(
+        &'i self,
+        rt: &R,
+        pass: &mut Pass<N>,
+    ) -> (MutexGuard<'i, Option<Turn<N>>>, Draft)
+        requires here { IsSome pass.old.seat }
+        requires place { pass.old.place ≡ self.now.place }
+        ensures table { result.1.seat.place.table_id ≡ self.now.shared.table.shared.table_id }
+        ensures passes { result.1.seat.passes ≡ self.now.shared.table.shared.key.passes }
+        ensures begins { Begins L.lawful (known_at pass.old.seat) result.1 }
+        ensures few_operations { CommitsAreWithin L.most_operations result.1.seat.place.me.0 }
+        ensures goes_on { result.1.usage.bump ≡ result.1.usage.fender }
+        ensures rests { RestsRoomy result.1.usage result.1.seat.place.me.0.seen }
+        ensures chunks { length result.1.usage.given ≡ self.now.shared.table.shared.key.chunks }
+    {
+        let Some(seat) = pass.seat.take() else {
+            // No query and no transaction of this pass has its seat.
+            unreachable!()
+        };
+        let (guard, desk) = self.wait(rt);
+        (guard, desk.begin(&self.shared, seat))
+    }
+
+    /// Waits for the turn, and begins a light transaction.
+    pub fn write<'t, 'i, R: Wait>(
+        &'i self,
+        rt: &R,
+        locked: &'t mut Locked<'i, L, N>,
+        pass: &'t mut Pass<N>,
+    ) -> Write<'t, 'i, L, N>
+        requires here { IsSome pass.old.seat }
+        requires place { pass.old.place ≡ self.now.place }
+        ensures same_reference { result.home.ghost_name ≡ pass.entry.ghost_name }
+        ensures place { result.locked.now.place ≡ self.now.place }
+        ensures passes { IsSomeAnd result.locked.now.draft (λ d. d.seat.passes ≡ self.now.shared.table.shared.key.passes) }
+        ensures begins { IsSomeAnd result.locked.now.draft (Begins L.lawful (known_at pass.old.seat)) }
+        ensures few_operations { IsSomeAnd result.locked.now.draft (λ d. CommitsAreWithin L.most_operations d.seat.place.me.0) }
+        ensures chunks { IsSomeAnd result.locked.now.draft (λ d. length d.usage.given ≡ self.now.shared.table.shared.key.chunks) }
+        // What is written goes on in the bump chunk.
+        ensures goes_on { IsSomeAnd result.locked.now.draft (λ d. d.usage.bump ≡ d.usage.fender) }
+    {
+        let (guard, draft) = self.join(rt, pass);
+        *locked = Locked {
+            guard: Some(guard),
+            place: self.place,
+            shared: &self.shared,
+            draft: Some(draft),
+        };
+        Transaction {
+            home: pass,
+            locked,
+            kind: PhantomData,
+        }
+    }
+
+    /// Waits for the turn, and begins a heavy transaction.
+    pub fn update<'t, 'i, R: Wait>(
+        &'i self,
+        rt: &R,
+        locked: &'t mut Locked<'i, L, N>,
+        pass: &'t mut Pass<N>,
+    ) -> Update<'t, 'i, L, N>
+        requires here { IsSome pass.old.seat }
+        requires place { pass.old.place ≡ self.now.place }
+        ensures same_reference { result.home.ghost_name ≡ pass.entry.ghost_name }
+        ensures place { result.locked.now.place ≡ self.now.place }
+        ensures passes { IsSomeAnd result.locked.now.draft (λ d. d.seat.passes ≡ self.now.shared.table.shared.key.passes) }
+        ensures begins { IsSomeAnd result.locked.now.draft (Begins L.lawful (known_at pass.old.seat)) }
+        ensures few_operations { IsSomeAnd result.locked.now.draft (λ d. CommitsAreWithin L.most_operations d.seat.place.me.0) }
+        ensures chunks { IsSomeAnd result.locked.now.draft (λ d. length d.usage.given ≡ self.now.shared.table.shared.key.chunks) }
+        // What is written begins a chunk.
+        ensures own_chunk { IsSomeAnd result.locked.now.draft (λ d. d.usage.bump ≡ full d.usage.fender) }
+    {
+        let (guard, mut draft) = self.join(rt, pass);
+        draft.start_chunk();
+        *locked = Locked {
+            guard: Some(guard),
+            place: self.place,
+            shared: &self.shared,
+            draft: Some(draft),
+        };
+        Transaction {
+            home: pass,
+            locked,
+            kind: PhantomData,
+        }
+    }
+}
+
+impl<L: Law, N: Named> Index<L, N> {
+    ghost use Rattle.qp_multi.specs.Compactions.{Compacts, IsLast};
+
+    /// Waits for the turn, and makes the next version of the entries that the current one has. What it has in sparse chunks is moved to
+    /// others first. Where there is no next version, the current one stays.
+    pub fn compact<R: Wait>(&self, rt: &R, pass: &mut Pass<N>) -> Result<Receipt, Spent>
+        requires here { IsSome pass.old.seat }
+        requires place { pass.old.place ≡ self.now.place }
+        ensures here { IsSome pass.new.seat }
+        ensures place { pass.new.place ≡ pass.old.place }
+        ensures compacts { IfOk result (Compacts L.lawful self.now.shared.table.shared.table_id self.now.shared.table.shared.key.passes
+            (known_at pass.old.seat) (known_at pass.new.seat)) }
+        ensures next { IfOk result (λ r. r.version ≢ LAST_VERSION + 1) }
+        ensures back { IfErr result (IsLast L.lawful (known_at pass.old.seat) (known_at pass.new.seat)) }
+        ensures last { IfErr result (λ s. s.version ≡ LAST_VERSION) }
+    {
+        let (guard, draft) = self.join(rt, pass);
+        let (desk, seat, outcome) = draft.commit(&self.shared, 0);
+        let mut locked = Locked {
+            guard: Some(guard),
+            place: self.place,
+            shared: &self.shared,
+            draft: None,
+        };
+        locked.leave(desk);
+        *pass = locked.pass_of(seat);
+        outcome
+    }
+}
+
+impl<L: Law, N: Named, K> Drop for Transaction<'_, '_, L, N, K> {
+    ghost use Rattle.qp_multi.specs.Drafts.{IsBack};
+
+    fn drop(self)
+        ensures back { IfSome self.entry.locked.now.draft (λ d. IsBack d.seat.place.me.0 self.exit.0.now.seat) }
+        ensures place { IfSome self.entry.locked.now.draft (λ _. self.exit.0.now.place ≡ self.entry.locked.now.place) }
+    {
+        let Self {
+            home,
+            locked,
+            kind: _,
+        } = self;
+        let shared = locked.shared;
+        if let Some(draft) = locked.draft.take() {
+            let (desk, seat) = draft.undo(shared);
+            locked.leave(desk);
+            *home = locked.pass_of(seat);
+        }
+    }
+}
+
+impl<L: Law, N: Named, K> Transaction<'_, '_, L, N, K> {
+    ghost use Rattle.chunk_usage.specs.Keeping.{kept_versions};
+    ghost use Rattle.qp_multi.specs.Keepings.{versions_in};
+
+    /// The base's number.
+    pub fn version(&self) -> u64
+        requires { IsSome self.now.locked.now.draft }
+        ensures { IfSome self.now.locked.now.draft (λ d. result ≡ length d.seat.place.me.0.seen.history) }
+    {
+        match &self.locked.draft {
+            Some(draft) => draft.seat.version,
+            // A transaction's draft is there between two calls.
+            None => unreachable!(),
+        }
+    }
+
+    /// The versions that are kept, as the last round found them.
+    pub fn kept(&self) -> Versions
+        requires { IsSome self.now.locked.now.draft }
+        ensures { IfSome self.now.locked.now.draft (λ d. versions_in result ≡ kept_versions d.usage) }
+    {
+        self.locked.kept()
+    }
+}
+
+impl<L: Law, N: Named, K> Transaction<'_, '_, L, N, K> {
+    ghost use Rattle.trie_model.specs.Keys.{Entry, InList};
+    ghost use Rattle.zone_model.specs.Keys.{Leads};
+    ghost use Rattle.qp_multi.specs.Drafts.{Works, Operates, IsFull, IsSame, Between, working_set};
+    ghost use Rattle.trie_read.specs.Readings.{Fetched};
+    ghost use Rattle.qp_multi.specs.Fulls.{CausedFrom};
+    ghost use Rattle.qp_multi.specs.Rooms.{SparesReserve};
+    ghost use Rattle.trie_write.specs.Paths.{insert_asks, replace_asks, delete_asks};
+    ghost use Rattle.qp_multi.specs.declared.meaning.Operation.TheVariants as operation;
+
+    /// Reads the item of a key of the working set into the beginning of `out`, and gives its length; `None` where the key is not
+    /// there.
+    pub fn fetch(&mut self, key: &Key, out: &mut [u8]) -> Option<usize>
+        requires works { IsSomeAnd self.old.locked.now.draft Works }
+        requires room { most_item_octets ≤ length out.old }
+        ensures same_reference { (self.new.home.ghost_name ≡ self.old.home.ghost_name) × (self.new.locked.ghost_name ≡ self.old.locked.ghost_name) }
+        ensures place { self.new.locked.now.place ≡ self.old.locked.now.place }
+        ensures same { Between IsSame self.old.locked.now.draft self.new.locked.now.draft }
+        ensures item { IfSome self.old.locked.now.draft (λ d. Fetched key.now (working_set d) out.old out.new result) }
+    {
+        self.locked.fetch(key, out)
+    }
+
+    /// Puts a name in. The item begins with the name's wire form. After a refusal the working set is as before.
+    pub fn insert(&mut self, key: &Key, item: &[u8]) -> Result<(), InsertRefusal>
+        requires works { IsSomeAnd self.old.locked.now.draft Works }
+        requires leads { Leads key.now item.now }
+        ensures same_reference { (self.new.home.ghost_name ≡ self.old.home.ghost_name) × (self.new.locked.ghost_name ≡ self.old.locked.ghost_name) }
+        ensures place { self.new.locked.now.place ≡ self.old.locked.now.place }
+        ensures inserts { Between (λ d e. Operates (operation.Insert (record { key = key.now; item = item.now }))
+            (λ es. (x : Entry) × InList x es × (x.key ≡ key.now)) d e (IsOk result) (result ≡ Err InsertRefusal.Exists))
+            self.old.locked.now.draft self.new.locked.now.draft }
+        ensures spares { Between SparesReserve self.old.locked.now.draft self.new.locked.now.draft }
+        ensures full { (f : _) → result ≡ Err (InsertRefusal.Full f) → IsSomeAnd self.new.locked.now.draft (λ d. IsFull d f) }
+        ensures cause { (f : _) → result ≡ Err (InsertRefusal.Full f)
+            → Between (λ d e. CausedFrom d e key.now (3 + cells_in item.now) (insert_asks item.now) f) self.old.locked.now.draft self.new.locked.now.draft }
+        // Nor does it come where the table has room for what was published and done.
+        ensures cramped { (f : _) → result ≡ Err (InsertRefusal.Full f) → IsSomeAnd self.old.locked.now.draft IsCramped }
+    {
+        match self.locked.change(&Change::Insert(key, item)) {
+            Ok(()) => Ok(()),
+            Err(Unchanged::Refused) => Err(InsertRefusal::Exists),
+            Err(Unchanged::Full(full)) => Err(InsertRefusal::Full(self.locked.full(full))),
+        }
+    }
+
+    /// Exchanges a name's item. The item begins with the name's wire form. After a refusal the working set is as before.
+    pub fn replace(&mut self, key: &Key, item: &[u8]) -> Result<(), ChangeRefusal>
+        requires works { IsSomeAnd self.old.locked.now.draft Works }
+        requires leads { Leads key.now item.now }
+        ensures same_reference { (self.new.home.ghost_name ≡ self.old.home.ghost_name) × (self.new.locked.ghost_name ≡ self.old.locked.ghost_name) }
+        ensures place { self.new.locked.now.place ≡ self.old.locked.now.place }
+        ensures replaces { Between (λ d e. Operates (operation.Replace (record { key = key.now; item = item.now }))
+            (λ es. (x : Entry) → InList x es → x.key ≡ key.now → ⊥) d e (IsOk result) (result ≡ Err ChangeRefusal.NotFound))
+            self.old.locked.now.draft self.new.locked.now.draft }
+        ensures spares { Between SparesReserve self.old.locked.now.draft self.new.locked.now.draft }
+        ensures full { (f : _) → result ≡ Err (ChangeRefusal.Full f) → IsSomeAnd self.new.locked.now.draft (λ d. IsFull d f) }
+        ensures cause { (f : _) → result ≡ Err (ChangeRefusal.Full f)
+            → Between (λ d e. CausedFrom d e key.now (3 + cells_in item.now) (replace_asks item.now) f) self.old.locked.now.draft self.new.locked.now.draft }
+        // Nor does it come where the table has room for what was published and done.
+        ensures cramped { (f : _) → result ≡ Err (ChangeRefusal.Full f) → IsSomeAnd self.old.locked.now.draft IsCramped }
+    {
+        match self.locked.change(&Change::Replace(key, item)) {
+            Ok(()) => Ok(()),
+            Err(Unchanged::Refused) => Err(ChangeRefusal::NotFound),
+            Err(Unchanged::Full(full)) => Err(ChangeRefusal::Full(self.locked.full(full))),
+        }
+    }
+
+    /// Takes a name out. After a refusal the working set is as before.
+    pub fn delete(&mut self, key: &Key) -> Result<(), ChangeRefusal>
+        requires { IsSomeAnd self.old.locked.now.draft Works }
+        ensures same_reference { (self.new.home.ghost_name ≡ self.old.home.ghost_name) × (self.new.locked.ghost_name ≡ self.old.locked.ghost_name) }
+        ensures place { self.new.locked.now.place ≡ self.old.locked.now.place }
+        ensures deletes { Between (λ d e. Operates (operation.Delete key.now) (λ es. (x : Entry) → InList x es → x.key ≡ key.now → ⊥)
+            d e (IsOk result) (result ≡ Err ChangeRefusal.NotFound)) self.old.locked.now.draft self.new.locked.now.draft }
+        ensures spares { Between SparesReserve self.old.locked.now.draft self.new.locked.now.draft }
+        ensures full { (f : _) → result ≡ Err (ChangeRefusal.Full f) → IsSomeAnd self.new.locked.now.draft (λ d. IsFull d f) }
+        ensures cause { (f : _) → result ≡ Err (ChangeRefusal.Full f)
+            → Between (λ d e. CausedFrom d e key.now 1 delete_asks f) self.old.locked.now.draft self.new.locked.now.draft }
+        // Nor does it come where the table has room for what was published and done.
+        ensures cramped { (f : _) → result ≡ Err (ChangeRefusal.Full f) → IsSomeAnd self.old.locked.now.draft IsCramped }
+    {
+        match self.locked.change(&Change::Delete(key)) {
+            Ok(()) => Ok(()),
+            Err(Unchanged::Refused) => Err(ChangeRefusal::NotFound),
+            Err(Unchanged::Full(full)) => Err(ChangeRefusal::Full(self.locked.full(full))),
+        }
+    }
+}
+
+impl<L: Law, N: Named, K: Kind> Transaction<'_, '_, L, N, K> {
+    ghost use Rattle.qp_multi.specs.Drafts.{Works, Commits, IsBack, working_set};
+    ghost use Rattle.qp_multi.specs.Receipts.{Recycles};
+    ghost use Rattle.qp_multi.specs.Operations.{AreWithin};
+    ghost use Rattle.qp_multi.specs.Passes.{first_version};
+
+    /// Makes the working set the next version; where there is none, the base stays. What the working set has in sparse chunks is moved
+    /// first: by a heavy transaction always, by a light one where more than 8 chunks are sparse.
+    pub fn commit(self) -> Result<Receipt, Spent>
+        requires works { IsSomeAnd self.locked.now.draft Works }
+        requires lawful { IsSomeAnd self.locked.now.draft (λ d. L.lawful (first_version d.seat.place.me.0.seen) (working_set d)) }
+        requires few_operations { ForSome self.locked.now.draft (λ d. AreWithin L.most_operations d.log.operations) }
+        ensures here { IsSome self.exit.0.now.seat }
+        ensures place { self.exit.0.now.place ≡ self.entry.locked.now.place }
+        ensures commits { IfOk result (λ _. IfSome self.entry.locked.now.draft
+            (λ d. Commits d.seat.place.me.0 d.log.operations (known_at self.exit.0.now.seat))) }
+        ensures version { IfOk result (λ r. IfSome self.entry.locked.now.draft (λ d. r.version ≡ d.seat.version + 1)) }
+        ensures back { IfErr result (λ _. IfSome self.entry.locked.now.draft (λ d. IsBack d.seat.place.me.0 self.exit.0.now.seat)) }
+        ensures spent { IfSome self.entry.locked.now.draft (λ d. IsErr result ↔ (d.seat.version ≡ LAST_VERSION)) }
+        ensures last { IfErr result (λ s. IfSome self.entry.locked.now.draft (λ d. s.version ≡ d.seat.version)) }
+        ensures receipt { IfOk result (λ r. IfSome self.entry.locked.now.draft (λ d. Recycles K.MOST_SPARSE d (known_at self.exit.0.now.seat) r)) }
+    {
+        let Self {
+            home,
+            locked,
+            kind: _,
+        } = self;
+        let Some(draft) = locked.draft.take() else {
+            // A transaction's draft is there between two calls.
+            unreachable!()
+        };
+        let (desk, seat, outcome) = draft.commit(locked.shared, K::MOST_SPARSE);
+        locked.leave(desk);
+        *home = locked.pass_of(seat);
+        outcome
+    }
+}
+
+impl<L: Law, N: Named> Transaction<'_, '_, L, N, Heavy> {
+    ghost use Rattle.qp_multi.specs.Drafts.{IsBack};
+
+    /// Goes back to the base. No version is made.
+    pub fn rollback(self)
+        ensures back { IfSome self.entry.locked.now.draft (λ d. IsBack d.seat.place.me.0 self.exit.0.now.seat) }
+        ensures place { IfSome self.entry.locked.now.draft (λ _. self.exit.0.now.place ≡ self.entry.locked.now.place) }
+    {
+        drop(self);
+    }
+}

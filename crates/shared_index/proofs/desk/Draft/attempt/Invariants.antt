@@ -1,4 +1,0 @@
-use Rattle.shared_index.proofs.desk.Draft.attempt.Given as goal
-
-abbrev pub ghosts-attempt : goal.ghosts-attempt
-ghosts-attempt g a = record { table = a.seat.place.table_id; view = a.seat.place.me.0 }

@@ -1,4 +1,0 @@
-use Rattle.shared_index.proofs.pass.Pass.account.Given as goal
-
-abbrev pub ghosts-look : goal.ghosts-look
-ghosts-look g a = record { passes = a.shared.now.table.shared.key.passes }

@@ -1,0 +1,69 @@
+//! What answers for a name.
+
+ghost use Rattle.std.specs.Prelude.{◌≡◌, ◌≤◌, Some, length};
+ghost use Rattle.zone_answer.specs.Prelude.{key_of, most_item_octets, Version, node, IsNodeOf, own_node, IsApart, StandsOn};
+
+use crate::records::Held;
+use crate::walker::Walker;
+use dns_name::Name;
+use trie_read::{Reading, labels_to};
+
+/// A name with what it owns, if it exists. What it owns is read into a buffer. The walker's key becomes the name's.
+fn existing<V: Reading>(
+    version: &mut V,
+    walker: &mut Walker,
+    name: &Name,
+    item: &mut [u8],
+) -> Option<Held>
+    requires stands { (zone : Version) × StandsOn (V.holds version.old) (V.stands version.old walker.old.iter) zone }
+    requires room { most_item_octets ≤ length item.old }
+    ensures same { version.new ≡ version.old }
+    ensures node { (zone : Version) → StandsOn (V.holds version.old) (V.stands version.old walker.old.iter) zone
+        → IsNodeOf item.new (own_node zone name.now) result }
+{
+    let _wire = name.wire(); // for the proof
+    walker.key.set(name);
+    let met = version.reach(&mut walker.iter, &walker.key, &mut walker.above)?;
+    let Some(first) = met.difference else {
+        let len = version.read(met.leaf, item);
+        return Some(Held { name: *name, len });
+    };
+    if first.place < walker.key.len() {
+        return None;
+    }
+    Some(Held {
+        name: *name,
+        len: 0,
+    })
+}
+
+/// What answers for a name that owns nothing, whose key has its positions before a place in common with the nearest name's: no records where names under it
+/// are there, else those of the wildcard under the last name above it that is read by then; `None` where there is no such wildcard. The walker has the
+/// name's key.
+pub fn absent_node<V: Reading>(
+    version: &mut V,
+    walker: &mut Walker,
+    name: &Name,
+    place: u16,
+    item: &mut [u8],
+) -> Option<Held>
+    requires apart { (zone : Version) × IsApart (V.holds version.old) (V.stands version.old walker.old.iter) name.now place zone }
+    requires key { walker.old.key ≡ key_of name.now }
+    requires room { most_item_octets ≤ length item.old }
+    ensures same { version.new ≡ version.old }
+    ensures node { (zone : Version) → IsApart (V.holds version.old) (V.stands version.old walker.old.iter) name.now place zone
+        → IsNodeOf item.new (node zone name.now) result }
+{
+    let _wire = name.wire(); // for the proof
+    if walker.key.len() <= place {
+        return Some(Held {
+            name: *name,
+            len: 0,
+        });
+    }
+    let encloser = name.cut(labels_to(&walker.key, place));
+    match &encloser.star() {
+        Some(star) => existing(version, walker, star, item),
+        None => None,
+    }
+}
