@@ -34,3 +34,8 @@ pub mod ShortLaws
 pub mod CapacityLaws
 pub mod RoomyLaws
 pub mod StayLaws
+pub mod CrowdLaws
+pub mod NodeLaws
+pub mod CrowdedLaws
+pub mod SmallLaws
+pub mod WayLaws

@@ -19,3 +19,4 @@ pub mod Compactions
 pub mod Capacity
 pub mod Bounds
 pub mod Prelude
+pub mod Crowds

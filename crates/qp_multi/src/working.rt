@@ -16,6 +16,8 @@ use trie_write::Unchanged;
 
 impl Draft {
     ghost use Rattle.qp_multi.specs.Bounds.{HasRoom, IsCramped};
+    ghost use Rattle.qp_multi.specs.Crowds.{EachStaysSmall};
+    ghost use Rattle.chunk_usage.specs.Ledger.{IsLedger};
     ghost use Rattle.qp_multi.specs.Drafts.{Works, Operates, IsFull};
     ghost use Rattle.qp_multi.specs.Fulls.{CausedBy, CausedFrom, full_with, version_at};
     ghost use Rattle.qp_multi.specs.Rooms.{Fails, FreesRoom, MakesRoom, SparesReserve};
@@ -49,6 +51,7 @@ impl Draft {
         ensures tried { IfErr result.1 (λ e. Tried change.now self.root self.seat.place.me.0 self.usage result.0.seat.place.me.0 result.0.usage (Err e)) }
         ensures fails { (f : _) → result.1 ≡ Err (Unchanged.Full f) → Fails self result.0 }
         ensures spares { Spares self.usage result.0.usage }
+        ensures ledger { IsLedger result.0.usage }
         ensures root { IfErr result.1 (λ _. result.0.root ≡ self.root) }
         ensures room { HasRoom self → HasRoom result.0 }
         ensures cramped { HasRoom self → (f : _) → result.1 ≡ Err (Unchanged.Full f) → IsCramped self }
@@ -118,6 +121,7 @@ impl Draft {
         ensures full { (f : _) (kept : Versions) → result.1 ≡ Err (Unchanged.Full f) → versions_in kept ≡ kept_versions result.0.usage
             → IsFull result.0 (full_with f kept) }
         ensures room { (left : Left) × MakesRoom self left × Spares left.usage result.0.usage }
+        ensures crowded { EachStaysSmall self result.0 result.1 }
         ensures cause { (f : _) (kept : Versions) → result.1 ≡ Err (Unchanged.Full f) → versions_in kept ≡ kept_versions result.0.usage
             → CausedBy self result.0 (key_of change.now) (written_by change.now) (asked_by change.now) (full_with f kept) }
     {
@@ -142,6 +146,7 @@ impl Draft {
         ensures full { (f : _) (kept : Versions) → result.1 ≡ Err (Unchanged.Full f) → versions_in kept ≡ kept_versions result.0.usage
             → IsFull result.0 (full_with f kept) }
         ensures spares { SparesReserve self result.0 }
+        ensures crowded { EachStaysSmall self result.0 result.1 }
         ensures cause { (f : _) (kept : Versions) → result.1 ≡ Err (Unchanged.Full f) → versions_in kept ≡ kept_versions result.0.usage
             → CausedFrom self result.0 (key_of change.now) (written_by change.now) (asked_by change.now) (full_with f kept) }
         ensures room { HasRoom self → HasRoom result.0 }

@@ -1,6 +1,6 @@
 use Rattle.std.proofs.Common.{◌≡◌, ◌∙◌, ℕ, List, length, Option, Ok, Err, IfErr, refl, sym, ap, subst}
 use Rattle.trie_model.specs.Keys.{Entry}
-use Rattle.chunk_usage.specs.Ledger.{Ledger}
+use Rattle.chunk_usage.specs.Ledger.{Ledger, IsLedger}
 use Rattle.shared_cells.specs.declared.turn.JoinedSeat.{JoinedSeat}
 use Rattle.qp_multi.specs.declared.meaning.Operation.{Operation}
 use Rattle.qp_multi.specs.Passes.{Known}
@@ -64,3 +64,6 @@ returns-in-Err-clause-cramped g c room f e =
     let is = c.in-Err.is ∙ ap (λ x. Err x) (subst (λ r. IfErr r (λ x. c.in-Err.unchanged ≡ x)) e refl) in
     let tried = subst (Tried change d.root d.seat.place.me.0 d.usage c.attempt-seat.result.0.place.me.0 c.attempt-seat.new.usage) is c.attempt-seat.ensures.tried in
     tried_cramped change d c.attempt-seat.result.0.place.me.0 c.attempt-seat.new.usage f c.requires.works c.requires.leads tried room
+
+pub returns-in-Ok-clause-ledger : goal.returns-in-Ok-clause-ledger
+returns-in-Ok-clause-ledger g c = subst IsLedger (sym c.with_done.ensures.usage) c.attempt-seat.ensures.ledger

@@ -1,8 +1,11 @@
-use Rattle.std.proofs.Common.{arith, inl, inr, refl, rules}
+use Rattle.std.proofs.Common.{ap, arith, inl, inr, refl, rules}
 use Rattle.qp_multi.specs.Bounds.{HasRoom, IsCramped}
 use Rattle.qp_multi.specs.Rooms.{Fails}
 use Rattle.qp_multi.proofs.GoesLaws.{goes_further}
 use Rattle.qp_multi.proofs.RoomyLaws.{cramped_room, keeps_grown, keeps_made, keeps_then, no_fewer}
+use Rattle.trie_model.specs.Shape.{cells}
+use Rattle.qp_multi.proofs.CrowdedLaws.{tried_works}
+use Rattle.qp_multi.proofs.WorkLaws.{set_stays}
 use Rattle.qp_multi.proofs.desk.Draft.change.Given.{Over}
 use Rattle.qp_multi.proofs.desk.Draft.change.Goals as goal
 
@@ -41,3 +44,19 @@ returns-in-Err-Full-clause-cramped g c room f e = cramped_first g c room
 
 pub returns-in_default-clause-cause : goal.returns-in_default-clause-cause
 returns-in_default-clause-cause g c f kept e same = absurd (search rules)
+
+pub returns-in_default-clause-crowded : goal.returns-in_default-clause-crowded
+returns-in_default-clause-crowded g c most small some fits w = record {
+  small = tried_works most c.args.self.usage c.attempt-draft.result.0.usage (record { ledger = c.attempt-draft.ensures.ledger; spares = c.attempt-draft.ensures.spares }) w;
+  full = λ f e. absurd (search rules);
+}
+
+pub returns-in-Err-Full-clause-crowded : goal.returns-in-Err-Full-clause-crowded
+returns-in-Err-Full-clause-crowded g c most small some fits w =
+    let tried = c.attempt-draft in
+    let first = tried.result.0 in
+    let one = tried_works most c.args.self.usage first.usage (record { ledger = tried.ensures.ledger; spares = tried.ensures.spares }) w in
+    let set = ap cells (set_stays c.args.self first tried.ensures.operates.known (tried.ensures.operates.stays (λ h. absurd (search rules)))) in
+    let wide = tried.ensures.spares.grown.wide in
+    let last = c.change_at_last.ensures.crowded most small (omega arith) (omega arith) one in
+    record { small = last.small; full = last.full }

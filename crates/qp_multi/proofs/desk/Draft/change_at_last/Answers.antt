@@ -1,4 +1,4 @@
-use Rattle.std.proofs.Common.{◌≡◌, ◌∙◌, ◌∷◌, ◌++◌, [], ℕ, Err, IfErr, map, ap, refl, subst, sym}
+use Rattle.std.proofs.Common.{length, ◌+◌, ◌*◌, ◌-◌, ◌/◌, ◌≤◌, arith, ◌≡◌, ◌∙◌, ◌∷◌, ◌++◌, [], ℕ, Err, IfErr, map, ap, refl, subst, sym}
 use Rattle.std.proofs.lemmas.Bool.{true≢false}
 use Rattle.std.specs.Prelude.{IsOk}
 use Rattle.chunk_usage.specs.Ledger.{Frozen, Row}
@@ -11,6 +11,10 @@ use Rattle.qp_multi.specs.Tries.{Tried}
 use Rattle.qp_multi.proofs.GoesLaws.{goes_further}
 use Rattle.qp_multi.proofs.WorkLaws.{full_of, operates_after, set_stays}
 use Rattle.qp_multi.proofs.FullLaws.{cause_of}
+use Rattle.trie_model.specs.Shape.{cells}
+use Rattle.qp_multi.specs.Capacity.{most_met}
+use Rattle.qp_multi.proofs.CrowdLaws.{crowded}
+use Rattle.qp_multi.proofs.CrowdedLaws.{TriedSmall, room_small, same_set, tried_cost, tried_works}
 use Rattle.qp_multi.proofs.desk.Draft.change_at_last.Given.{Over}
 use Rattle.qp_multi.proofs.desk.Draft.change_at_last.Goals as goal
 
@@ -71,4 +75,30 @@ returns-clause-cause g c f kept e same =
       fails = fails;
       cause = cause_of c.evacuate-emptied.result.0.usage left.result tried.result.0 change f (full_with f kept) left.ensures.frees.round.frees refl told left.ensures.works left.ensures.images c.requires.leads stays root on
           (set_stays left.result tried.result.0 on (tried.ensures.operates.stays (λ h. true≢false (sym (subst (λ r. IsOk r) e h))))) (tried.ensures.full f e);
+    }
+
+pub returns-clause-crowded : goal.returns-clause-crowded
+returns-clause-crowded g c most small some fits w =
+    let room = c.make_room-room in
+    let dense = c.evacuate-emptied in
+    let left = c.make_room-left in
+    let tried = c.attempt in
+    let m = makes g c in
+    let set_room = same_set c.args.self room.result room.ensures.frees.goes_on room.ensures.log in
+    let set_emptied = same_set room.result dense.result.0 dense.ensures.goes_on dense.ensures.log in
+    let set_left = same_set dense.result.0 left.result left.ensures.frees.goes_on left.ensures.log in
+    let a = ap cells set_room in
+    let b = ap cells set_emptied in
+    let e = ap cells set_left in
+    let asks = dense.ensures.asks in
+    let two : TriedSmall left.result.usage tried.result.0.usage = record { ledger = tried.ensures.ledger; spares = tried.ensures.spares } in
+    let there = room_small most c.args.self left.result small some w m dense.ensures.works (omega arith) (omega arith) in
+    record {
+      small = tried_works most left.result.usage tried.result.0.usage two there.1;
+      full = λ f is.
+          let stays = subst (λ r. IfErr r (λ x. Tried c.args.change.now left.result.root left.result.seat.place.me.0 left.result.usage tried.result.0.seat.place.me.0 tried.result.0.usage (Err x))) is tried.ensures.tried in
+          let cost = tried_cost most left.result c.args.change.now tried.result.0.usage small left.ensures.works c.requires.leads (omega arith) stays.consumes in
+          let k = crowded most 4883 left.result.usage tried.result.0.usage f there.1.rows there.0.0 there.0.1 cost (tried.ensures.full f is) in
+          let rows = ap (λ (f : Frozen). length f.rows) tried.ensures.spares.grown.frozen in
+          let more = ap (λ (n : ℕ). (n + 1) * most_met most) rows in omega arith;
     }
