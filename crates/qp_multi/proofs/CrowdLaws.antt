@@ -1,4 +1,4 @@
--- Scratch: a table is crowded only by what is kept.
+-- A table is crowded only by what is kept: what a transaction's steps leave, where no set has many cells.
 use Rattle.std.proofs.Common.{◌≡◌, ◌∙◌, ◌⊎◌, ⊎_elim, ℕ, zero, suc, min, ◌+◌, ◌-◌, ◌*◌, ◌/◌, ◌<◌, ◌≤◌, ◌==◌, nat_lt, Bool, true, false, not, cond, ◌||◌, ◌&&◌, if◌then◌else◌, List, [], ◌∷◌, ◌++◌, length, slice_index, slice_index_or, Option, Some, None, arith, refl, sym, ap, subst, inl, inr}
 use Rattle.std.specs.Prelude.{count_by}
 use Rattle.std.specs.List.{All, range_with_len, sum_by}
@@ -17,8 +17,8 @@ use Rattle.chunk_usage.specs.Ledger.{Ledger, Frozen, Row, IsBump, IsLedger, froz
 use Rattle.chunk_usage.specs.Handing.{Lacks, consumed}
 use Rattle.chunk_usage.specs.Keeping.{closed, freed, frozen, full, is_among, is_in_rows, is_needed, narrowed, restored, rows_of}
 use Rattle.evacuate.specs.Evacuations.{IsDense}
-use Rattle.qp_multi.specs.Capacity.{RowsAreFew, given_count, most_met, row_size}
-use Rattle.qp_multi.specs.Crowds.{RestsSmall, WorksSmall, base_count, is_met, met_count, met_in, spread}
+use Rattle.qp_multi.specs.Capacity.{given_count}
+use Rattle.qp_multi.specs.Crowds.{RestsSmall, RowsAreFew, WorksSmall, base_count, is_met, met_count, met_in, most_met, row_size, spread}
 use Rattle.qp_multi.specs.Movings.{FewThin, is_thin}
 use Rattle.qp_multi.specs.Tries.{Grown, Spares}
 use Rattle.qp_multi.proofs.CauseLaws.{NeededBy, any_counts, live_of, open_once, open_one, some_live, some_row}
@@ -35,14 +35,7 @@ use Rattle.qp_multi.proofs.ThinLaws.{live_few, met_few, set_size}
 
 -- ---- a transaction begins
 
-pub begins_small : (c : ℕ) (u : Ledger) → u.live ≡ u.last_live → u.bump ≡ u.fender → RestsSmall c u → WorksSmall c u
-begins_small c u live bump r = record {
-  rows = r.rows;
-  base = r.base;
-  met = inr (let e = ap (λ (l : List ℕ). met_in (length u.given) l u.bump) live in let f = ap (λ (b : Option Bump). met_in (length u.given) u.last_live b) bump in let b = r.base in omega arith);
-}
-
-full_bump : (b : Option Bump) (k : ℕ) → is_bump (full b) k ≡ is_bump b k
+pub full_bump : (b : Option Bump) (k : ℕ) → is_bump (full b) k ≡ is_bump b k
 full_bump None k = refl
 full_bump (Some o) k = refl
 
@@ -50,17 +43,22 @@ row_same : (v w : ℕ → ℕ) → ((k : ℕ) → v k ≡ w k) → (r n : ℕ) �
 row_same v w h r zero = refl
 row_same v w h r (suc n) = let a = h r in let b = row_same v w h (suc r) n in omega arith
 
-pub closed_small : (c : ℕ) (u : Ledger) → WorksSmall c u → WorksSmall c (closed u)
-closed_small c u s = record {
-  rows = s.rows;
-  base = s.base;
-  met = ⊎_elim (λ (h : reserve_of u ≤ free_count u). inl h)
-      (λ (h : met_count u ≤ most_met c). inr (let e = row_same (λ k. if is_met u.live (full u.bump) k then 1 else 0) (λ k. if is_met u.live u.bump k then 1 else 0) (λ k. ap (λ (b : Bool). cond {A = ℕ} (b || nat_lt 0 (slice_index u.live k)) 1 0) (full_bump u.bump k)) 0 (length u.given) in omega arith)) s.met;
+pub begins_small : (c : ℕ) (u : Ledger) → u.live ≡ u.last_live → ((k : ℕ) → is_bump u.bump k ≡ is_bump u.fender k) → RestsSmall c u → WorksSmall c u
+begins_small c u live bump r = record {
+  rests = r;
+  met = λ less.
+      let e = row_same (λ k. if is_met u.live u.bump k then 1 else 0) (λ k. if is_met u.last_live u.fender k then 1 else 0)
+          (λ k. ap (λ (b : Bool). cond {A = ℕ} (b || nat_lt 0 (slice_index u.live k)) 1 0) (bump k)
+          ∙ ap (λ (l : List ℕ). cond {A = ℕ} (is_bump u.fender k || nat_lt 0 (slice_index l k)) 1 0) live) 0 (length u.given) in
+      let b = r.base in omega arith;
 }
+
+pub closed_rests : (c : ℕ) (u : Ledger) → RestsSmall c u → RestsSmall c (closed u)
+closed_rests c u r = record { rows = r.rows; base = r.base }
 
 -- ---- an operation was tried, with or without success
 
-base_same : (u n : Ledger) → length n.given ≡ length u.given → frozen_part n ≡ frozen_part u → base_count n ≡ base_count u
+pub base_same : (u n : Ledger) → length n.given ≡ length u.given → frozen_part n ≡ frozen_part u → base_count n ≡ base_count u
 base_same u n wide same =
     ap (λ (m : ℕ). met_in m n.last_live n.fender) wide
     ∙ ap (λ (f : Frozen). met_in (length u.given) f.live f.bump) same
@@ -68,24 +66,21 @@ base_same u n wide same =
 pub rows_same : (c : ℕ) (u n : Ledger) → frozen_part n ≡ frozen_part u → RowsAreFew c u.rows → RowsAreFew c n.rows
 rows_same c u n same few = subst (RowsAreFew c) (sym (ap (λ (f : Frozen). f.rows) same)) few
 
-still_met : (r f f_new m m_new most : ℕ) → min f_new r ≡ min f r → m_new + f_new ≤ m + f → (r ≤ f) ⊎ (m ≤ most) → (r ≤ f_new) ⊎ (m_new ≤ most)
-still_met r f f_new m m_new most same spread was = elim (cases_lt f_new r) [
-  | inl few ↦ ⊎_elim (λ (h : r ≤ f). absurd (omega arith)) (λ (h : m ≤ most). elim (cases_lt f r) [
-    | inl short ↦ inr (omega arith)
-    | inr whole ↦ absurd (omega arith)
-  ]) was
-  | inr whole ↦ inl (omega arith)
+still_met : (r f f_new m m_new most : ℕ) → min f_new r ≡ min f r → m_new + f_new ≤ m + f → (f < r → m ≤ most) → f_new < r → m_new ≤ most
+still_met r f f_new m m_new most same spread was less = elim (cases_lt f r) [
+  | inl short ↦ (let a = was short in omega arith)
+  | inr whole ↦ absurd (omega arith)
 ]
+
+pub rests_grown : (c : ℕ) (u n : Ledger) → Grown u n → RestsSmall c u → RestsSmall c n
+rests_grown c u n g r = record { rows = rows_same c u n g.frozen r.rows; base = let b = base_same u n g.wide g.frozen in let a = r.base in omega arith }
 
 pub tried_small : (c : ℕ) (u n : Ledger) → Spares u n → spread n ≤ spread u → WorksSmall c u → WorksSmall c n
 tried_small c u n s few w =
-    let wide = s.grown.wide in
-    let e : reserve_of n ≡ reserve_of u = ap (λ (k : ℕ). k / 4) wide in
+    let e : reserve_of n ≡ reserve_of u = ap (λ (k : ℕ). k / 4) s.grown.wide in
     record {
-      rows = rows_same c u n s.grown.frozen w.rows;
-      base = let b = base_same u n wide s.grown.frozen in let a = w.base in omega arith;
-      met = let x = still_met (reserve_of u) (free_count u) (free_count n) (met_count u) (met_count n) (most_met c) (let r = s.reserve in subst (λ (k : ℕ). min (free_count n) k ≡ reserved u) e r) few w.met in
-          ⊎_elim (λ (h : reserve_of u ≤ free_count n). inl (omega arith)) (λ (h : met_count n ≤ most_met c). inr h) x;
+      rests = rests_grown c u n s.grown w.rests;
+      met = λ less. still_met (reserve_of u) (free_count u) (free_count n) (met_count u) (met_count n) (most_met c) (let r = s.reserve in subst (λ (k : ℕ). min (free_count n) k ≡ reserved u) e r) few w.met (omega arith);
     }
 
 -- ---- a try found no room, and what it left is small: so the kept versions are many, or the request is large
@@ -203,18 +198,22 @@ freed_more l =
     let b = clear_is l.given in
     let c = clear_is (freed l).given in omega arith
 
+pub round_rests : (c : ℕ) (u : Ledger) (versions : List ℕ) → RestsSmall c u → RestsSmall c (freed (narrowed u versions))
+round_rests c u versions r = record {
+  rows = All-filter (λ (x : Row). is_among versions x.version) (λ (x : Row). row_size x ≤ most_met c) u.rows r.rows;
+  base = let g = ap (λ (k : ℕ). met_in k u.last_live u.fender) (freed_chunks (narrowed u versions)) in let b = r.base in omega arith;
+}
+
 pub round_small : (c : ℕ) (u n : Ledger) (versions : List ℕ) → n ≡ freed (narrowed u versions) → WorksSmall c u → WorksSmall c n
 round_small c u n versions after w = subst (WorksSmall c) (sym after) (
     let m = freed (narrowed u versions) in
     let wide : length m.given ≡ length u.given = freed_chunks (narrowed u versions) in
     let r : reserve_of m ≡ reserve_of u = ap (λ (k : ℕ). k / 4) wide in
     let e : met_count m ≡ met_count u = ap (λ (k : ℕ). met_in k u.live u.bump) wide in
-    let g : base_count m ≡ base_count u = ap (λ (k : ℕ). met_in k u.last_live u.fender) wide in
     let more = freed_more (narrowed u versions) in
     record {
-      rows = All-filter (λ (r : Row). is_among versions r.version) (λ (r : Row). row_size r ≤ most_met c) u.rows w.rows;
-      base = let b = w.base in omega arith;
-      met = ⊎_elim (λ (h : reserve_of u ≤ free_count u). inl (omega arith)) (λ (h : met_count u ≤ most_met c). inr (omega arith)) w.met;
+      rests = round_rests c u versions w.rests;
+      met = λ less. let a = w.met (omega arith) in omega arith;
     })
 
 -- ---- chunks with more than 256 cells that count, but so many thin ones
@@ -264,19 +263,14 @@ thin_small u c is few_thin all =
 -- ---- what lies in sparse chunks was moved
 
 -- where it could not be moved whole, no chunk was free, and none was taken
-stopped_small : (c r f f_new m m_new most all : ℕ) → 1 ≤ r → all ≤ c → c ≤ 768 → f_new ≡ 0 → f + 1 ≤ f_new + (all / 769 + 1) → m_new + f_new ≤ m + f → (r ≤ f) ⊎ (m ≤ most) → m_new ≤ most
-stopped_small c r f f_new m m_new most all some fits small none asks spread was =
-    ⊎_elim (λ (h : r ≤ f). absurd (omega arith)) (λ (h : m ≤ most). (omega arith)) was
+stopped_small : (c r f f_new m m_new most all : ℕ) → 1 ≤ r → all ≤ c → c ≤ 768 → f_new ≡ 0 → f + 1 ≤ f_new + (all / 769 + 1) → m_new + f_new ≤ m + f → (f < r → m ≤ most) → m_new ≤ most
+stopped_small c r f f_new m m_new most all some fits small none asks spread was = let a = was (omega arith) in omega arith
 
 pub stopped_met : (c all : ℕ) (u n : Ledger) → 1 ≤ reserve_of u → all ≤ c → c ≤ 768 → free_count n ≡ 0 → free_count u + 1 ≤ free_count n + (all / 769 + 1) → spread n ≤ spread u → WorksSmall c u → met_count n ≤ most_met c
 stopped_met c all u n some fits small none asks few w = stopped_small c (reserve_of u) (free_count u) (free_count n) (met_count u) (met_count n) (most_met c) all some fits small none asks few w.met
 
 pub moved_small : (c : ℕ) (u n : Ledger) → Grown u n → met_count n ≤ most_met c → WorksSmall c u → WorksSmall c n
-moved_small c u n g met w = record {
-  rows = rows_same c u n g.frozen w.rows;
-  base = let b = base_same u n g.wide g.frozen in let a = w.base in omega arith;
-  met = inr met;
-}
+moved_small c u n g met w = record { rests = rests_grown c u n g w.rests; met = λ less. met }
 
 -- ---- a commit, and an undo
 
@@ -311,11 +305,11 @@ published_small c version u n versions is after rows met = subst (RestsSmall c) 
       base = let e = ap (λ (k : ℕ). met_in k u.live u.bump) wide in omega arith;
     })
 
-pub undone_small : (c : ℕ) (u n : Ledger) → n ≡ freed (restored u) → WorksSmall c u → RestsSmall c n
-undone_small c u n after w = subst (RestsSmall c) (sym after) (record {
-  rows = w.rows;
-  base = let e = ap (λ (k : ℕ). met_in k u.last_live u.fender) (freed_chunks (restored u)) in let b = w.base in omega arith;
-})
+pub undone_small : (c : ℕ) (u : Ledger) → RestsSmall c u → RestsSmall c (freed (restored u))
+undone_small c u r = record {
+  rows = r.rows;
+  base = let e = ap (λ (k : ℕ). met_in k u.last_live u.fender) (freed_chunks (restored u)) in let b = r.base in omega arith;
+}
 
 -- ---- cells are handed out and released: what the space's calls do to the spread
 

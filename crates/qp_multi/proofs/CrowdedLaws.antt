@@ -7,7 +7,7 @@ use Rattle.trie_model.specs.Extents.{row, cells_in}
 use Rattle.trie_model.specs.Keys.{Entry}
 use Rattle.trie_model.specs.Shape.{cells}
 use Rattle.chunk_usage.specs.declared.space.Full.{Full as NoRoom}
-use Rattle.chunk_usage.specs.Ledger.{Ledger, Row, IsLedger, free_count, is_bump, is_given, is_used, reserve_of}
+use Rattle.chunk_usage.specs.Ledger.{Ledger, Frozen, Row, IsLedger, free_count, is_bump, is_given, is_used, reserve_of}
 use Rattle.chunk_usage.specs.Handing.{Lacks, consumed}
 use Rattle.chunk_usage.specs.Keeping.{freed, kept_versions, narrowed}
 use Rattle.evacuate.specs.declared.evacuation.Done.{Done}
@@ -15,7 +15,6 @@ use Rattle.evacuate.specs.declared.evacuation.Done.TheVariants as done
 use Rattle.evacuate.specs.Evacuations.{IsDense, refused}
 use Rattle.evacuate.specs.Fillings.{IsFull as IsUsedUp}
 use Rattle.shared_cells.specs.Cells.{HasCell}
-use Rattle.qp_multi.specs.Capacity.{RowsAreFew, most_met, row_size}
 use Rattle.qp_multi.specs.Drafts.{Works, working_set}
 use Rattle.qp_multi.specs.Movings.{Evacuates}
 use Rattle.qp_multi.specs.Rooms.{MakesRoom}
@@ -43,7 +42,7 @@ use Rattle.qp_multi.specs.Tries.{PathHas}
 use Rattle.qp_multi.proofs.FullLaws.{few_written}
 use Rattle.qp_multi.proofs.WorkLaws.{set_stays}
 use Rattle.qp_multi.specs.Keepings.{GoesOn}
-use Rattle.qp_multi.specs.Crowds.{WorksSmall, is_met, met_count, met_in, base_count}
+use Rattle.qp_multi.specs.Crowds.{RowsAreFew, WorksSmall, is_met, met_count, met_in, most_met, row_size}
 use Rattle.qp_multi.proofs.CrowdLaws.{MeetsNew, crowded, moved_small, round_small, spread_few, stopped_met, tried_small}
 
 set_counts : (b : Bool) → b ≡ true → ◌≡◌ {A = ℕ} (cond b 1 0) 1
@@ -140,15 +139,15 @@ mutual
   count_size none = omega arith
   count_size (twig p t rest) = let b = count_size rest in omega arith
 
-path_cells : (has : ℕ → Cell → Type 0) (used : ℕ → Bool) (live : ℕ → ℕ) (root : Option ℕ) (key : List ℕ) (es : List Entry) → Standing has used live root es → EachTells Leads es → (n : ℕ) × OnPath has used live root key n × (n ≤ cells es)
+pub path_cells : (has : ℕ → Cell → Type 0) (used : ℕ → Bool) (live : ℕ → ℕ) (root : Option ℕ) (key : List ℕ) (es : List Entry) → Standing has used live root es → EachTells Leads es → (n : ℕ) × OnPath has used live root key n × (n ≤ cells es)
 path_cells has used live None key es s tells = (0, refl, omega arith)
 path_cells has used live (Some r) key es s tells =
     (twigs_on_path key s.0, (s.0, es, s.1, tells, refl), (let a = path_size key s.0 in let e = ap cells (sym s.1.trie.holds) ∙ size_is 0 s.0 s.1.trie.shape in omega arith))
 
--- a try that found no room consumed no more than what a call may ask for
-pub tried_cost : (c : ℕ) (d : Draft) (change : Change) (n : Ledger) → c ≤ 768 → Works d → LeadsItem change → cells (working_set d) ≤ c → ((twigs : ℕ) → PathHas d.seat.place.me.0 d.usage d.root (key_of change) twigs → consumed n ≤ consumed d.usage + (written_by change + twigs)) → consumed n ≤ consumed d.usage + 4883
-tried_cost c d change n small works leads fits consumes =
-    let p = path_cells (HasCell (cells_with d.usage d.seat.place.me.0.turn)) (is_used d.usage) (λ k. slice_index d.usage.live k) d.root (key_of change) (working_set d) works.stands works.tells in
-    let a = consumes p.0 p.1 in
-    let b = few_written change leads in
-    let e = p.2 in omega arith
+-- a try behind made room found none: the bound
+pub last_crowded : (c : ℕ) (left d : Draft) (change : Change) (f : NoRoom) (path : ℕ) → RowsAreFew c left.usage.rows → met_count left.usage ≤ most_met c → ((k : ℕ) → is_given left.usage k ≡ true → NeededBy left.usage k)
+    → Spares left.usage d.usage → consumed d.usage ≤ consumed left.usage + (written_by change + path) → Lacks d.usage f
+    → length d.usage.given - reserve_of d.usage ≤ (length d.usage.rows + 1) * most_met c + 1 + (written_by change + path) / 769
+last_crowded c left d change f path rows met needed spares cost lacks =
+    let k = crowded c (written_by change + path) left.usage d.usage f rows met needed cost lacks in
+    let more = ap (λ (x : Frozen). (length x.rows + 1) * most_met c) spares.grown.frozen in omega arith

@@ -34,8 +34,7 @@ pub mod ShortLaws
 pub mod CapacityLaws
 pub mod RoomyLaws
 pub mod StayLaws
+pub mod BoundLaws
 pub mod CrowdLaws
-pub mod NodeLaws
 pub mod CrowdedLaws
 pub mod SmallLaws
-pub mod WayLaws

@@ -13,7 +13,7 @@ use Rattle.chunk_usage.specs.Counting.{sparse_count}
 use Rattle.chunk_usage.specs.Handing.{consumed}
 use Rattle.chunk_usage.specs.Keeping.{freed, frozen, narrowed}
 use Rattle.shared_cells.specs.Cells.{HasCell}
-use Rattle.qp_multi.specs.Capacity.{RowsAreFew, given_count, most_met, row_size}
+use Rattle.qp_multi.specs.Capacity.{given_count}
 use Rattle.qp_multi.specs.Drafts.{Works, working_set}
 use Rattle.qp_multi.specs.Movings.{Evacuates, FewThin}
 use Rattle.qp_multi.specs.Receipts.{Settles, ended}
@@ -25,25 +25,29 @@ use Rattle.qp_multi.proofs.CountedLaws.{row_le}
 use Rattle.qp_multi.proofs.GivenLaws.{given_consumed}
 use Rattle.qp_multi.proofs.OpenLaws.{clear, clear_is}
 use Rattle.qp_multi.proofs.ThinLaws.{live_few, set_size}
-use Rattle.qp_multi.specs.Crowds.{RestsSmall, WorksSmall, is_met, met_count, met_in}
-use Rattle.qp_multi.proofs.CrowdLaws.{MeetsNew, bump_given, published_small, rows_same, size_met, spread_few, stopped_met, thin_small}
+use Rattle.qp_multi.specs.Bounds.{IsSmall}
+use Rattle.qp_multi.specs.Crowds.{RestsSmall, RowsAreFew, WorksSmall, is_met, met_count, met_in, most_met, row_size}
+use Rattle.qp_multi.proofs.CrowdLaws.{bump_given, published_small, rows_same, size_met, spread_few, stopped_met, thin_small}
 
 -- a working set made ready for a commit meets few chunks: where all was moved, or nothing was due, by its own cells; where no chunk was free, as before
-pub settled_small : (c most : ℕ) (first d : Draft) (whole : Bool) → c ≤ 768 → 4 ≤ length first.usage.given → most ≤ 8 → IsLedger d.usage → cells (working_set d) ≤ c → Settles most first d whole → (whole ≡ true → FewThin most d.usage)
-    → (whole ≡ false → (free_count d.usage ≡ 0) × (free_count first.usage + 1 ≤ free_count d.usage + (cells (working_set d) / 769 + 1)) × MeetsNew first.usage d.usage)
-    → WorksSmall c first.usage → RowsAreFew c d.usage.rows × (met_count d.usage ≤ most_met c)
-settled_small c most first d true small chunks few is fits s thin stopped w = (rows, thin_small d.usage c is (let t = thin refl in omega arith) (let a = live_few (HasCell (cells_with d.usage d.seat.place.me.0.turn)) (is_used d.usage) d.usage d.root (working_set d) is s.works.stands in omega arith))
-  where
-    rows : RowsAreFew c d.usage.rows
-    rows = elim (cases_lt most (sparse_count first.usage)) [
-      | inl many ↦ rows_same c first.usage d.usage (s.many many).grown.frozen w.rows
-      | inr none ↦ subst (λ (l : Ledger). RowsAreFew c l.rows) (sym (s.few (omega arith)).0) w.rows
-    ]
-settled_small c most first d false small chunks few is fits s thin stopped w = elim (cases_lt most (sparse_count first.usage)) [
+pub ready_small : (c most : ℕ) (first d : Draft) (whole : Bool) → c ≤ 768 → 4 ≤ length first.usage.given → most ≤ 8 → IsLedger d.usage → cells (working_set d) ≤ c → Settles most first d whole → (whole ≡ true → FewThin most d.usage)
+    → (whole ≡ false → (free_count d.usage ≡ 0) × (free_count first.usage + 1 ≤ free_count d.usage + (cells (working_set d) / 769 + 1)))
+    → WorksSmall c first.usage → IsSmall d.usage c
+ready_small c most first d true small chunks few is fits s thin stopped w = record {
+  rows = elim (cases_lt most (sparse_count first.usage)) [
+    | inl many ↦ rows_same c first.usage d.usage (s.many many).grown.frozen w.rests.rows
+    | inr none ↦ subst (λ (l : Ledger). RowsAreFew c l.rows) (sym (s.few (omega arith)).0) w.rests.rows
+  ];
+  met = thin_small d.usage c is (let t = thin refl in omega arith) (let a = live_few (HasCell (cells_with d.usage d.seat.place.me.0.turn)) (is_used d.usage) d.usage d.root (working_set d) is s.works.stands in omega arith);
+}
+ready_small c most first d false small chunks few is fits s thin stopped w = elim (cases_lt most (sparse_count first.usage)) [
   | inl many ↦ (
       let e = s.many many in
       let t = stopped refl in
-      (rows_same c first.usage d.usage e.grown.frozen w.rows, stopped_met c (cells (working_set d)) first.usage d.usage (omega arith) fits small t.0 t.1 (spread_few first.usage d.usage e.ledger e.grown t.2) w))
+      record {
+        rows = rows_same c first.usage d.usage e.grown.frozen w.rests.rows;
+        met = stopped_met c (cells (working_set d)) first.usage d.usage (omega arith) fits small t.0 t.1 (spread_few first.usage d.usage e.ledger e.grown e.grown.meets) w;
+      })
   | inr none ↦ absurd (true≢false (sym (s.few (omega arith)).1))
 ]
 

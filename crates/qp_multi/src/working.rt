@@ -1,5 +1,5 @@
 //! A transaction's operations: each is tried, and once more where there is no room, after rounds and an evacuation.
-ghost use Rattle.std.specs.Prelude.{◌≡◌, ◌⊎◌, ◌∷◌, ◌++◌, [], ℕ, Err, IsOk, IfErr, All, Contains};
+ghost use Rattle.std.specs.Prelude.{◌≡◌, ◌⊎◌, ◌∷◌, ◌++◌, [], ℕ, Err, IsOk, IfErr, All, Contains, length};
 ghost use Rattle.qp_multi.specs.Prelude.{Lacks, kept_versions, kept_in, IsNamed, IsVersion, operation_of, key_of};
 ghost use Rattle.qp_multi.specs.Prelude.{written_by, asked_by, LeadsItem, IsRefused, versions_in, Versions, Spares, Tried};
 
@@ -15,8 +15,7 @@ use std::marker::Brand;
 use trie_write::Unchanged;
 
 impl Draft {
-    ghost use Rattle.qp_multi.specs.Bounds.{HasRoom, IsCramped};
-    ghost use Rattle.qp_multi.specs.Crowds.{EachStaysSmall};
+    ghost use Rattle.qp_multi.specs.Bounds.{Crowds, HasRoom, IsCramped, IsCrowded, StaysSmall};
     ghost use Rattle.chunk_usage.specs.Ledger.{IsLedger};
     ghost use Rattle.qp_multi.specs.Drafts.{Works, Operates, IsFull};
     ghost use Rattle.qp_multi.specs.Fulls.{CausedBy, CausedFrom, full_with, version_at};
@@ -121,7 +120,8 @@ impl Draft {
         ensures full { (f : _) (kept : Versions) → result.1 ≡ Err (Unchanged.Full f) → versions_in kept ≡ kept_versions result.0.usage
             → IsFull result.0 (full_with f kept) }
         ensures room { (left : Left) × MakesRoom self left × Spares left.usage result.0.usage }
-        ensures crowded { EachStaysSmall self result.0 result.1 }
+        ensures small { StaysSmall self result.0.usage }
+        ensures crowded { (f : _) → result.1 ≡ Err (Unchanged.Full f) → Crowds self result.0 (key_of change.now) (written_by change.now) }
         ensures cause { (f : _) (kept : Versions) → result.1 ≡ Err (Unchanged.Full f) → versions_in kept ≡ kept_versions result.0.usage
             → CausedBy self result.0 (key_of change.now) (written_by change.now) (asked_by change.now) (full_with f kept) }
     {
@@ -146,7 +146,8 @@ impl Draft {
         ensures full { (f : _) (kept : Versions) → result.1 ≡ Err (Unchanged.Full f) → versions_in kept ≡ kept_versions result.0.usage
             → IsFull result.0 (full_with f kept) }
         ensures spares { SparesReserve self result.0 }
-        ensures crowded { EachStaysSmall self result.0 result.1 }
+        ensures crowded { HasRoom self → (f : _) (kept : Versions) → result.1 ≡ Err (Unchanged.Full f) → versions_in kept ≡ kept_versions result.0.usage
+            → IsCrowded result.0 (key_of change.now) (written_by change.now) (length (versions_in kept)) }
         ensures cause { (f : _) (kept : Versions) → result.1 ≡ Err (Unchanged.Full f) → versions_in kept ≡ kept_versions result.0.usage
             → CausedFrom self result.0 (key_of change.now) (written_by change.now) (asked_by change.now) (full_with f kept) }
         ensures room { HasRoom self → HasRoom result.0 }

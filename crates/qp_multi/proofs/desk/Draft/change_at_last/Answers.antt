@@ -1,4 +1,4 @@
-use Rattle.std.proofs.Common.{length, ◌+◌, ◌*◌, ◌-◌, ◌/◌, ◌≤◌, arith, ◌≡◌, ◌∙◌, ◌∷◌, ◌++◌, [], ℕ, Err, IfErr, map, ap, refl, subst, sym}
+use Rattle.std.proofs.Common.{length, ◌+◌, ◌*◌, ◌-◌, ◌/◌, ◌≤◌, arith, ◌≡◌, ◌∙◌, ◌∷◌, ◌++◌, [], ℕ, true, Option, Err, IfErr, map, ap, refl, slice_index, subst, sym}
 use Rattle.std.proofs.lemmas.Bool.{true≢false}
 use Rattle.std.specs.Prelude.{IsOk}
 use Rattle.chunk_usage.specs.Ledger.{Frozen, Row}
@@ -12,9 +12,17 @@ use Rattle.qp_multi.proofs.GoesLaws.{goes_further}
 use Rattle.qp_multi.proofs.WorkLaws.{full_of, operates_after, set_stays}
 use Rattle.qp_multi.proofs.FullLaws.{cause_of}
 use Rattle.trie_model.specs.Shape.{cells}
-use Rattle.qp_multi.specs.Capacity.{most_met}
-use Rattle.qp_multi.proofs.CrowdLaws.{crowded}
-use Rattle.qp_multi.proofs.CrowdedLaws.{TriedSmall, room_small, same_set, tried_cost, tried_works}
+use Rattle.chunk_usage.specs.Ledger.{free_count, is_given, is_used}
+use Rattle.evacuate.specs.Evacuations.{refused}
+use Rattle.shared_cells.specs.Cells.{HasCell}
+use Rattle.qp_multi.specs.Crowds.{WorksSmall, met_count, most_met}
+use Rattle.qp_multi.specs.Changes.{key_of}
+use Rattle.qp_multi.specs.Drafts.{working_set}
+use Rattle.qp_multi.specs.Tries.{PathHas}
+use Rattle.qp_multi.specs.Turns.{cells_with}
+use Rattle.qp_multi.proofs.CauseLaws.{NeededBy}
+use Rattle.qp_multi.proofs.CrowdLaws.{spread_few, tried_small}
+use Rattle.qp_multi.proofs.CrowdedLaws.{last_crowded, path_cells, room_small}
 use Rattle.qp_multi.proofs.desk.Draft.change_at_last.Given.{Over}
 use Rattle.qp_multi.proofs.desk.Draft.change_at_last.Goals as goal
 
@@ -77,28 +85,39 @@ returns-clause-cause g c f kept e same =
           (set_stays left.result tried.result.0 on (tried.ensures.operates.stays (λ h. true≢false (sym (subst (λ r. IsOk r) e h))))) (tried.ensures.full f e);
     }
 
-pub returns-clause-crowded : goal.returns-clause-crowded
-returns-clause-crowded g c most small some fits w =
+-- what is left when room was made, of a set that has no more cells than so many
+there : (g : Over) (c : goal.After-attempt g) (most : ℕ) → most ≤ 768 → 4 ≤ length c.args.self.usage.given → cells (working_set c.args.self) ≤ most → WorksSmall most c.args.self.usage
+    → ((met_count c.make_room-left.result.usage ≤ most_met most) × ((k : ℕ) → is_given c.make_room-left.result.usage k ≡ true → NeededBy c.make_room-left.result.usage k)) × WorksSmall most c.make_room-left.result.usage
+there g c most small some fits w =
     let room = c.make_room-room in
     let dense = c.evacuate-emptied in
+    let a = ap cells (set_stays c.args.self room.result room.ensures.frees.goes_on room.ensures.log) in
+    let b = ap cells (set_stays room.result dense.result.0 dense.ensures.goes_on dense.ensures.log) in
+    let asks = subst (λ (n : ℕ). free_count room.result.usage + refused dense.result.1 ≤ free_count dense.result.0.usage + (n / 769 + 1)) (sym b) dense.ensures.asks in
+    room_small most c.args.self c.make_room-left.result small some w (makes g c) dense.ensures.works (omega arith) asks
+
+pub returns-clause-small : goal.returns-clause-small
+returns-clause-small g c most small some fits w =
+    let tried = c.attempt in
+    tried_small most c.make_room-left.result.usage tried.result.0.usage tried.ensures.spares
+    (spread_few c.make_room-left.result.usage tried.result.0.usage tried.ensures.ledger tried.ensures.spares.grown tried.ensures.spares.grown.meets) (there g c most small some fits w).1
+
+pub returns-clause-crowded : goal.returns-clause-crowded
+returns-clause-crowded g c f is =
     let left = c.make_room-left in
     let tried = c.attempt in
-    let m = makes g c in
-    let set_room = same_set c.args.self room.result room.ensures.frees.goes_on room.ensures.log in
-    let set_emptied = same_set room.result dense.result.0 dense.ensures.goes_on dense.ensures.log in
-    let set_left = same_set dense.result.0 left.result left.ensures.frees.goes_on left.ensures.log in
-    let a = ap cells set_room in
-    let b = ap cells set_emptied in
-    let e = ap cells set_left in
-    let asks = dense.ensures.asks in
-    let two : TriedSmall left.result.usage tried.result.0.usage = record { ledger = tried.ensures.ledger; spares = tried.ensures.spares } in
-    let there = room_small most c.args.self left.result small some w m dense.ensures.works (omega arith) (omega arith) in
+    let change = c.args.change.now in
+    let l = left.result in
+    let d = tried.result.0 in
+    let stays = subst (λ r. IfErr r (λ x. Tried change l.root l.seat.place.me.0 l.usage d.seat.place.me.0 d.usage (Err x))) is tried.ensures.tried in
+    let root = subst (λ r. IfErr r (λ x. d.root ≡ l.root)) is tried.ensures.root in
+    let set = set_stays l d tried.ensures.operates.known (tried.ensures.operates.stays (λ h. true≢false (sym (subst (λ r. IsOk r) is h)))) in
+    let p = path_cells (HasCell (cells_with l.usage l.seat.place.me.0.turn)) (is_used l.usage) (λ k. slice_index l.usage.live k) l.root (key_of change) (working_set l) left.ensures.works.stands left.ensures.works.tells in
     record {
-      small = tried_works most left.result.usage tried.result.0.usage two there.1;
-      full = λ f is.
-          let stays = subst (λ r. IfErr r (λ x. Tried c.args.change.now left.result.root left.result.seat.place.me.0 left.result.usage tried.result.0.seat.place.me.0 tried.result.0.usage (Err x))) is tried.ensures.tried in
-          let cost = tried_cost most left.result c.args.change.now tried.result.0.usage small left.ensures.works c.requires.leads (omega arith) stays.consumes in
-          let k = crowded most 4883 left.result.usage tried.result.0.usage f there.1.rows there.0.0 there.0.1 cost (tried.ensures.full f is) in
-          let rows = ap (λ (f : Frozen). length f.rows) tried.ensures.spares.grown.frozen in
-          let more = ap (λ (n : ℕ). (n + 1) * most_met most) rows in omega arith;
+      path = p.0;
+      on_path = subst (λ (r : Option ℕ). PathHas d.seat.place.me.0 d.usage r (key_of change) p.0) (sym root) (stays.path p.0 p.1);
+      few_twigs = subst (λ (n : ℕ). p.0 ≤ n) (sym (ap cells set)) p.2;
+      bound = λ most small some fits w.
+          let t = there g c most small some fits w in
+          last_crowded most l d change f p.0 t.1.rests.rows t.0.0 t.0.1 tried.ensures.spares (stays.consumes p.0 p.1) (tried.ensures.full f is);
     }
