@@ -37,23 +37,24 @@ def cells(zone):
 
 
 def draw(rng):
-    """A zone, chunks, and for each worker its commands: holds, releases, and blocks of exchanges."""
-    chunks = rng.choice([16, 20, 33, 64, 64, 64, 80, 96])
-    octets = rng.choice([200, 1000, 2000, 4000])
-    zone = {f"t{i}": octets for i in range(rng.randint(2, 10))}
+    """A zone, chunks, and for each worker its commands: holds, releases, and blocks of exchanges, most of which take all names."""
+    chunks = rng.choice([16, 16, 20, 24, 33, 64])
+    octets = rng.choice([600, 1000, 1500, 4000])
+    zone = {f"t{i}": octets for i in range(rng.randint(2, min(10, 11000 // octets)))}
+    heavy = rng.choice([0.5, 0.9, 1])
     workers = []
-    for _ in range(rng.randint(1, 8)):
+    for _ in range(rng.randint(8, 16)):
         commands, held = [], False
-        for _ in range(rng.randint(2, 20)):
-            if rng.random() < 0.5:
+        for _ in range(rng.randint(10, 40)):
+            if rng.random() < (0.05 if held else 0.4):
                 commands.append("release" if held else "hold")
                 held = not held
             operations = []
-            for name in rng.sample(sorted(zone), rng.randint(1, len(zone))):
+            for name in rng.sample(sorted(zone), len(zone) if rng.random() < 0.8 else 1):
                 operations.append(("del", name, 0))
-                if rng.random() < 0.9:
-                    operations.append(("add", name, rng.randint(max(1, octets // 2), octets)))
-            commands.append((rng.choice(["write", "update"]), operations, "commit" if rng.random() < 0.9 else "rollback"))
+                if rng.random() < 0.95:
+                    operations.append(("add", name, rng.randint(max(1, octets * 9 // 10), octets)))
+            commands.append(("update" if rng.random() < heavy else "write", operations, "commit" if rng.random() < 0.9 else "rollback"))
         workers.append(commands)
     return chunks, zone, workers
 
