@@ -1,5 +1,5 @@
 -- How few chunks the kept versions and the working set meet, where no set has more than 768 cells.
-use Rattle.std.specs.Prelude.{◌≡◌, ◌⊎◌, ℕ, ◌+◌, ◌*◌, ◌/◌, ◌≤◌, nat_lt, Bool, ◌||◌, if◌then◌else◌, List, ◌∷◌, [], ◌++◌, length, Option, slice_index, count_by, take, All}
+use Rattle.std.specs.Prelude.{ℕ, ◌+◌, ◌/◌, ◌<◌, ◌≤◌, nat_lt, Bool, ◌||◌, if◌then◌else◌, List, ◌∷◌, [], ◌++◌, length, Option, slice_index, count_by, take, All}
 use Rattle.trie_model.specs.Extents.{row}
 use Rattle.trie_model.specs.Keys.{Entry}
 use Rattle.trie_model.specs.Shape.{cells}
@@ -46,10 +46,10 @@ pub record RestsSmall (most : ℕ) (u : Ledger) : Type 0 where
   pub rows : RowsAreFew most u.rows
   pub base : base_count u ≤ most_met most
 
--- One is under way: the reserve is whole, or the working set meets few chunks.
+-- One is under way: the reserve is whole, or else the working set meets few chunks.
 pub record WorksSmall (most : ℕ) (u : Ledger) : Type 0 where
   pub rests : RestsSmall most u
-  pub met : (reserve_of u ≤ free_count u) ⊎ (met_count u ≤ most_met most)
+  pub met : free_count u < reserve_of u → met_count u ≤ most_met most
 
 -- No set that was published, or that the first operations of a commit made on the way to it, has more cells than so many.
 pub record BoundsWays (most : ℕ) (seen : Seen (List Entry) (List Operation)) : Type 0 where

@@ -408,6 +408,7 @@ impl<L: Law, N: Named, K> Transaction<'_, '_, L, N, K> {
     ghost use Rattle.qp_multi.specs.Drafts.{Works, Operates, IsFull, IsSame, Between, working_set};
     ghost use Rattle.trie_read.specs.Readings.{Fetched};
     ghost use Rattle.qp_multi.specs.Fulls.{CausedFrom};
+    ghost use Rattle.qp_multi.specs.Keepings.{versions_in};
     ghost use Rattle.qp_multi.specs.Rooms.{SparesReserve};
     ghost use Rattle.trie_write.specs.Paths.{insert_asks, replace_asks, delete_asks};
     ghost use Rattle.qp_multi.specs.declared.meaning.Operation.TheVariants as operation;
