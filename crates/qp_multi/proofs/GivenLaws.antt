@@ -18,7 +18,8 @@ use Rattle.chunk_usage.specs.Ledger.{Ledger, Row, free_count, is_given, is_in_ro
 use Rattle.chunk_usage.specs.Handing.{Lacks, consumed, unconsumed}
 use Rattle.chunk_usage.specs.Keeping.{is_in_rows}
 use Rattle.shared_cells.specs.Cells.{Cells}
-use Rattle.qp_multi.specs.Capacity.{given_count, row_size}
+use Rattle.qp_multi.specs.Capacity.{given_count}
+use Rattle.qp_multi.specs.Crowds.{row_size}
 use Rattle.qp_multi.specs.Turns.{Agrees, cell_counts, current_image, row_for}
 use Rattle.qp_multi.proofs.CauseLaws.{NeededBy, any_counts, open_once, open_one, some_row}
 use Rattle.qp_multi.proofs.CountedLaws.{row_le}

@@ -1,4 +1,4 @@
-use Rattle.std.proofs.Common.{w8, suc, ◌∷◌, length, map, arith, sym, ◌∙◌, ap, subst}
+use Rattle.std.proofs.Common.{ℕ, ◌+◌, ◌≤◌, w8, suc, ◌∷◌, length, map, arith, sym, ◌∙◌, ap, subst}
 use Rattle.std.proofs.Math.Facts.{Fits-lt-pow}
 use Rattle.std.proofs.lemmas.List.Elements.{Contains-append_left, Contains-append_right}
 use Rattle.trie_write.specs.Laid.{extent_sizes}
@@ -71,7 +71,7 @@ pub returns-in-Ok-clause-frame : goal.returns-in-Ok-clause-frame
 returns-in-Ok-clause-frame g c = frame_same (c.end_node-node.ensures.same ∙ c.cell-top.ensures.same) (frame_then c.in_ok-there.ensures.frame c.in-Ok.ensures.frame)
 
 pub returns-in-Err-clause-frame : goal.returns-in-Err-clause-frame
-returns-in-Err-clause-frame g c = frame_counts (frame_same (c.end_node-node.ensures.same ∙ c.cell-top.ensures.same) (frame_then c.in_ok-there.ensures.frame c.with_leaf.ensures.frame)) c.release_item.ensures.rest
+returns-in-Err-clause-frame g c = frame_counts (frame_same (c.end_node-node.ensures.same ∙ c.cell-top.ensures.same) (frame_then c.in_ok-there.ensures.frame c.with_leaf.ensures.frame)) c.release_item.ensures.rest (λ k. let e = c.release_item.ensures.counts k in omega arith)
 
 pub returns-in-Err-clause-ready : goal.returns-in-Err-clause-ready
 returns-in-Err-clause-ready g c = ready_counts c.release_item.ensures.rest c.with_leaf.ensures.ready
