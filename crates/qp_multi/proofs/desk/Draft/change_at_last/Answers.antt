@@ -1,4 +1,4 @@
-use Rattle.std.proofs.Common.{length, ◌+◌, ◌*◌, ◌-◌, ◌/◌, ◌≤◌, arith, ◌≡◌, ◌∙◌, ◌∷◌, ◌++◌, [], ℕ, true, Option, Err, IfErr, map, ap, refl, slice_index, subst, sym}
+use Rattle.std.proofs.Common.{length, ◌+◌, ◌/◌, ◌≤◌, arith, ◌≡◌, ◌∙◌, ◌∷◌, ◌++◌, [], ℕ, true, Option, Err, IfErr, map, ap, refl, slice_index, subst, sym}
 use Rattle.std.proofs.lemmas.Bool.{true≢false}
 use Rattle.std.specs.Prelude.{IsOk}
 use Rattle.chunk_usage.specs.Ledger.{Frozen, Row}
