@@ -1,26 +1,24 @@
 -- Where a table is roomy for what is published and done, each step of a transaction leaves it so.
-use Rattle.std.proofs.Common.{◌≡◌, ◌∙◌, ⊎_elim, ℕ, suc, ◌+◌, ◌-◌, ◌*◌, ◌/◌, ◌<◌, ◌≤◌, nat_lt, Bool, true, false, not, List, [], ◌∷◌, ◌++◌, length, Option, Some, refl, sym, ap, subst, arith, append_assoc, append-nil, length-append}
-use Rattle.std.specs.Prelude.{unwrap_or, count_by}
-use Rattle.std.specs.List.{All, Contains, filter}
-use Rattle.std.proofs.lemmas.List.Elements.{All-cons, All-filter, All-nil, All-push, Contains-append_left, Contains-push}
-use Rattle.std.proofs.lemmas.List.Sums.{count_by-le-length, fold-append}
+use Rattle.std.proofs.Common.{◌≡◌, ◌∙◌, ℕ, ◌+◌, ◌*◌, ◌/◌, ◌≤◌, List, [], ◌∷◌, ◌++◌, length, Option, sym, ap, subst, arith, append_assoc, append-nil, length-append}
+use Rattle.std.specs.Prelude.{unwrap_or}
+use Rattle.std.specs.List.{Contains}
+use Rattle.std.proofs.lemmas.List.Elements.{All-filter, Contains-append_left, Contains-push}
+use Rattle.std.proofs.lemmas.List.Sums.{fold-append}
 use Rattle.trie_model.specs.Keys.{Entry}
 use Rattle.trie_model.specs.Shape.{cells}
 use Rattle.chunk_usage.specs.declared.space.Full.{Full as NoRoom}
 use Rattle.trie_model.specs.Capacity.{is_roomy}
 use Rattle.chunk_usage.specs.Handing.{Lacks, consumed}
 use Rattle.chunk_usage.specs.Keeping.{closed, is_among, rows_of}
-use Rattle.chunk_usage.specs.Ledger.{Ledger, Frozen, IsLedger, Row, free_count, is_bump, reserve_of}
+use Rattle.chunk_usage.specs.Ledger.{Ledger, Frozen, IsLedger, Row, free_count, is_bump}
 use Rattle.shared_cells.specs.declared.view.Entry.{Entry as Commit}
-use Rattle.shared_cells.specs.declared.view.Seen.{Seen}
-use Rattle.shared_cells.specs.History.{StartsWith, entry_of, version_after}
+use Rattle.shared_cells.specs.History.{StartsWith, version_after}
 use Rattle.qp_multi.specs.declared.desk.Draft.{Draft}
 use Rattle.qp_multi.specs.declared.meaning.Operation.{Operation}
 use Rattle.qp_multi.specs.Bounds.{IsCramped}
 use Rattle.qp_multi.specs.Capacity.{BoundsHistory, EachRoomy, RestsRoomy, WorksRoomy, given_count, most_at_rest}
-use Rattle.qp_multi.specs.Crowds.{BoundsWays, BoundsWork, EachSmall, RestsSmall, RowsAreFew, WorksSmall, most_met, row_size}
+use Rattle.qp_multi.specs.Crowds.{BoundsWork, EachSmall, RestsSmall, RowsAreFew, WorksSmall, most_met, row_size}
 use Rattle.qp_multi.specs.Closings.{AllSeen}
-use Rattle.qp_multi.specs.Drafts.{working_set}
 use Rattle.qp_multi.specs.Operations.{applied}
 use Rattle.qp_multi.specs.Passes.{first_version, version_seen}
 use Rattle.qp_multi.specs.Tries.{Grown, Spares}
@@ -120,10 +118,11 @@ StaysEach u n s t operations now =
 
 pub tried_each : (u n : Ledger) (s t : AllSeen) (operations more : List Operation) → IsLedger n → Spares u n → t.opening ≡ s.opening → t.history ≡ s.history → WorksRoomy u s operations → StaysEach u n s t operations (operations ++ more)
 tried_each u n s t operations more is spares opening history r =
-    let part = same_part s t history in
-    (small_on u n s t spares.grown.wide opening part (λ most small b some rests. rests_grown most u n spares.grown rests) r.rests,
+    let part = same_part s t history in (
+      small_on u n s t spares.grown.wide opening part (λ most small b some rests. rests_grown most u n spares.grown rests) r.rests,
       small_on u n s t spares.grown.wide opening part (λ most small b some works within.
-      tried_small most u n spares (spread_few u n is spares.grown spares.grown.meets) (works (work_part s t operations more opening history within))) r.works)
+          tried_small most u n spares (spread_few u n is spares.grown spares.grown.meets) (works (work_part s t operations more opening history within))) r.works,
+    )
 
 -- it was done
 pub done_roomy : (u n : Ledger) (s t : AllSeen) (operations : List Operation) (o : Operation) → IsLedger n → Spares u n → t.opening ≡ s.opening → t.history ≡ s.history → consumed n ≤ consumed u + 30760 → WorksRoomy u s operations → WorksRoomy n t (operations ++ o ∷ [])

@@ -1,29 +1,24 @@
 -- A table is crowded only by what is kept: what a transaction's steps leave, where no set has many cells.
-use Rattle.std.proofs.Common.{◌≡◌, ◌∙◌, ◌⊎◌, ⊎_elim, ℕ, zero, suc, min, ◌+◌, ◌-◌, ◌*◌, ◌/◌, ◌<◌, ◌≤◌, ◌==◌, nat_lt, Bool, true, false, not, cond, ◌||◌, ◌&&◌, if◌then◌else◌, List, [], ◌∷◌, ◌++◌, length, slice_index, slice_index_or, Option, Some, None, arith, refl, sym, ap, subst, inl, inr}
+use Rattle.std.proofs.Common.{◌≡◌, ◌∙◌, ◌⊎◌, ⊎_elim, ℕ, zero, suc, min, ◌+◌, ◌-◌, ◌*◌, ◌/◌, ◌<◌, ◌≤◌, nat_lt, Bool, true, false, not, cond, ◌||◌, ◌&&◌, if◌then◌else◌, List, [], ◌∷◌, ◌++◌, length, slice_index, slice_index_or, Option, Some, None, arith, refl, sym, ap, subst, inl, inr}
 use Rattle.std.specs.Prelude.{count_by}
-use Rattle.std.specs.List.{All, range_with_len, sum_by}
-use Rattle.std.proofs.lemmas.Bool.{cases_lt, cases_Bool, true≢false}
+use Rattle.std.specs.List.{range_with_len, sum_by}
+use Rattle.std.proofs.lemmas.Bool.{cases_lt, true≢false}
 use Rattle.std.proofs.lemmas.Bool.Decides.{nat_tests}
 use Rattle.std.proofs.lemmas.List.Elements.{All-filter, All-push, All-head, All-tail}
 use Rattle.std.proofs.lemmas.List.Sums.{sum_by-cons}
 use Rattle.trie_model.specs.Extents.{row}
-use Rattle.trie_model.specs.Keys.{Entry, at}
-use Rattle.trie_model.specs.Shape.{cells}
-use Rattle.packed_node.specs.declared.Cell.{Cell}
-use Rattle.trie_space.specs.Standing.{Standing}
 use Rattle.chunk_usage.specs.declared.bump.Bump.{Bump}
 use Rattle.chunk_usage.specs.declared.space.Full.{Full as NoRoom}
 use Rattle.chunk_usage.specs.Ledger.{Ledger, Frozen, Row, IsBump, IsLedger, frozen_part, free_count, is_bump, is_given, is_in_row, reserve_of, reserved, row_of}
 use Rattle.chunk_usage.specs.Handing.{Lacks, consumed}
-use Rattle.chunk_usage.specs.Keeping.{closed, freed, frozen, full, is_among, is_in_rows, is_needed, narrowed, restored, rows_of}
-use Rattle.evacuate.specs.Evacuations.{IsDense}
+use Rattle.chunk_usage.specs.Keeping.{closed, freed, frozen, full, is_among, is_in_rows, is_needed, narrowed, restored}
 use Rattle.qp_multi.specs.Capacity.{given_count}
 use Rattle.qp_multi.specs.Crowds.{RestsSmall, RowsAreFew, WorksSmall, base_count, is_met, met_count, met_in, most_met, row_size, spread}
 use Rattle.qp_multi.specs.Movings.{FewThin, is_thin}
 use Rattle.qp_multi.specs.Tries.{Grown, Spares}
-use Rattle.qp_multi.proofs.CauseLaws.{NeededBy, any_counts, live_of, open_once, open_one, some_live, some_row}
+use Rattle.qp_multi.proofs.CauseLaws.{NeededBy, any_counts, live_of, open_once, open_one, some_row}
 use Rattle.qp_multi.proofs.CountedLaws.{row_le}
-use Rattle.qp_multi.proofs.GivenLaws.{given_short, consumed_given, given_consumed}
+use Rattle.qp_multi.proofs.GivenLaws.{given_short, consumed_given}
 use Rattle.qp_multi.proofs.MeetLaws.{row_add, set_few}
 use Rattle.qp_multi.proofs.OpenLaws.{clear, clear_is}
 use Rattle.qp_multi.proofs.RisenLaws.{risen_few}
@@ -31,7 +26,7 @@ use Rattle.qp_multi.proofs.WordsLaws.{freed_chunks}
 use Rattle.chunk_usage.proofs.RecyclingLaws.{freed_by_chunk}
 use Rattle.trie_model.proofs.ExtentLaws.{first_true, both_true}
 use Rattle.chunk_usage.specs.Counting.{is_low, is_sparse}
-use Rattle.qp_multi.proofs.ThinLaws.{live_few, met_few, set_size}
+use Rattle.qp_multi.proofs.ThinLaws.{set_size}
 
 -- ---- a transaction begins
 
@@ -48,8 +43,8 @@ begins_small c u live bump r = record {
   rests = r;
   met = λ less.
       let e = row_same (λ k. if is_met u.live u.bump k then 1 else 0) (λ k. if is_met u.last_live u.fender k then 1 else 0)
-          (λ k. ap (λ (b : Bool). cond {A = ℕ} (b || nat_lt 0 (slice_index u.live k)) 1 0) (bump k)
-          ∙ ap (λ (l : List ℕ). cond {A = ℕ} (is_bump u.fender k || nat_lt 0 (slice_index l k)) 1 0) live) 0 (length u.given) in
+      (λ k. ap (λ (b : Bool). cond {A = ℕ} (b || nat_lt 0 (slice_index u.live k)) 1 0) (bump k)
+      ∙ ap (λ (l : List ℕ). cond {A = ℕ} (is_bump u.fender k || nat_lt 0 (slice_index l k)) 1 0) live) 0 (length u.given) in
       let b = r.base in omega arith;
 }
 
@@ -232,7 +227,7 @@ each_met u is k = go (is_bump u.bump k) (nat_lt 0 (slice_index u.live k)) refl r
               let low : is_low (slice_index u.live k) ≡ true = grind (arith, nat_tests) in
               let shut_off : not (is_bump u.bump k) ≡ true = ap not p in
               let thin : is_thin u k ≡ true = both_true (is_sparse u k) (nat_lt 0 (slice_index u.live k))
-                  (both_true (is_given u k) (is_low (slice_index u.live k) && not (is_bump u.bump k)) (is.counts.in_given k some) (both_true (is_low (slice_index u.live k)) (not (is_bump u.bump k)) low shut_off)) q in
+              (both_true (is_given u k) (is_low (slice_index u.live k) && not (is_bump u.bump k)) (is.counts.in_given k some) (both_true (is_low (slice_index u.live k)) (not (is_bump u.bump k)) low shut_off)) q in
               let e = set_counts (is_thin u k) thin in omega arith)
         ]
 
@@ -289,9 +284,9 @@ row_some (x ∷ live) w r h =
 pub size_met : (u : Ledger) → IsLedger u → count_by (nat_lt 0) u.live ≤ met_count u
 size_met u is =
     let a = row_some u.live (λ k. if is_met u.live u.bump k then 1 else 0) 0 (λ k l.
-        let z : 0 + k ≡ k = omega arith in
-        let f = ap (λ (i : ℕ). cond {A = ℕ} (is_met u.live u.bump i) 1 0) z in
-        let e = met_one (is_bump u.bump k) (nat_lt 0 (slice_index u.live k)) (inr (grind (arith, nat_tests))) in omega arith) in
+    let z : 0 + k ≡ k = omega arith in
+    let f = ap (λ (i : ℕ). cond {A = ℕ} (is_met u.live u.bump i) 1 0) z in
+    let e = met_one (is_bump u.bump k) (nat_lt 0 (slice_index u.live k)) (inr (grind (arith, nat_tests))) in omega arith) in
     let b = ap (λ (m : ℕ). met_in m u.live u.bump) is.counted in omega arith
 
 pub published_small : (c version : ℕ) (u n : Ledger) (versions : List ℕ) → IsLedger u → n ≡ freed (narrowed (frozen u version) versions) → RowsAreFew c u.rows → met_count u ≤ most_met c → RestsSmall c n
@@ -377,4 +372,3 @@ spread_few u n is g meets =
             ⊎_elim (λ (h : 0 < slice_index u.live k). was_met k (inr h)) (λ (h : (is_bump u.bump k ≡ true) ⊎ (is_given u k ≡ false)).
             ⊎_elim (λ (b : is_bump u.bump k ≡ true). was_met k (inl b)) (λ (f : is_given u k ≡ false). was_free k (is.counts.in_given k some) f) h) (meets k some)
         go false false p q = omega arith
-

@@ -1,24 +1,22 @@
 -- A call that makes room and finds none: how crowded its table is.
-use Rattle.std.proofs.Common.{◌≡◌, ◌∙◌, ◌⊎◌, ⊎_elim, ℕ, zero, suc, ◌+◌, ◌-◌, ◌*◌, ◌/◌, ◌<◌, ◌≤◌, ◌==◌, nat_lt, Bool, true, false, not, cond, ◌||◌, if◌then◌else◌, List, length, slice_index, Option, Some, None, arith, refl, sym, ap, subst, inl, inr}
-use Rattle.std.specs.List.{All}
+use Rattle.std.proofs.Common.{◌≡◌, ◌∙◌, ℕ, zero, suc, ◌+◌, ◌-◌, ◌*◌, ◌/◌, ◌≤◌, ◌==◌, nat_lt, Bool, true, false, cond, ◌||◌, if◌then◌else◌, List, length, slice_index, Option, Some, None, arith, refl, sym, ap, subst}
 use Rattle.std.proofs.lemmas.Bool.Decides.{nat_tests}
 use Rattle.packed_node.specs.declared.Cell.{Cell}
-use Rattle.trie_model.specs.Extents.{row, cells_in}
+use Rattle.trie_model.specs.Extents.{row}
 use Rattle.trie_model.specs.Keys.{Entry}
 use Rattle.trie_model.specs.Shape.{cells}
 use Rattle.chunk_usage.specs.declared.space.Full.{Full as NoRoom}
-use Rattle.chunk_usage.specs.Ledger.{Ledger, Frozen, Row, IsLedger, free_count, is_bump, is_given, is_used, reserve_of}
+use Rattle.chunk_usage.specs.Ledger.{Ledger, Frozen, IsLedger, free_count, is_bump, is_given, is_used, reserve_of}
 use Rattle.chunk_usage.specs.Handing.{Lacks, consumed}
-use Rattle.chunk_usage.specs.Keeping.{freed, kept_versions, narrowed}
+use Rattle.chunk_usage.specs.Keeping.{kept_versions, narrowed}
 use Rattle.evacuate.specs.declared.evacuation.Done.{Done}
 use Rattle.evacuate.specs.declared.evacuation.Done.TheVariants as done
 use Rattle.evacuate.specs.Evacuations.{IsDense, refused}
-use Rattle.evacuate.specs.Fillings.{IsFull as IsUsedUp}
 use Rattle.shared_cells.specs.Cells.{HasCell}
 use Rattle.qp_multi.specs.Drafts.{Works, working_set}
 use Rattle.qp_multi.specs.Movings.{Evacuates}
 use Rattle.qp_multi.specs.Rooms.{MakesRoom}
-use Rattle.qp_multi.specs.Tries.{Grown, Spares}
+use Rattle.qp_multi.specs.Tries.{Spares}
 use Rattle.qp_multi.specs.Turns.{cells_with}
 use Rattle.qp_multi.specs.declared.desk.Draft.{Draft}
 use Rattle.qp_multi.proofs.CauseLaws.{NeededBy, each_needed, live_of, open_once, open_one}
@@ -37,13 +35,11 @@ use Rattle.trie_space.specs.Standing.{Standing}
 use Rattle.trie_read.specs.Reads.{EachTells}
 use Rattle.zone_model.specs.Keys.{Leads}
 use Rattle.qp_multi.specs.declared.change.Change.{Change}
-use Rattle.qp_multi.specs.Changes.{LeadsItem, key_of, written_by}
-use Rattle.qp_multi.specs.Tries.{PathHas}
-use Rattle.qp_multi.proofs.FullLaws.{few_written}
+use Rattle.qp_multi.specs.Changes.{written_by}
 use Rattle.qp_multi.proofs.WorkLaws.{set_stays}
 use Rattle.qp_multi.specs.Keepings.{GoesOn}
-use Rattle.qp_multi.specs.Crowds.{RowsAreFew, WorksSmall, is_met, met_count, met_in, most_met, row_size}
-use Rattle.qp_multi.proofs.CrowdLaws.{MeetsNew, crowded, moved_small, round_small, spread_few, stopped_met, tried_small}
+use Rattle.qp_multi.specs.Crowds.{RowsAreFew, WorksSmall, is_met, met_count, met_in, most_met}
+use Rattle.qp_multi.proofs.CrowdLaws.{crowded, moved_small, round_small, spread_few, stopped_met, tried_small}
 
 set_counts : (b : Bool) → b ≡ true → ◌≡◌ {A = ℕ} (cond b 1 0) 1
 set_counts b h = ap (λ (x : Bool). cond {A = ℕ} x 1 0) h

@@ -1,18 +1,17 @@
 -- The steps of a transaction, and what they leave where a table is roomy.
-use Rattle.std.proofs.Common.{◌≡◌, ◌∙◌, ⊎_elim, inl, inr, ℕ, suc, ◌+◌, ◌-◌, ◌*◌, ◌/◌, ◌<◌, ◌≤◌, nat_lt, Bool, true, false, List, [], ◌∷◌, ◌++◌, length, Option, Some, Result, Ok, Err, refl, sym, ap, subst, arith, append-nil, length-append}
+use Rattle.std.proofs.Common.{◌≡◌, ◌∙◌, inl, inr, ℕ, ◌+◌, ◌-◌, ◌*◌, ◌/◌, ◌≤◌, nat_lt, Bool, true, false, List, [], ◌∷◌, ◌++◌, length, Option, Result, Ok, Err, refl, sym, ap, subst, arith, append-nil, length-append}
 use Rattle.std.specs.Prelude.{IsOk, count_by}
-use Rattle.std.specs.List.{All, range_with_len}
-use Rattle.std.proofs.lemmas.Bool.{cases_lt, true≢false}
-use Rattle.std.proofs.lemmas.List.Elements.{All-filter, All-nil, All-push}
+use Rattle.std.proofs.lemmas.Bool.{cases_lt}
+use Rattle.std.proofs.lemmas.List.Elements.{All-nil, All-push}
 use Rattle.std.proofs.lemmas.List.{length-map}
 use Rattle.trie_model.specs.Keys.{Entry}
 use Rattle.trie_model.specs.Shape.{cells}
 use Rattle.chunk_usage.specs.declared.space.Full.{Full as NoRoom}
 use Rattle.trie_model.specs.Capacity.{is_roomy}
 use Rattle.chunk_usage.specs.Counting.{sparse_count}
-use Rattle.chunk_usage.specs.Handing.{Lacks, consumed}
-use Rattle.chunk_usage.specs.Keeping.{freed, frozen, is_among, kept_versions, narrowed, restored, rows_of}
-use Rattle.chunk_usage.specs.Ledger.{Ledger, Frozen, Row, IsLedger, free_count, is_given, is_used, reserve_of, row_of}
+use Rattle.chunk_usage.specs.Handing.{consumed}
+use Rattle.chunk_usage.specs.Keeping.{freed, frozen, kept_versions, narrowed, restored, rows_of}
+use Rattle.chunk_usage.specs.Ledger.{Ledger, Frozen, Row, IsLedger, free_count, is_used, reserve_of, row_of}
 use Rattle.shared_cells.specs.declared.view.Entry.{Entry as Commit}
 use Rattle.shared_cells.specs.Cells.{Cells, HasCell}
 use Rattle.shared_cells.specs.Views.{words_of}
@@ -23,11 +22,11 @@ use Rattle.qp_multi.specs.declared.desk.Draft.{Draft}
 use Rattle.qp_multi.specs.declared.meaning.Operation.{Operation}
 use Rattle.qp_multi.specs.Bounds.{BoundsDraft, Crowds, HasRoom, IsCramped, IsCrowded, IsSmall, StaysSmall, WhereRoomy, WhereSmall}
 use Rattle.qp_multi.specs.Capacity.{BoundsHistory, EachRoomy, RestsRoomy, WorksRoomy, given_count}
-use Rattle.qp_multi.specs.Crowds.{BoundsWays, BoundsWork, EachSmall, RestsSmall, RowsAreFew, WorksSmall, base_count, met_count, met_in, most_met, row_size}
+use Rattle.qp_multi.specs.Crowds.{BoundsWays, BoundsWork, EachSmall, RestsSmall, RowsAreFew, base_count, met_in, most_met, row_size}
 use Rattle.qp_multi.specs.Changes.{LeadsItem, operation_of}
 use Rattle.qp_multi.specs.Closings.{AllSeen}
 use Rattle.qp_multi.specs.Drafts.{Operates, Works, working_set}
-use Rattle.qp_multi.specs.Keepings.{GoesOn, Rounds}
+use Rattle.qp_multi.specs.Keepings.{GoesOn}
 use Rattle.qp_multi.specs.Movings.{FewThin}
 use Rattle.qp_multi.specs.Operations.{applied}
 use Rattle.qp_multi.specs.Passes.{Known, first_version, version_seen}
@@ -40,9 +39,9 @@ use Rattle.qp_multi.proofs.BoundLaws.{last_ways, small_on, ways_part, work_part,
 use Rattle.qp_multi.proofs.CauseLaws.{each_needed}
 use Rattle.qp_multi.proofs.CrowdLaws.{base_same, published_small, spread_few, tried_small, undone_small}
 use Rattle.qp_multi.proofs.GivenLaws.{given_at_rest, given_consumed}
-use Rattle.qp_multi.proofs.GoesLaws.{goes_further, words_go_on}
+use Rattle.qp_multi.proofs.GoesLaws.{words_go_on}
 use Rattle.qp_multi.proofs.SmallLaws.{first_small, ready_small}
-use Rattle.qp_multi.proofs.SettleLaws.{IsAlike, alike_set, settled_set}
+use Rattle.qp_multi.proofs.SettleLaws.{IsAlike}
 use Rattle.qp_multi.proofs.ShortLaws.{few_consumed}
 use Rattle.qp_multi.proofs.ThinLaws.{live_few, live_given, met_few, set_size}
 use Rattle.qp_multi.proofs.WorkLaws.{set_stays}

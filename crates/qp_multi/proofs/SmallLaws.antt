@@ -1,33 +1,28 @@
 -- A commit, and version 0.
-use Rattle.std.proofs.Common.{◌≡◌, ◌∙◌, ◌⊎◌, ⊎_elim, ℕ, zero, suc, ◌+◌, ◌-◌, ◌*◌, ◌/◌, ◌<◌, ◌≤◌, nat_lt, Bool, true, false, not, cond, ◌||◌, if◌then◌else◌, List, [], ◌∷◌, ◌++◌, length, slice_index, slice_index_or, Option, Some, None, arith, refl, sym, ap, subst, inl, inr}
-use Rattle.std.specs.Prelude.{count_by}
-use Rattle.std.specs.List.{All}
+use Rattle.std.proofs.Common.{◌≡◌, ℕ, suc, ◌+◌, ◌/◌, ◌≤◌, nat_lt, Bool, true, false, not, cond, ◌||◌, if◌then◌else◌, List, [], ◌∷◌, ◌++◌, length, slice_index, slice_index_or, arith, refl, sym, ap, subst, inl, inr}
 use Rattle.std.proofs.lemmas.Bool.{cases_lt, true≢false}
 use Rattle.std.proofs.lemmas.Bool.Decides.{nat_tests}
 use Rattle.std.proofs.lemmas.List.Elements.{All-nil, All-push}
 use Rattle.trie_model.specs.Extents.{row}
 use Rattle.trie_model.specs.Keys.{Entry}
 use Rattle.trie_model.specs.Shape.{cells}
-use Rattle.chunk_usage.specs.Ledger.{Ledger, Frozen, Row, IsLedger, free_count, is_bump, is_given, is_used, reserve_of, row_of}
+use Rattle.chunk_usage.specs.Ledger.{Ledger, Row, IsLedger, free_count, is_bump, is_given, is_used, row_of}
 use Rattle.chunk_usage.specs.Counting.{sparse_count}
 use Rattle.chunk_usage.specs.Handing.{consumed}
-use Rattle.chunk_usage.specs.Keeping.{freed, frozen, narrowed}
+use Rattle.chunk_usage.specs.Keeping.{frozen}
 use Rattle.shared_cells.specs.Cells.{HasCell}
 use Rattle.qp_multi.specs.Capacity.{given_count}
-use Rattle.qp_multi.specs.Drafts.{Works, working_set}
-use Rattle.qp_multi.specs.Movings.{Evacuates, FewThin}
-use Rattle.qp_multi.specs.Receipts.{Settles, ended}
-use Rattle.qp_multi.specs.Tries.{Grown}
+use Rattle.qp_multi.specs.Drafts.{working_set}
+use Rattle.qp_multi.specs.Movings.{FewThin}
+use Rattle.qp_multi.specs.Receipts.{Settles}
 use Rattle.qp_multi.specs.Turns.{cells_with}
 use Rattle.qp_multi.specs.declared.desk.Draft.{Draft}
-use Rattle.qp_multi.proofs.CauseLaws.{live_of}
-use Rattle.qp_multi.proofs.CountedLaws.{row_le}
 use Rattle.qp_multi.proofs.GivenLaws.{given_consumed}
 use Rattle.qp_multi.proofs.OpenLaws.{clear, clear_is}
 use Rattle.qp_multi.proofs.ThinLaws.{live_few, set_size}
 use Rattle.qp_multi.specs.Bounds.{IsSmall}
-use Rattle.qp_multi.specs.Crowds.{RestsSmall, RowsAreFew, WorksSmall, is_met, met_count, met_in, most_met, row_size}
-use Rattle.qp_multi.proofs.CrowdLaws.{bump_given, published_small, rows_same, size_met, spread_few, stopped_met, thin_small}
+use Rattle.qp_multi.specs.Crowds.{RestsSmall, RowsAreFew, WorksSmall, is_met, met_count, most_met, row_size}
+use Rattle.qp_multi.proofs.CrowdLaws.{bump_given, rows_same, size_met, spread_few, stopped_met, thin_small}
 
 -- a working set made ready for a commit meets few chunks: where all was moved, or nothing was due, by its own cells; where no chunk was free, as before
 pub ready_small : (c most : ℕ) (first d : Draft) (whole : Bool) → c ≤ 768 → 4 ≤ length first.usage.given → most ≤ 8 → IsLedger d.usage → cells (working_set d) ≤ c → Settles most first d whole → (whole ≡ true → FewThin most d.usage)

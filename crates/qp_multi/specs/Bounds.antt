@@ -2,7 +2,7 @@
 use Rattle.std.specs.Prelude.{ℕ, ◌+◌, ◌-◌, ◌*◌, ◌/◌, ◌≤◌, List, length}
 use Rattle.trie_model.specs.Shape.{cells}
 use Rattle.trie_model.specs.Capacity.{filled_cells, is_roomy}
-use Rattle.chunk_usage.specs.Ledger.{Ledger, free_count, reserve_of}
+use Rattle.chunk_usage.specs.Ledger.{Ledger, reserve_of}
 use Rattle.qp_multi.specs.declared.desk.Draft.{Draft}
 use Rattle.qp_multi.specs.Capacity.{BoundsHistory, WorksRoomy}
 use Rattle.qp_multi.specs.Crowds.{BoundsWays, BoundsWork, RowsAreFew, WorksSmall, met_count, most_met}

@@ -1,4 +1,4 @@
-use Rattle.std.proofs.Common.{ℕ, ◌+◌, ◌≤◌, arith, sym, ap, subst}
+use Rattle.std.proofs.Common.{arith, sym, ap, subst}
 use Rattle.chunk_usage.specs.Rooms.{Account}
 use Rattle.trie_write.specs.Puts.{taken, IsPut}
 use Rattle.trie_space.specs.Spaces.{Fenced}

@@ -1,4 +1,4 @@
-use Rattle.std.proofs.Common.{ℕ, ◌+◌, ◌≤◌, w8, suc, ◌∷◌, length, map, arith, sym, ◌∙◌, ap, subst}
+use Rattle.std.proofs.Common.{w8, suc, ◌∷◌, length, map, arith, sym, ◌∙◌, ap, subst}
 use Rattle.std.proofs.Math.Facts.{Fits-lt-pow}
 use Rattle.std.proofs.lemmas.List.Elements.{Contains-append_left, Contains-append_right}
 use Rattle.trie_write.specs.Laid.{extent_sizes}

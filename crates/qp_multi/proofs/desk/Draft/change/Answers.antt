@@ -1,4 +1,4 @@
-use Rattle.std.proofs.Common.{◌≡◌, ◌∙◌, ◌++◌, List, ap, append_assoc, arith, inl, inr, refl, rules}
+use Rattle.std.proofs.Common.{◌≡◌, ◌∙◌, ◌++◌, List, ap, append_assoc, inl, inr, refl, rules}
 use Rattle.qp_multi.specs.Bounds.{HasRoom, IsCramped}
 use Rattle.qp_multi.specs.Rooms.{Fails}
 use Rattle.qp_multi.proofs.GoesLaws.{goes_further}

@@ -1,4 +1,4 @@
-use Rattle.std.proofs.Common.{length, ◌+◌, ◌*◌, ◌-◌, ◌/◌, ◌≤◌, arith, ◌≡◌, ◌∙◌, ◌∷◌, ◌++◌, [], ℕ, true, Option, Err, IfErr, map, ap, refl, slice_index, subst, sym}
+use Rattle.std.proofs.Common.{length, ◌+◌, ◌/◌, ◌≤◌, arith, ◌≡◌, ◌∙◌, ◌∷◌, ◌++◌, [], ℕ, true, Option, Err, IfErr, map, ap, refl, slice_index, subst, sym}
 use Rattle.std.proofs.lemmas.Bool.{true≢false}
 use Rattle.std.specs.Prelude.{IsOk}
 use Rattle.chunk_usage.specs.Ledger.{Frozen, Row}
@@ -88,6 +88,7 @@ returns-clause-cause g c f kept e same =
 -- what is left when room was made, of a set that has no more cells than so many
 there : (g : Over) (c : goal.After-attempt g) (most : ℕ) → most ≤ 768 → 4 ≤ length c.args.self.usage.given → cells (working_set c.args.self) ≤ most → WorksSmall most c.args.self.usage
     → ((met_count c.make_room-left.result.usage ≤ most_met most) × ((k : ℕ) → is_given c.make_room-left.result.usage k ≡ true → NeededBy c.make_room-left.result.usage k)) × WorksSmall most c.make_room-left.result.usage
+unfolding makes
 there g c most small some fits w =
     let room = c.make_room-room in
     let dense = c.evacuate-emptied in

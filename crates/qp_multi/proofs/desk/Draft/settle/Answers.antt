@@ -1,4 +1,4 @@
-use Rattle.std.proofs.Common.{true, false, subst, sym, arith, ◌≡◌, ◌+◌, ◌/◌, ◌≤◌}
+use Rattle.std.proofs.Common.{true, false, subst, sym, arith, ◌+◌, ◌/◌, ◌≤◌}
 use Rattle.std.proofs.lemmas.Bool.{true≢false}
 use Rattle.trie_model.specs.Shape.{cells}
 use Rattle.chunk_usage.specs.Ledger.{free_count}

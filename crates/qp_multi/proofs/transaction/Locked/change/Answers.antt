@@ -1,7 +1,7 @@
 use Rattle.std.proofs.Common.{◌≡◌, ◌∙◌, Option, Some, sym, subst}
 use Rattle.std.specs.Prelude.{IsSomeAnd}
 use Rattle.qp_multi.specs.declared.desk.Draft.{Draft}
-use Rattle.qp_multi.specs.Bounds.{IsCramped, IsCrowded}
+use Rattle.qp_multi.specs.Bounds.{IsCramped}
 use Rattle.qp_multi.specs.Changes.{key_of, written_by, asked_by}
 use Rattle.qp_multi.specs.Drafts.{Between}
 use Rattle.qp_multi.specs.Fulls.{CausedFrom, full_with}
