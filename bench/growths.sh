@@ -2,7 +2,7 @@
 # Refuses a program over the shared index each growth of its memory in turn: bench/growths.rattle makes all that it needs, opens an index, and
 # then asks each of its calls. A growth that is refused before the index is open is told as want of memory (status 7); none that comes
 # later may change an answer (status 1). Says how many growths were refused, and ends with 1 where a run ended otherwise. The program is built
-# by bench/native.py, which proves nothing, in a copy of the crates that it needs: that takes some minutes.
+# by tools/native.py, which proves nothing, in a copy of the crates that it needs: that takes some minutes.
 # Usage: bench/growths.sh [PROGRAM], where PROGRAM is one that was built before. Needs a C compiler. Changes nothing but files in a temporary
 # folder.
 set -eu
@@ -25,7 +25,7 @@ build() {
         printf '%s\n' 'growths may_wait=8: dns_name shift_key trie_model trie_read trie_write qp_multi'
     } >"$folder/crates.txt"
     git -C "$folder" init -q
-    (cd "$folder/crates/growths" && "$here/native.py" "$program") >"$folder/build" 2>&1 || { tail -5 "$folder/build"; exit 2; }
+    (cd "$folder/crates/growths" && "$here/../tools/native.py" "$program") >"$folder/build" 2>&1 || { tail -5 "$folder/build"; exit 2; }
 }
 (($#)) || build
 sed -n "/^cat .*refuse.c.*<<'C'\$/,/^C\$/p" "$here/memory.sh" | sed '1d;$d' >"$folder/refuse.c"
