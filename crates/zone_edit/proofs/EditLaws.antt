@@ -1,5 +1,5 @@
 -- What a transaction's call makes of a working set that is a version.
-use Rattle.std.proofs.Common.{◌≡◌, ◌∙◌, ℕ, ◌+◌, ◌-◌, ◌≤◌, List, [], ◌∷◌, ◌++◌, length, Option, Some, None, Ok, Err, refl, sym, ap, subst, arith, append-nil, length-append}
+use Rattle.std.proofs.Common.{◌≡◌, ◌∙◌, ℕ, ◌+◌, ◌-◌, ◌≤◌, List, [], ◌∷◌, ◌++◌, length, Option, Some, None, Ok, Err, refl, sym, ap, subst, arith, append-nil, append_assoc, length-append}
 use Rattle.std.specs.Prelude.{Contains, IsSome, IsSomeAnd, IfSome, unwrap_or}
 use Rattle.std.specs.BTreeMap.{insert_entry}
 use Rattle.zone_model.specs.Names.{Name, IsName, name_cmp}
@@ -127,17 +127,27 @@ between_from R S P T None None f r s p = r
 
 -- ---- edits, one after another
 
+pub begins_through : {A : Type 0} (all more part : List A) → StartsWith all more → StartsWith more part → StartsWith all part
+begins_through all more part a b = (b.0 ++ a.0, a.1 ∙ ap (λ (xs : List _). xs ++ a.0) b.1 ∙ append_assoc part b.0 a.0)
+
+begins_as : {A : Type 0} (all part : List A) → all ≡ part → StartsWith all part
+begins_as all part same = ([], same ∙ sym (append-nil part))
+
+begins_itself : {A : Type 0} (xs : List A) → StartsWith xs xs
+begins_itself xs = begins_as xs xs refl
+
 pub goes_same : (v : Known) → GoesOn v v
 goes_same v = record { pass = refl; opening = refl; history = refl; namings = ([], sym (append-nil v.seen.namings)) }
 
 pub edits_same : (most : ℕ) (P : Draft → Type 0) (told : Version → Draft → Type 0) (old : Option Draft) → IsSomeAnd old P → ((d : Draft) (version : Version) → WorksOn d version → told version d) → Edits most told old old
-edits_same most P told (Some d) p f = record { known = goes_same d.seat.place.me.0; passes = refl; few = omega arith; becomes = λ version on. f d version on }
+edits_same most P told (Some d) p f = record { known = goes_same d.seat.place.me.0; passes = refl; log = begins_itself d.log.operations; few = omega arith; becomes = λ version on. f d version on }
 edits_same most P told None p f = absurd p
 
 pub edits_as : (m most : ℕ) (A B : Version → Draft → Type 0) (old new : Option Draft) → m ≤ most → ((version : Version) (e : Draft) → A version e → B version e) → Edits m A old new → Edits most B old new
 edits_as m most A B old new le f = between_as (EditsOne m A) (EditsOne most B) old new (λ d e _ _ r. record {
   known = r.known;
   passes = r.passes;
+  log = r.log;
   few = (let l = r.few in omega arith);
   becomes = λ version on. f version e (r.becomes version on);
 })
@@ -147,6 +157,7 @@ pub edits_on : (m n most : ℕ) (A B C : Version → Draft → Type 0) (a b c : 
 edits_on m n most A B C a b c le h = between_then (EditsOne m A) (EditsOne n B) (EditsOne most C) a b c (λ d e f r s. record {
   known = goes_further r.known s.known;
   passes = s.passes ∙ r.passes;
+  log = begins_through f.log.operations e.log.operations d.log.operations s.log r.log;
   few = (let l = r.few in let k = s.few in omega arith);
   becomes = λ version on. (let m = h version e f (r.becomes version on) in m.2 (s.becomes m.0 m.1));
 })
@@ -212,6 +223,7 @@ module _ (o : Operation) (denied : List trie.Entry → Type 0) (A B : Type 0) (n
   stored a puts call = between_as Operated (EditsOne 1 (Stores name before entry (Ok tt))) old new (λ d e _ _ op. record {
     known = op.known;
     passes = op.passes;
+    log = (o ∷ [], op.done a);
     few = omega (arith, ap (λ (os : List Operation). length os) (op.done a), length-append d.log.operations (o ∷ []));
     becomes = λ version on is. puts version d e op on is;
   }) call
@@ -224,6 +236,7 @@ module _ (o : Operation) (denied : List trie.Entry → Type 0) (A B : Type 0) (n
       (λ d e cause both. record {
         known = both.0.known;
         passes = both.0.passes;
+        log = begins_as e.log.operations d.log.operations (both.0.stays undone);
         few = omega (arith, ap (λ (os : List Operation). length os) (both.0.stays undone));
         becomes = λ version on is. (
           works_same o denied d e A B version both.0 undone on,
@@ -255,6 +268,7 @@ module _ (name : Name) (key before after : List ℕ) (found : Option ℕ) (len :
   read_one d e same item = record {
     passes = sym e.agrees.passes ∙ ap (λ (u : Ledger). u.passes) same.usage ∙ d.agrees.passes;
     known = subst (GoesOn d.seat.place.me.0) (sym same.known) (goes_same d.seat.place.me.0);
+    log = begins_as e.log.operations d.log.operations same.log;
     few = omega (arith, ap (λ (os : List Operation). length os) same.log);
     becomes = λ version on.
         let set : working_set e ≡ working_set d = ap (λ (v : Known). applied (version_seen v.seen) e.log.operations) same.known ∙ ap (applied (base_of d)) same.log in

@@ -8,6 +8,7 @@ use Rattle.chunk_usage.specs.Keeping.{kept_versions}
 use Rattle.zone_answer.specs.Parts.{IsRead}
 use Rattle.zone_answer.specs.Standing.{IsVersion}
 use Rattle.job_model.specs.Sizes.{trie_entries, cell_count}
+use Rattle.shared_cells.specs.History.{StartsWith}
 use Rattle.shared_cells.specs.Steps.{IsNamed}
 use Rattle.qp_multi.specs.declared.desk.Draft.{Draft}
 use Rattle.qp_multi.specs.declared.meaning.Named.{Ghosts}
@@ -35,10 +36,11 @@ pub record Owns (name : Name) (entry : Entry) (d : Draft) : Type 0 where
   pub on : WorksOn d version
   pub owned_is : entry ≡ owned name version
 
--- The transaction goes on, and does so many operations of the index at most. A working set that is a version becomes what is told of that.
+-- The transaction goes on, and does so many operations of the index at most, behind those that were done. A working set that is a version becomes what is told of that.
 pub record EditsOne (most : ℕ) (told : Version → Draft → Type 0) (old new : Draft) : Type 0 where
   pub known : GoesOn old.seat.place.me.0 new.seat.place.me.0
   pub passes : new.seat.passes ≡ old.seat.passes
+  pub log : StartsWith new.log.operations old.log.operations
   pub few : length new.log.operations ≤ length old.log.operations + most
   pub becomes : (version : Version) → WorksOn old version → told version new
 
