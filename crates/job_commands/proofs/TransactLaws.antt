@@ -1,5 +1,5 @@
 -- What a transaction makes of a block, by its drafts.
-use Rattle.std.proofs.Common.{◌≡◌, ◌∙◌, ◌⊎◌, ⊎_elim, ℕ, suc, ◌+◌, ◌-◌, ◌/◌, ◌<◌, ◌≤◌, true, List, [], ◌∷◌, ◌++◌, length, take, get_or, Option, Some, None, Result, Ok, Err, refl, sym, ap, subst, arith, length-append}
+use Rattle.std.proofs.Common.{◌≡◌, ◌∙◌, ◌⊎◌, ⊎_elim, ℕ, suc, ◌+◌, ◌-◌, ◌*◌, ◌/◌, ◌<◌, ◌≤◌, true, List, [], ◌∷◌, ◌++◌, length, take, get_or, Option, Some, None, Result, Ok, Err, refl, sym, ap, subst, arith, length-append}
 use Rattle.std.specs.Prelude.{Contains, IsOk, unwrap_or}
 use Rattle.std.specs.List.{AllByRecursion, AllPairs}
 use Rattle.std.specs.List.Sorted.{IsStrictlySortedBy}
@@ -10,13 +10,13 @@ use Rattle.std.proofs.lemmas.List.{take_all, take-append-le}
 use Rattle.std.proofs.lemmas.List.Sums.{fold-append, sum_by-cons}
 use Rattle.std.proofs.lemmas.List.Elements.{Contains-append_left}
 use Rattle.zone_model.specs.Names.{Name}
-use Rattle.zone_model.specs.Versions.{Version, apply, all_applied, Operation as Said}
+use Rattle.zone_model.specs.Versions.{Version, owner_of, apply, all_applied, Operation as Said}
 use Rattle.zone_model.specs.Transactions.{Transaction, all_met, whole}
 use Rattle.zone_model.specs.declared.Refusal.{Refusal}
 use Rattle.trie_model.specs.Shape.{cells}
 use Rattle.job_model.specs.declared.Ending.{Ending}
 use Rattle.job_model.specs.declared.Ending.TheVariants as ending
-use Rattle.job_model.specs.Sizes.{cell_count, trie_entries}
+use Rattle.job_model.specs.Sizes.{cell_count, cells_asked, trie_entries}
 use Rattle.job_model.specs.Outcomes.{BoundsSets, BoundsVersions, Cause, Rule, Full, Spent, Causes, FullCause, cells_kept, last_version}
 use Rattle.report_laws.specs.Changes.{AllSaid}
 use Rattle.report_laws.proofs.ChangeLemmas.{whole_dumped}
@@ -42,6 +42,7 @@ use Rattle.trie_model.specs.Capacity.{is_roomy}
 use Rattle.chunk_usage.specs.Keeping.{kept_versions}
 use Rattle.pin_core.proofs.Lists.{contains_cases}
 use Rattle.qp_multi.specs.Capacity.{BoundsHistory}
+use Rattle.qp_multi.specs.Crowds.{BoundsWays}
 use Rattle.qp_multi.proofs.GoesLaws.{base_goes_on}
 use Rattle.zone_edit.specs.declared.applying.Halt.TheVariants as halts
 use Rattle.job_commands.specs.Histories.{Setup, BeginsAt, Commit, Entries, IsLawful, StandsAs, AreVersions, Deeds, Explains, IsAsked, index_at, judged_by}
@@ -378,6 +379,16 @@ module _ (s : Setup) (asked : Transaction) (old : Known) (d e : Draft) (b : Begi
                     operations = omega (arith, fewer, in_front, none, place, within);
                   })
                   (subst (λ (p : ℕ). is_roomy p most_cells most_operations (length e.usage.given)) passes (subst (is_roomy s.passes most_cells most_operations) chunks roomy));
+              crowded = record {
+                bound = λ most small some bounds.
+                    let in_front = taken at.front at.refused at.back asked.operations operation at.all at.place in
+                    let history : BoundsWays most new.seen = record { first = first_within set most are bounds.first; ways = ways_within set deeds at.front most are explains bounds } in
+                    subst (λ (n : ℕ). n - n / 4 ≤ (length (versions_in kept) + 1) * (most / 257 + 9) + 1 + cells_asked (owner_of at.refused) at.working at.next / 769) (sym chunks)
+                    (at.full.crowded most small (subst (λ (n : ℕ). 4 ≤ n) chunks some) (record {
+                      history = subst (BoundsWays most) seen_back history;
+                      work = sets_within set deeds at.front most are bounds (subst (λ (front : List Said). (version : Version) → WorksOn d version → (n : ℕ) → length d.log.operations ≤ n → MadeOnTheWay s.origin front version (applied (base_of e) (take n e.log.operations))) in_front r.ways);
+                    }));
+              };
             }
           where
             shown_all : (older : List ℕ) → ((x : ℕ) → Contains older x → Contains (versions_in kept) x) → AllByRecursion (λ x. x < length new.seen.history) older

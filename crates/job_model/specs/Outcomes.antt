@@ -4,11 +4,11 @@ use Rattle.std.specs.List.{AllByRecursion, list_any}
 use Rattle.std.specs.List.Sorted.{IsStrictlySortedBy}
 use Rattle.std.specs.Ordering.{nat_cmp}
 use Rattle.zone_model.specs.Names.{Name}
-use Rattle.zone_model.specs.Versions.{Version, Operation, apply, all_applied}
+use Rattle.zone_model.specs.Versions.{Version, Operation, owner_of, apply, all_applied}
 use Rattle.zone_model.specs.Transactions.{Transaction, no_changes, all_met, whole}
 use Rattle.trie_model.specs.Capacity.{is_roomy}
 use Rattle.job_model.specs.Commands.{Command, Ask, Hold, AskHeld, Release, Block, Compact}
-use Rattle.job_model.specs.Sizes.{cell_count}
+use Rattle.job_model.specs.Sizes.{cell_count, cells_asked}
 use Rattle.zone_model.specs.declared.Refusal.{Refusal}
 use Rattle.job_model.specs.declared.Ending.{Ending}
 use Rattle.job_model.specs.declared.Ending.TheVariants.{Commit, Rollback}
@@ -145,7 +145,7 @@ pub record IsCrowded (s : Setting) (base : ℕ) (front : List Operation) (asked 
 -- There was no room for an operation that is accepted and changes what the ones before it made of the base, which meets the
 -- prerequisites: the tries of that and of the kept versions have almost as many cells as there are chunks but for the reserve of a quarter. The base is the last kept
 -- version, and each other one is kept since a question or a hold shows it. Nor does it come where the index has the chunks that are
--- enough for these versions and operations.
+-- enough for these versions and operations; nor on a table that has more chunks than small sets may have taken.
 pub record FullCause (s : Setting) (asked : Transaction) (base operation : ℕ) (kept : List ℕ) : Type 0 where
   pub met : all_met (s.set base) asked.needs ≡ true
   pub front : List Operation
@@ -165,6 +165,7 @@ pub record FullCause (s : Setting) (asked : Transaction) (base operation : ℕ) 
   pub few : length kept ≤ s.passes + 1
   pub full : s.chunks - s.chunks / 4 - 8 ≤ cell_count working + cells_kept s.set kept
   pub cramped : IsCramped s base operation
+  pub crowded : IsCrowded s base front (cells_asked (owner_of refused) working next) (length kept)
 
 -- the greatest number of a version
 abbrev pub last_version : ℕ

@@ -1,8 +1,9 @@
 -- What operations make of a transaction whose working set is a version of a zone.
 use Rattle.std.specs.Prelude.{◌≡◌, ℕ, ◌+◌, ◌-◌, ◌≤◌, Bool, true, List, ◌∷◌, ◌++◌, length, take, Option, Result, Ok, Err}
 use Rattle.zone_model.specs.Names.{Name}
-use Rattle.zone_model.specs.Versions.{Version, Operation, owned, apply, all_applied}
+use Rattle.zone_model.specs.Versions.{Version, Operation, owned, owner_of, apply, all_applied}
 use Rattle.zone_model.specs.Transactions.{Prerequisite, Transaction, is_met_by, all_met, whole}
+use Rattle.job_model.specs.Sizes.{cells_asked}
 use Rattle.qp_multi.specs.declared.desk.Draft.{Draft}
 use Rattle.qp_multi.specs.Operations.{applied}
 use Rattle.qp_multi.specs.Drafts.{Between, base_of}
@@ -21,7 +22,7 @@ Applies origin operation (Ok u) version new = (next : Version) × (apply origin 
 Applies origin operation (Err stops.Memory) version new = (next : Version) × (apply origin operation version ≡ Ok next) × WorksOn new version
 Applies origin operation (Err (stops.Refused refusal)) version new = apply origin operation version ≡ Err refusal
 Applies origin operation (Err stops.Full) version new =
-    (next : Version) × (apply origin operation version ≡ Ok next) × (next ≡ version → ⊥) × IsFullOn new version (kept_versions new.usage)
+    (next : Version) × (apply origin operation version ≡ Ok next) × (next ≡ version → ⊥) × IsFullOn new version (cells_asked (owner_of operation) version next) (kept_versions new.usage)
 
 -- There is no room for an operation that is accepted and changes what the ones before it made.
 pub record IsFullAt (new : Draft) (origin : Name) (operations : List Operation) (version : Version) (operation : ℕ) (kept : List ℕ) : Type 0 where
@@ -35,7 +36,7 @@ pub record IsFullAt (new : Draft) (origin : Name) (operations : List Operation) 
   pub next : Version
   pub accepted : apply origin refused working ≡ Ok next
   pub changes : next ≡ working → ⊥
-  pub full : IsFullOn new working kept
+  pub full : IsFullOn new working (cells_asked (owner_of refused) working next) kept
 
 -- Memory was wanting for an operation that is accepted, and the working set is what the ones before it made.
 pub record IsWanting (new : Draft) (origin : Name) (operations : List Operation) (version : Version) : Type 0 where
