@@ -55,10 +55,9 @@ pub fn sized_jobs_find_room()
         → Lawful chunks (passes_for (length job.workers)) job.origin job.zone workers last → AllFindRoom (all_pairs workers) }
 {}
 
-/// On 64 chunks, which an index has where nobody asks for others, no transaction of a job is refused as full that names at most one
-/// version beside its base, where no set that the index holds has more than 768 cells, nor any set on the way. How many operations a
-/// transaction has doesn't matter, nor how many there are, nor how many workers.
-pub fn small_jobs_find_room()
+/// A job of small sets finds room on 64 chunks, as many as an index has where nobody asks for others, while at most one version is kept
+/// beside the one that a transaction is on. How many operations a transaction has doesn't matter, nor how many workers there are.
+pub fn small_sets_find_room()
     ensures { (job : Job) → IsSaidJob job → (workers : List (List Pair)) → AreOutcomesOf job workers
         → HaveFewCells 768 job.origin job.zone (all_pairs workers) → AllNameFew 2 (all_pairs workers)
         → (passes last : ℕ) → Lawful 64 passes job.origin job.zone workers last → AllFindRoom (all_pairs workers) }
