@@ -11,7 +11,7 @@ use Rattle.zone_answer.specs.Standing.{IsStorable}
 use Rattle.job_model.specs.declared.Ending.{Ending}
 use Rattle.job_model.specs.Commands.{Job}
 use Rattle.job_model.specs.Sizes.{cell_count, cells_asked, item_cells}
-use Rattle.job_model.specs.Outcomes.{BoundsSets, Cause, Rule, Full, Spent, Causes, Ended, Shown, Committed, RolledBack, Refused, Outcome, Pair, asked_by, Setting, setting_of, FullCause, all_pairs, Lawful}
+use Rattle.job_model.specs.Outcomes.{BoundsSets, Cause, Rule, Full, Spent, Causes, Ended, Refused, Pair, asked_by, Setting, setting_of, FullCause, all_pairs, Lawful}
 use Rattle.report_laws.specs.Changes.{IsSaid, AllSaid, AllAsked}
 use Rattle.report_laws.specs.Versions.{AreOutcomesOf}
 use Rattle.report_laws.proofs.ChangeLemmas.{IsZone, is_zone}
