@@ -1,5 +1,5 @@
 -- What an allocation is to the crates that change a trie.
-use Rattle.std.proofs.Common.{◌≡◌, ◌≢◌, ℕ, ◌+◌, ◌-◌, ◌*◌, ◌/◌, ◌%◌, ◌<◌, ◌≤◌, Bool, true, false, not, length, slice_index_or, refl, ◌∙◌, sym, subst, ap, inl, inr, arith}
+use Rattle.std.proofs.Common.{◌≡◌, ◌≢◌, ℕ, ◌+◌, ◌-◌, ◌*◌, ◌/◌, ◌%◌, ◌<◌, ◌≤◌, Bool, true, false, not, length, List, slice_index, slice_index_or, slice_set, refl, ◌∙◌, sym, subst, ap, inl, inr, arith}
 use Rattle.std.specs.Prelude.{Option, None, Some, Result, Ok, Err, IfOk, IfErr, nat_lt, nat_le, ◌==◌, ◌||◌, ◌&&◌, if◌then◌else◌}
 use Rattle.std.proofs.lemmas.Bool.{cases_eq, cases_Bool}
 use Rattle.std.proofs.lemmas.Bool.Decides.{nat_tests}
@@ -11,7 +11,7 @@ use Rattle.trie_model.specs.Extents.{IsRow}
 use Rattle.chunk_usage.specs.declared.bump.Bump.{Bump}
 use Rattle.chunk_usage.specs.declared.space.Grant.{Grant}
 use Rattle.chunk_usage.specs.declared.space.Full.{Full}
-use Rattle.chunk_usage.specs.Rooms.{Handed, GivesChunk, OpensFree, Grows, account_of}
+use Rattle.chunk_usage.specs.Rooms.{Handed, GivesChunk, OpensFree, Grows, Meets, account_of}
 use Rattle.chunk_usage.specs.Ledger.{Ledger, IsLedger, IsBump, is_given, is_bump, is_used, is_mutable, filled, left, free_count, reserve_of, reserved}
 use Rattle.chunk_usage.specs.Handing.{lowest_free, with_bump, taken, next_cell, roomy, granted_from, allocated_from, grant_of, allocated, shortage, consumed, unconsumed}
 use Rattle.chunk_sets.proofs.FlagLemmas.{set_stays, set_within, get_set, get_clear, one_fewer_clear, First, first_is}
@@ -217,6 +217,41 @@ opens l n new is = subst (OpensIn l) (sym is) (of_room l.bump refl)
       where
         of_left : (b : Bool) → OpensIn l (allocated_from l n (if b then Some o else None))
         of_left true = λ k e. inl (ap (λ (p : Option Bump). is_bump p k) is ∙ e)
+        of_left false = of_free (nat_le (free_count l) (reserve_of l)) refl
+
+-- ---- which chunks get a cell that counts
+
+abbrev pub MeetsIn : Ledger → Ledger → Type 0
+MeetsIn l new = Meets (account_of l) (account_of new)
+
+set_other : (live : List ℕ) (c k x : ℕ) → (c ≡ k → ⊥) → slice_index (slice_set live c x) k ≡ slice_index live k
+set_other live c k x apart = get_or-set_other live c k x 0 (λ e. apart (sym e))
+
+pub taken_meets : (l : Ledger) (o : Bump) (n : ℕ) → l.bump ≡ Some o → MeetsIn l (taken l o n)
+taken_meets l o n is k some = elim (cases_eq o.chunk k) [
+  | inl e ↦ inr (inl (ap (λ (b : Option Bump). is_bump b k) is ∙ grind (arith, nat_tests)))
+  | inr apart ↦ inl (let e = set_other l.live o.chunk k (slice_index l.live o.chunk + n) apart in omega arith)
+]
+
+pub newly_meets : (l : Ledger) (n c : ℕ) → First c l.given → MeetsIn l (newly l n c)
+newly_meets l n c first k some = elim (cases_eq c k) [
+  | inl e ↦ inr (inr (λ h. differ (sym (get_or_from_slice_get l.given k true false h) ∙ (ap (λ (j : ℕ). slice_index_or l.given j false) (sym e) ∙ first.clear))))
+  | inr apart ↦ inl (let e = set_other l.live c k (slice_index l.live c + n) apart in omega arith)
+]
+
+pub meets : (l : Ledger) (n : ℕ) (new : Ledger) → new ≡ allocated l n → MeetsIn l new
+meets l n new is = subst (MeetsIn l) (sym is) (of_room l.bump refl)
+  where
+    of_free : (b : Bool) → nat_le (free_count l) (reserve_of l) ≡ b → MeetsIn l (if b then l else newly l n (lowest_free l))
+    of_free true e = λ k o. inl o
+    of_free false e = newly_meets l n (lowest_free l) (first_is l.given (lowest_free l) refl (grind (arith, nat_tests)))
+
+    of_room : (o : Option Bump) → l.bump ≡ o → MeetsIn l (allocated_from l n (roomy o n))
+    of_room None is = of_free (nat_le (free_count l) (reserve_of l)) refl
+    of_room (Some o) is = of_left (nat_le n (1024 - o.filled))
+      where
+        of_left : (b : Bool) → MeetsIn l (allocated_from l n (if b then Some o else None))
+        of_left true = taken_meets l o n is
         of_left false = of_free (nat_le (free_count l) (reserve_of l)) refl
 
 -- ---- no chunk of the reserve is taken

@@ -65,3 +65,7 @@ pub record Grows (used new mutable mutable_new : ℕ → Bool) : Type 0 where
 -- a chunk that becomes the bump chunk was not given
 abbrev pub OpensFree : List Bool → (ℕ → Bool) → (ℕ → Bool) → Type 0
 OpensFree given opened new = (k : ℕ) → new k ≡ true → (opened k ≡ true) ⊎ (IsGiven given k → ⊥)
+
+-- a chunk with a cell that counts had one before, was the bump chunk, or wasn't given
+abbrev pub Meets : Account → Account → Type 0
+Meets old new = (k : ℕ) → 0 < new.live k → (0 < old.live k) ⊎ ((old.opened k ≡ true) ⊎ (IsGiven old.given k → ⊥))

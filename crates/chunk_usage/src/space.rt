@@ -32,7 +32,7 @@ pub trait Space {
     ghost use Rattle.trie_model.specs.Reach.{in_chunk};
     ghost use Rattle.chunk_cells.specs.Chunks.{IsGiven};
     ghost use Rattle.chunk_usage.specs.declared.space.Full.{Full};
-    ghost use Rattle.chunk_usage.specs.Rooms.{Account, Handed, GivesChunk, OpensFree, Grows};
+    ghost use Rattle.chunk_usage.specs.Rooms.{Account, Handed, GivesChunk, OpensFree, Grows, Meets};
 
     // What is known of the cells.
     ghost account: { Self → Account };
@@ -47,6 +47,7 @@ pub trait Space {
         ensures handed { IfOk result (λ g. Handed (account self.old) (account self.new) g.at n) }
         ensures gives { IfOk result (λ g. GivesChunk (account self.old).given (account self.new).given g.given) }
         ensures opens { OpensFree (account self.old).given (account self.old).opened (account self.new).opened }
+        ensures meets { Meets (account self.old) (account self.new) }
         ensures grows { Grows (account self.old).used (account self.new).used (account self.old).mutable (account self.new).mutable }
         ensures consumes { (account self.new).consumed ≤ (account self.old).consumed + n }
         // Where a chunk is given, more are free than are kept free.

@@ -30,7 +30,7 @@ fn lay(text: &[u8], octets: &mut [u8]) -> Result<(usize, bool), NameRefusal>
         match piece_at(text, at) {
             Piece::Dot => {
                 if pending == 0 {
-                    return Err(NameRefusal::EmptyLabel(at));
+                    return Err(NameRefusal::EmptyLabel { at });
                 }
                 put(octets, start, pending as u8);
                 start += pending + 1;
@@ -39,13 +39,13 @@ fn lay(text: &[u8], octets: &mut [u8]) -> Result<(usize, bool), NameRefusal>
             }
             Piece::Octet(octet, next) => {
                 if pending == MOST_LABEL_OCTETS {
-                    return Err(NameRefusal::LongLabel(at));
+                    return Err(NameRefusal::LongLabel { at });
                 }
                 pending += 1;
                 put(octets, start + pending, octet);
                 at = next;
             }
-            Piece::Bad => return Err(NameRefusal::BadEscape(at)),
+            Piece::Bad => return Err(NameRefusal::BadEscape { at }),
         }
     }
     if pending == 0 {
@@ -72,7 +72,7 @@ fn complete(text: &[u8], origin: &Name) -> Result<Name, NameRefusal>
     let back = behind(absolute, origin);
     let total = front + back.len();
     if total > MOST_OCTETS {
-        return Err(NameRefusal::LongName(total));
+        return Err(NameRefusal::LongName { octets: total });
     }
     octets[front..total].copy_from_slice(back);
     Ok(Name {
@@ -90,7 +90,7 @@ impl Name {
         ensures { result ≡ name_of text.now origin.now }
     {
         if text.is_empty() {
-            return Err(NameRefusal::EmptyLabel(0));
+            return Err(NameRefusal::EmptyLabel { at: 0 });
         }
         if text.len() == 1 && text[0] == b'@' {
             return Ok(*origin);

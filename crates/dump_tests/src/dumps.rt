@@ -140,6 +140,38 @@ const WORDS: Case = Case {
         x IN TYPE65280 \\# 0\n",
 };
 
+// The zone of RFC 4592, section 2.2.1.
+const WILDCARDS: Case = Case {
+    text: b"$TTL 3600\n@ SOA ns.example.com. hostmaster 1 3600 600 86400 60\n@ NS ns.example.com.\n@ NS ns.example.net.\n\
+        * TXT \"this is a wildcard\"\n* MX 10 host1\nsub.* TXT \"this is not a wildcard\"\nhost1 A 192.0.2.1\n\
+        _ssh._tcp.host1 SRV 0 0 22 host1\n_ssh._tcp.host2 SRV 0 0 22 host2\nsubdel NS ns.example.com.\nsubdel NS ns.example.net.\n",
+    origin: b"example.",
+    ttl: 3600,
+    full: b"example. 3600 IN NS ns.example.com.\n\
+        example. 3600 IN NS ns.example.net.\n\
+        example. 3600 IN SOA ns.example.com. hostmaster.example. 1 3600 600 86400 60\n\
+        *.example. 3600 IN MX 10 host1.example.\n\
+        *.example. 3600 IN TXT \"this is a wildcard\"\n\
+        sub.*.example. 3600 IN TXT \"this is not a wildcard\"\n\
+        host1.example. 3600 IN A 192.0.2.1\n\
+        _ssh._tcp.host1.example. 3600 IN SRV 0 0 22 host1.example.\n\
+        _ssh._tcp.host2.example. 3600 IN SRV 0 0 22 host2.example.\n\
+        subdel.example. 3600 IN NS ns.example.com.\n\
+        subdel.example. 3600 IN NS ns.example.net.\n",
+    short: b"$ORIGIN example.\n$TTL 3600\n\
+        @ IN NS ns.example.com.\n\
+        \tIN NS ns.example.net.\n\
+        \tIN SOA ns.example.com. hostmaster 1 3600 600 86400 60\n\
+        * IN MX 10 host1\n\
+        \tIN TXT \"this is a wildcard\"\n\
+        sub.* IN TXT \"this is not a wildcard\"\n\
+        host1 IN A 192.0.2.1\n\
+        _ssh._tcp.host1 IN SRV 0 0 22 host1\n\
+        _ssh._tcp.host2 IN SRV 0 0 22 host2\n\
+        subdel IN NS ns.example.com.\n\
+        \tIN NS ns.example.net.\n",
+};
+
 const ROOT: Case = Case {
     text: b"$TTL 60\n@ SOA ns hm 1 2 3 4 5\ncom NS ns.com\na.com 5 A 192.0.2.9\n",
     origin: b".",
@@ -150,7 +182,7 @@ const ROOT: Case = Case {
 
 #[test]
 fn zones_are_dumped(rt: HostRuntime) -> Result<(), Fail> {
-    for case in [PLAIN, ODD, DELEGATIONS, WORDS, ROOT] {
+    for case in [PLAIN, ODD, DELEGATIONS, WORDS, WILDCARDS, ROOT] {
         check(&rt, rt.alloc(), &case)?;
     }
     Ok(())

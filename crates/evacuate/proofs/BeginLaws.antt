@@ -200,6 +200,7 @@ module _ {S : Type 0} (has : S → ℕ → Cell → Type 0) (kept : S → List �
     grows = grows;
     spares = refl;
     last = ap frozen_part e ∙ begun_frozen l filled_on;
+    meets = λ k h. inl (let a = ap (λ (m : Ledger). slice_index m.live k) e in let b = ap (λ (xs : List ℕ). slice_index xs k) (begun_live l filled_on) in omega arith);
   }
 
   pub ready_begun : Ready kept given reserve_account_of s l → Ready kept given reserve_account_of s l1

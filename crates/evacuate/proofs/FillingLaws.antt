@@ -12,8 +12,8 @@ use Rattle.chunk_usage.specs.Ledger.{Ledger, IsLedger, IsBump, is_given, is_bump
 use Rattle.chunk_usage.specs.Handing.{lowest_free, newly_taken, new_grant, next_cell, taken, roomy, shortage, released, reserve_granted_from, reserve_allocated_from, reserve_grant_of, reserve_allocated}
 use Rattle.chunk_usage.specs.Keeping.{closed, full}
 use Rattle.chunk_sets.proofs.FlagLemmas.{set_stays, set_within, First, first_is}
-use Rattle.chunk_usage.proofs.SpaceLaws.{Hands, OpensIn, used_given}
-use Rattle.evacuate.proofs.ReserveLaws.{reserve_handed, reserve_frozen, reserve_opens}
+use Rattle.chunk_usage.proofs.SpaceLaws.{Hands, MeetsIn, OpensIn, used_given}
+use Rattle.evacuate.proofs.ReserveLaws.{reserve_handed, reserve_frozen, reserve_meets, reserve_opens}
 use Rattle.evacuate.specs.Evacuations.{FillsNew}
 use Rattle.evacuate.specs.Fillings.{Fills, Moves, Paid, is_old, old_live}
 
@@ -287,6 +287,7 @@ pub record Granted (l new : Ledger) (n : ℕ) (g : Grant) : Type 0 where
   pub fills : (given : List Bool) → Fills given l → FillsMore given l new (Ok g)
   pub frozen : frozen_part new ≡ frozen_part l
   pub opens : OpensIn l new
+  pub meets : MeetsIn l new
 
 pub granted : {l new : Ledger} {n : ℕ} {g : Grant} → IsLedger l → 0 < n → n ≤ 256 → new ≡ reserve_allocated l n → Ok g ≡ reserve_grant_of l n → Granted l new n g
 granted {l} {new} {n} {g} h some few e f = record {
@@ -294,6 +295,7 @@ granted {l} {new} {n} {g} h some few e f = record {
   fills = λ given fills. fills_handed given l h fills n some few new (Ok g) e f;
   frozen = ap frozen_part e ∙ reserve_frozen l n;
   opens = reserve_opens l n new e;
+  meets = reserve_meets l n new e;
 }
 
 -- and those that they stand for are released

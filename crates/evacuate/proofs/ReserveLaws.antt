@@ -16,7 +16,7 @@ use Rattle.trie_space.specs.Spaces.{Ready}
 use Rattle.chunk_sets.proofs.FlagLemmas.{set_stays, get_set, get_clear, one_fewer_clear, First, first_is}
 use Rattle.chunk_usage.proofs.RowLemmas.{counts_more}
 use Rattle.chunk_usage.proofs.HandingLaws.{opened_mutable}
-use Rattle.chunk_usage.proofs.SpaceLaws.{Hands, OpensIn, used_given, handed, newly_opens}
+use Rattle.chunk_usage.proofs.SpaceLaws.{Hands, MeetsIn, OpensIn, used_given, handed, newly_meets, newly_opens, taken_meets}
 
 -- from a free chunk
 module _ (l : Ledger) (h : IsLedger l) (n : ℕ) (some : 0 < n) (few : n ≤ 256) (short : left l.bump < n) (first : First (lowest_free l) l.given) where
@@ -150,6 +150,22 @@ reserve_opens l n new is = subst (OpensIn l) (sym is) (of_room l.bump refl)
       where
         of_left : (b : Bool) → OpensIn l (reserve_allocated_from l n (if b then Some o else None))
         of_left true = λ k e. inl (ap (λ (p : Option Bump). is_bump p k) is ∙ e)
+        of_left false = of_clear (free_count l == 0) refl
+
+-- a chunk that gets a cell that counts had one, was the bump chunk, or was free
+pub reserve_meets : (l : Ledger) (n : ℕ) (new : Ledger) → new ≡ reserve_allocated l n → MeetsIn l new
+reserve_meets l n new is = subst (MeetsIn l) (sym is) (of_room l.bump refl)
+  where
+    of_clear : (b : Bool) → (free_count l == 0) ≡ b → MeetsIn l (if b then l else newly_taken l n)
+    of_clear true e = λ k o. inl o
+    of_clear false e = newly_meets l n (lowest_free l) (first_is l.given (lowest_free l) refl (grind (arith, nat_tests, e)))
+
+    of_room : (o : Option Bump) → l.bump ≡ o → MeetsIn l (reserve_allocated_from l n (roomy o n))
+    of_room None is = of_clear (free_count l == 0) refl
+    of_room (Some o) is = of_left (nat_le n (1024 - o.filled))
+      where
+        of_left : (b : Bool) → MeetsIn l (reserve_allocated_from l n (if b then Some o else None))
+        of_left true = taken_meets l o n is
         of_left false = of_clear (free_count l == 0) refl
 
 -- ---- who may take the reserve knows the same but for the reserve

@@ -1,14 +1,14 @@
 -- A tree of which the cells that hang on one node are moved.
-use Rattle.std.proofs.Common.{◌≡◌, ℕ, ◌+◌, ◌/◌, ◌<◌, ◌≤◌, ◌++◌, Bool, true, List, length, drop, inl, inr, slice_index, count_ones, arith, refl, sym, ◌∙◌, ap, subst}
+use Rattle.std.proofs.Common.{◌≡◌, ℕ, zero, suc, ◌+◌, ◌-◌, ◌/◌, ◌<◌, ◌≤◌, ◌++◌, Bool, true, List, [], ◌∷◌, length, drop, inl, inr, slice_index, slice_set, count_ones, arith, refl, sym, ◌∙◌, ap, subst}
 use Rattle.packed_node.specs.declared.Cell.{Cell}
 use Rattle.packed_node.specs.Nodes.{IsNode, packed}
 use Rattle.packed_node.specs.declared.Node.TheVariants as node
 use Rattle.trie_model.specs.Extents.{Extents, first_of as first_cell_of, linked_cells, content_cells, AreExtents, IsRow, ItemLies, item_cell, link_cell, row, weigh_extents, WithinExtents}
 use Rattle.trie_model.specs.Extents.Extents.{last, linked}
 use Rattle.trie_model.proofs.ExtentLaws.{linked_is, item_kept}
-use Rattle.std.proofs.lemmas.Bool.{cases_lt}
+use Rattle.std.proofs.lemmas.Bool.{cases_eq, cases_lt}
 use Rattle.std.proofs.lemmas.Bool.Decides.{nat_tests}
-use Rattle.std.proofs.lemmas.List.{length-drop}
+use Rattle.std.proofs.lemmas.List.{get_or-set_other, length-drop}
 use Rattle.trie_model.specs.Keys.{Entry}
 use Rattle.trie_model.specs.Memory.{top_cell, node_of, Beneath}
 use Rattle.trie_model.specs.Reach.{in_chunk, weigh_tree, WithinTree}
@@ -228,6 +228,21 @@ used_writable {l = l} {q} is ready used mutable = record { in_use = used; mutabl
 
 pub released_rest : (l1 : Ledger) {l2 : Ledger} (at m : ℕ) → l2 ≡ released l1 at m → reserve_account_of l2 ≡ record (reserve_account_of l1) { live = slice_index l2.live }
 released_rest l1 at m e = subst (λ z. reserve_account_of z ≡ record (reserve_account_of l1) { live = slice_index z.live }) (sym e) refl
+
+-- none counts more
+pub released_fewer : (l1 : Ledger) {l2 : Ledger} (at m : ℕ) → l2 ≡ released l1 at m → (k : ℕ) → slice_index l2.live k ≤ slice_index l1.live k
+released_fewer l1 at m e k = subst (λ z. slice_index z.live k ≤ slice_index l1.live k) (sym e) (fewer_at l1.live (at / 1024) (slice_index l1.live (at / 1024) - m) (omega arith))
+  where
+    fewer_at : (live : List ℕ) (c x : ℕ) → x ≤ slice_index live c → slice_index (slice_set live c x) k ≤ slice_index live k
+    fewer_at live c x few = elim (cases_eq c k) [
+      | inl e ↦ subst (λ (i : ℕ). slice_index (slice_set live c x) i ≤ slice_index live i) e (at_place live c x few)
+      | inr apart ↦ (let e = get_or-set_other live c k x 0 (λ e. apart (sym e)) in omega arith)
+    ]
+      where
+        at_place : (live : List ℕ) (c x : ℕ) → x ≤ slice_index live c → slice_index (slice_set live c x) c ≤ slice_index live c
+        at_place [] c x few = omega arith
+        at_place (y ∷ live) zero x few = few
+        at_place (y ∷ live) (suc c) x few = at_place live c x few
 
 -- a row at which a tree's cells lie now
 pub moved_row : (t : Tree) (to : ℕ) → IsTree 0 (moved t to) → IsRow to (width t)

@@ -15,6 +15,7 @@ use super::trail::{Trail, next_sparse};
 use chunk_cells::CellWrite;
 use chunk_usage::Usage;
 use packed_node::{Ref, chunk_of};
+use trie_read::Root;
 
 // How often the lists of sparse chunks are gone through before they are made anew.
 const ROUNDS: u32 = 6;
@@ -30,11 +31,7 @@ pub enum Done {
 
 /// Moves what a root reaches out of the sparse chunks, and may take the reserve for it. The same trie stands at the root that is answered,
 /// and what was moved stays so where no chunk was free for the rest.
-pub fn evacuate<C: CellWrite>(
-    cells: &mut C,
-    usage: &mut Usage,
-    root: Option<Ref>,
-) -> (Option<Ref>, Done)
+pub fn evacuate<C: CellWrite>(cells: &mut C, usage: &mut Usage, root: Root) -> (Root, Done)
     requires stands { (version : List Entry) × HasTrie C.has account_of cells.old usage.old root version }
     requires ready { Ready C.kept C.given account_of cells.old usage.old }
     ensures stands { (version : List Entry) → HasTrie C.has account_of cells.old usage.old root version

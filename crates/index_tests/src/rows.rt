@@ -177,16 +177,20 @@ fn hold_one<'i, N: Named>(
     }
 }
 
-/// Each commit's version is held, until there is no room. Why there is none, and the number of the item that was put last.
+/// Each commit's version is held, until there is no room, at the 64th exchange at the latest. Why there is none, and the number of the item
+/// that was put last.
 fn fill_up<'i, N: Named, R: Wait>(
     rt: &R,
     alloc: Global,
     writer: &mut Worker<'i, N>,
     workers: &mut Vec<Worker<'i, N>>,
     held: &mut Vec<Snapshot<'i, Any, N>>,
-) -> Option<(Full, u64)> {
+    octets: usize,
+) -> Option<(Full, u64)>
+    requires { octets ≤ 4096 }
+{
     for round in 0..64u64 {
-        match writer.renumber(rt, alloc, round + 2, LARGE) {
+        match writer.renumber(rt, alloc, round + 2, octets) {
             Ok(_) => {
                 if !hold_one(workers, held) {
                     return None;
@@ -211,7 +215,7 @@ pub(crate) fn full<N: Named, R: Wait>(
     let mut workers = workers;
     let mut writer = workers.pop()?;
     let mut held = Vec::new(alloc);
-    let (full, number) = fill_up(rt, alloc, &mut writer, &mut workers, &mut held)?;
+    let (full, number) = fill_up(rt, alloc, &mut writer, &mut workers, &mut held, LARGE)?;
     let told = full.free <= full.reserve
         && full.left < full.needed
         && workers.is_empty()
@@ -221,6 +225,34 @@ pub(crate) fn full<N: Named, R: Wait>(
     drop(held);
     let after = writer.write(rt, second, Act::Exchange);
     Some(told && same && after.is_ok())
+}
+
+/// How many cells a version of one item of 4,096 octets has: 256, and a node.
+const VERSION_CELLS: usize = 257;
+
+/// Whether what is told of a refusal is so on 16 chunks: the versions that it names and the working set have more cells than there are chunks,
+/// but for those that are kept free and eight more.
+fn is_cramped(full: &Full) -> bool {
+    let versions = full.kept.as_slice().len().saturating_add(1);
+    let cells = versions.saturating_mul(VERSION_CELLS);
+    let others = (full.reserve as usize).saturating_add(8);
+    full.free <= full.reserve && full.left < full.needed && others.saturating_add(cells) >= 16
+}
+
+/// Each commit's version is held until there is no room. When they are released the same exchange is made.
+pub(crate) fn crowded<N: Named, R: Wait>(
+    rt: &R,
+    alloc: Global,
+    workers: Vec<Worker<N>>,
+) -> Option<bool> {
+    let mut workers = workers;
+    let mut writer = workers.pop()?;
+    let mut held = Vec::new(alloc);
+    let (full, number) = fill_up(rt, alloc, &mut writer, &mut workers, &mut held, 4096)?;
+    let told = is_cramped(&full) && full.kept.as_slice().len() == held.len();
+    drop(held);
+    let after = writer.renumber(rt, alloc, number.saturating_add(1), 4096);
+    Some(told && after.is_ok_and(|receipt| receipt.version == number))
 }
 
 /// A hundred commits while version 0 is read: each round keeps two versions.

@@ -7,7 +7,7 @@ use crate::crowd::{at_once, crowd, moved};
 use crate::items::numbered;
 use crate::long_items::{exchanged, read_while_exchanged};
 use crate::rewriting::{compacted, rewritten};
-use crate::rows::{LARGE, dropped, full, held, in_turn, kept, rolled_back, told};
+use crate::rows::{LARGE, crowded, dropped, full, held, in_turn, kept, rolled_back, told};
 use crate::worker::{Act, Any, Worker, workers};
 use qp_multi::{Blank, Index, Named, Pass};
 use std::alloc::Global;
@@ -25,6 +25,7 @@ enum Scene {
     RolledBack,
     Dropped,
     Full,
+    Crowded,
     Kept,
     AtOnce,
     Moved,
@@ -53,6 +54,7 @@ fn act<N: Named + Send + Sync, R: Threads + Wait + Sync>(
         Scene::RolledBack => rolled_back(rt, alloc, workers, second),
         Scene::Dropped => dropped(rt, workers, second),
         Scene::Full => full(rt, alloc, workers, second),
+        Scene::Crowded => crowded(rt, alloc, workers),
         Scene::Kept => kept(rt, alloc, workers, second),
         Scene::AtOnce => at_once(rt, workers),
         Scene::Moved => moved(rt, alloc, workers, first),
@@ -178,6 +180,12 @@ fn dropped_transactions_take_nothing(rt: HostRuntime) {
 #[test]
 fn held_versions_fill_the_table(rt: HostRuntime) {
     assert!(rt; play(&rt, rt.alloc(), 21, 64, LARGE, Scene::Full) == Some(true));
+}
+
+// The 63 passes beside the writer's are more than 16 chunks have room for versions.
+#[test]
+fn held_versions_fill_a_table_of_sixteen_chunks(rt: HostRuntime) {
+    assert!(rt; play(&rt, rt.alloc(), 16, 64, 4096, Scene::Crowded) == Some(true));
 }
 
 #[test]

@@ -27,12 +27,13 @@ use Rattle.qp_multi.specs.Drafts as drafts
 use Rattle.qp_multi.specs.Drafts.{Begins, IsBack, Works, working_set}
 use Rattle.chunk_usage.specs.Keeping.{kept_versions}
 use Rattle.qp_multi.specs.Keepings.{versions_in}
-use Rattle.zone_edit.specs.Stores.{WorksOnSome, EditsOne}
-use Rattle.zone_edit.specs.Blocks.{Edited, Executes, most_done}
+use Rattle.zone_edit.specs.Stores.{WorksOnSome}
+use Rattle.zone_edit.specs.Blocks.{Edited, EditsInOrder, Executes, done_of}
 use Rattle.zone_edit.specs.declared.applying.Halt.{Halt}
 use Rattle.zone_edit.specs.declared.applying.Halt.TheVariants as halts
 use Rattle.qp_multi.proofs.WorkLaws.{Both, both}
-use Rattle.zone_edit.proofs.EditLaws.{edits_some, some_weaker}
+use Rattle.zone_edit.proofs.EditLaws.{some_weaker}
+use Rattle.zone_edit.proofs.WayLaws.{some_in_order}
 use Rattle.job_commands.specs.Histories.{IsLawful, Setup, StandsAs}
 use Rattle.job_commands.specs.Commands.{Transacts, Accepts, BlockRan, BlockWants, OpensAt, StoppedBy}
 use Rattle.job_commands.proofs.TransactLaws.{begun_some, lawful_block, commits_block, commits_grow, commits_version, back_grows, back_pass, back_version, memory_wants, full_wants, rolled_back, rule_broken, spent_block, full_block}
@@ -41,7 +42,7 @@ abbrev Seat : Type 0
 Seat = PassSeat (List Entry) (List Operation)
 
 abbrev EditedOne : Name → Transaction → Result (Unit {0}) Halt → Draft → Draft → Type 0
-EditedOne origin asked r = EditsOne (most_done asked.operations r) (Executes origin asked r)
+EditedOne origin asked r = EditsInOrder origin (done_of asked.operations r) (Executes origin asked r)
 
 there_is : (P : Draft → Type 0) (o : Option Draft) (d : Draft) → o ≡ Some d → IfSome o P → P d
 there_is P o d is h = subst (λ (x : Option Draft). IfSome x P) is h
@@ -57,9 +58,9 @@ module _ (s : Setup) (asked : Transaction) (ends : Ending) (old : Known) (o : Ou
       let c = there_is (λ d. drafts.Commits d.seat.place.me.0 d.log.operations new) second x.after x.new_is commits in
       let v = there_is (λ d. version ≡ d.seat.version + 1) second x.after x.new_is next in
       record {
-        grows = commits_grow s asked old x.before x.after x.met told opening x.related.known new c;
-        version = here ∙ commits_version s asked old x.before x.after x.met told opening x.related.known new version c v;
-        transacts = subst (Transacts s asked ends old new) (sym said) (is, commits_block s asked old x.before x.after x.met told opening x.related.known new x.related.few x.related.becomes c);
+        grows = commits_grow s asked old x.before x.after x.met told opening x.related.edits.known new c;
+        version = here ∙ commits_version s asked old x.before x.after x.met told opening x.related.edits.known new version c v;
+        transacts = subst (Transacts s asked ends old new) (sym said) (is, commits_block s asked old x.before x.after x.met told opening x.related.edits.known new x.related c);
       }
 
   -- the pass is back, and the block was on the base
@@ -75,34 +76,34 @@ module _ (s : Setup) (asked : Transaction) (ends : Ending) (old : Known) (o : Ou
 
     ran : (r : Result (Unit {0}) Halt) (x : Two r) (e : Ended) → ended_view o.told ≡ e → Transacts s asked ends old (known_at seat) e → BlockRan s asked ends old (known_at seat) o
     ran r x e said t = record {
-      grows = back_grows s asked old x.before x.after x.met told opening x.related.known (known_at seat) (known_back r x);
-      version = here ∙ back_version s asked old x.before x.after x.met told opening x.related.known (known_at seat) (known_back r x) version (there_is (λ d. version ≡ length d.seat.place.me.0.seen.history) first x.before x.old_is base);
+      grows = back_grows s asked old x.before x.after x.met told opening x.related.edits.known (known_at seat) (known_back r x);
+      version = here ∙ back_version s asked old x.before x.after x.met told opening x.related.edits.known (known_at seat) (known_back r x) version (there_is (λ d. version ≡ length d.seat.place.me.0.seen.history) first x.before x.old_is base);
       transacts = subst (Transacts s asked ends old (known_at seat)) (sym said) t;
     }
 
     pub rollback_ran : Done (Ok tt) → ends ≡ ending.Rollback → ended_view o.told ≡ RolledBack → BlockRan s asked ends old (known_at seat) o
     rollback_ran edits is said =
         let x = two (Ok tt) edits in
-        ran (Ok tt) x RolledBack said (rolled_back s asked old x.before x.after x.met told opening x.related.known (known_at seat) (known_back (Ok tt) x) ends is x.related.becomes)
+        ran (Ok tt) x RolledBack said (rolled_back s asked old x.before x.after x.met told opening x.related.edits.known (known_at seat) (known_back (Ok tt) x) ends is x.related.edits.becomes)
 
     pub spent_ran : Done (Ok tt) → ends ≡ ending.Commit → IfSome second (λ d. d.seat.version ≡ last_version) → ended_view o.told ≡ Refused Spent → BlockRan s asked ends old (known_at seat) o
     spent_ran edits is spent said =
         let x = two (Ok tt) edits in
-        ran (Ok tt) x (Refused Spent) said (spent_block s asked old x.before x.after x.met told opening x.related.known (known_at seat) (known_back (Ok tt) x) ends is (there_is (λ d. d.seat.version ≡ last_version) second x.after x.new_is spent) x.related.becomes)
+        ran (Ok tt) x (Refused Spent) said (spent_block s asked old x.before x.after x.met told opening x.related.edits.known (known_at seat) (known_back (Ok tt) x) ends is (there_is (λ d. d.seat.version ≡ last_version) second x.after x.new_is spent) x.related.edits.becomes)
 
     pub refused_ran : (refusal : Refusal) → Done (Err (halts.Refused refusal)) → ended_view o.told ≡ Refused (Rule refusal) → BlockRan s asked ends old (known_at seat) o
     refused_ran refusal edits said =
         let x = two (Err (halts.Refused refusal)) edits in
-        ran (Err (halts.Refused refusal)) x (Refused (Rule refusal)) said (rule_broken s asked old x.before x.after x.met told opening x.related.known (known_at seat) (known_back (Err (halts.Refused refusal)) x) ends refusal x.related.becomes)
+        ran (Err (halts.Refused refusal)) x (Refused (Rule refusal)) said (rule_broken s asked old x.before x.after x.met told opening x.related.edits.known (known_at seat) (known_back (Err (halts.Refused refusal)) x) ends refusal x.related.edits.becomes)
 
     pub full_ran : (operation : ℕ) (kept : Versions) → IfSome second (λ d. versions_in kept ≡ kept_versions d.usage) → Done (Err (halts.Full operation)) → IfSome second (λ d. s.chunks ≡ length d.usage.given) → IfSome first (λ d. s.passes ≡ d.seat.passes)
         → ended_view o.told ≡ Refused (Full operation (versions_in kept)) → BlockRan s asked ends old (known_at seat) o
     full_ran operation kept same edits chunks passes said =
         let x = two (Err (halts.Full operation)) edits in
         ran (Err (halts.Full operation)) x (Refused (Full operation (versions_in kept))) said
-        (full_block s asked old x.before x.after x.met told opening x.related.known (known_at seat) (known_back (Err (halts.Full operation)) x) ends operation kept (there_is (λ d. versions_in kept ≡ kept_versions d.usage) second x.after x.new_is same)
+        (full_block s asked old x.before x.after x.met told opening x.related.edits.known (known_at seat) (known_back (Err (halts.Full operation)) x) ends operation kept (there_is (λ d. versions_in kept ≡ kept_versions d.usage) second x.after x.new_is same)
         (there_is (λ d. s.chunks ≡ length d.usage.given) second x.after x.new_is chunks)
-        (there_is (λ d. s.passes ≡ d.seat.passes) first x.before x.old_is passes ∙ sym x.related.passes) x.related.few x.related.becomes)
+        (there_is (λ d. s.passes ≡ d.seat.passes) first x.before x.old_is passes ∙ sym x.related.edits.passes) x.related)
 
   -- it was to be committed
   pub committed_ran : (seat : Option Seat) (r : Result Receipt NoNumber) → Done (Ok tt) → ends ≡ ending.Commit
@@ -113,7 +114,7 @@ module _ (s : Setup) (asked : Transaction) (ends : Ending) (old : Known) (o : Ou
   committed_ran seat (Err t) edits is commits next back spent last made lost =
       let x = both (Begins IsLawful old) (EditedOne s.origin asked (Ok tt)) first second begins edits in
       let number : t.version ≡ x.after.seat.version = there_is (λ d. t.version ≡ d.seat.version) second x.after x.new_is last in
-      let history : length x.after.seat.place.me.0.seen.history ≡ length x.before.seat.place.me.0.seen.history = ap length x.related.known.history in
+      let history : length x.after.seat.place.me.0.seen.history ≡ length x.before.seat.place.me.0.seen.history = ap length x.related.edits.known.history in
       let base : t.version ≡ length x.before.seat.place.me.0.seen.history = number ∙ x.after.seat.version_is ∙ history in
       let none = there_is (λ d. IsErr {T = Receipt} (Err t) ↔ (d.seat.version ≡ last_version)) second x.after x.new_is spent in
       spent_ran seat t.version back (subst (λ (d : Option Draft). IfSome d (λ d. t.version ≡ length d.seat.place.me.0.seen.history)) (sym x.old_is) base) lost.0 edits is
@@ -142,8 +143,8 @@ module _ (s : Setup) (asked : Transaction) (old : Known) (first second : Option 
 
   wants : (halt : Halt) (x : Drafts halt) → ((zone : Version) → StandsAs (version_seen (known_at seat).seen) zone → Accepts s.origin asked zone) → BlockWants s asked old (known_at seat)
   wants halt x accepts = record {
-    grows = back_grows s asked old x.before x.after x.met told opening x.related.known (known_at seat) (back_from halt x);
-    pass = back_pass s asked old x.before x.after x.met told opening x.related.known (known_at seat) (back_from halt x);
+    grows = back_grows s asked old x.before x.after x.met told opening x.related.edits.known (known_at seat) (back_from halt x);
+    pass = back_pass s asked old x.before x.after x.met told opening x.related.edits.known (known_at seat) (back_from halt x);
     accepts = accepts;
   }
 
@@ -151,11 +152,11 @@ module _ (s : Setup) (asked : Transaction) (old : Known) (first second : Option 
   stopped_wants version halt kept (Ok o) edits stopped = tt
   stopped_wants version halts.Memory kept (Err e) edits stopped =
       let x = both (Begins IsLawful old) (EditedOne s.origin asked (Err halts.Memory)) first second begins edits in
-      wants halts.Memory x (memory_wants s asked old x.before x.after x.met told opening x.related.known (known_at seat) (back_from halts.Memory x) x.related.becomes)
+      wants halts.Memory x (memory_wants s asked old x.before x.after x.met told opening x.related.edits.known (known_at seat) (back_from halts.Memory x) x.related.edits.becomes)
   stopped_wants version (halts.Refused refusal) kept (Err e) edits stopped = absurd stopped
   stopped_wants version (halts.Full operation) kept (Err e) edits stopped =
       let x = both (Begins IsLawful old) (EditedOne s.origin asked (Err (halts.Full operation))) first second begins edits in
-      wants (halts.Full operation) x (full_wants s asked old x.before x.after x.met told opening x.related.known (known_at seat) (back_from (halts.Full operation) x) operation x.related.becomes)
+      wants (halts.Full operation) x (full_wants s asked old x.before x.after x.met told opening x.related.edits.known (known_at seat) (back_from (halts.Full operation) x) operation x.related.edits.becomes)
 
 -- the same of a pass that is known by another name
 
@@ -183,7 +184,7 @@ module _ (old : Known) (first : Option Draft) (begins : IsSomeAnd first (Begins 
 
   module _ (origin : Name) (asked : Transaction) (second : Option Draft) (edits : Edited origin asked (Ok tt) first second) where
     works_still : IsSomeAnd second WorksOnSome
-    works_still = edits_some (most_done asked.operations (Ok tt)) (Executes origin asked (Ok tt)) first second begun_works (λ version e a. record { version = a.0; on = a.2 }) edits
+    works_still = some_in_order origin asked.operations (Executes origin asked (Ok tt)) first second begun_works (λ version e a. record { version = a.0; on = a.2 }) edits
 
     pub after_works : IsSomeAnd second Works
     after_works = some_weaker WorksOnSome Works second (λ d w. w.on.works) works_still
@@ -191,7 +192,7 @@ module _ (old : Known) (first : Option Draft) (begins : IsSomeAnd first (Begins 
     pub after_lawful : is_told old.seen.opening ≡ true → OpensAt origin old → AllSaid origin asked → IsSomeAnd second (λ d. IsLawful (first_version d.seat.place.me.0.seen) (working_set d))
     after_lawful told opens said =
         let x = both (Begins IsLawful old) (EditedOne origin asked (Ok tt)) first second begins edits in
-        subst (λ (o : Option Draft). IsSomeAnd o (λ d. IsLawful (first_version d.seat.place.me.0.seen) (working_set d))) (sym x.new_is) (lawful_block origin asked old x.before x.after x.met told opens said x.related.known x.related.becomes)
+        subst (λ (o : Option Draft). IsSomeAnd o (λ d. IsLawful (first_version d.seat.place.me.0.seen) (working_set d))) (sym x.new_is) (lawful_block origin asked old x.before x.after x.met told opens said x.related.edits.known x.related.edits.becomes)
 
 -- what was edited, in the words of a setup
 pub edits_as : (origin origin' : Name) (asked asked' : Transaction) (r : Result (Unit {0}) Halt) (first second : Option Draft) → origin' ≡ origin → asked ≡ asked' → Edited origin asked r first second → Edited origin' asked' r first second

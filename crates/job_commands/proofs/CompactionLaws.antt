@@ -18,6 +18,7 @@ use Rattle.qp_multi.specs.Compactions.{Compacts, IsLast}
 use Rattle.qp_multi.specs.Keepings.{GoesOn}
 use Rattle.qp_multi.specs.Passes.{Known, known_at, first_version}
 use Rattle.zone_edit.specs.Blocks.{Edited}
+use Rattle.zone_edit.proofs.WayLaws.{at_end}
 use Rattle.job_commands.specs.Histories.{IsLawful, Setup}
 use Rattle.job_commands.specs.Commands.{BlockRan}
 use Rattle.job_commands.proofs.BlockLaws.{commit_ran, spent_ran}
@@ -27,7 +28,10 @@ stays_so v = record { pass = refl; opening = refl; history = refl; namings = ([]
 
 -- nothing was done
 edits_none : (s : Setup) (d : Draft) → Edited s.origin no_changes (Ok tt) (Some d) (Some d)
-edits_none s d = record { known = stays_so d.seat.place.me.0; passes = refl; few = omega arith; becomes = λ version on. (version, refl, on) }
+edits_none s d = record {
+  edits = record { known = stays_so d.seat.place.me.0; passes = refl; log = ([], sym (append-nil d.log.operations)); few = omega arith; becomes = λ version on. (version, refl, on) };
+  ways = λ version on n le. at_end s.origin [] version version d n refl on le;
+}
 
 pub compaction_ran : (s : Setup) (old : Known) (o : Outcome) → is_told old.seen.opening ≡ true → first_version old.seen ≡ s.opening → (seat : Option (PassSeat (List Entry) (List Operation))) → IsSome seat → (table : TableId) (passes : ℕ) (r : Result Receipt NoNumber)
     → IfOk r (Compacts IsLawful table passes old (known_at seat)) → IfOk r (λ t. t.version ≢ last_version + 1) → IfErr r (IsLast IsLawful old (known_at seat)) → IfErr r (λ t. t.version ≡ last_version)

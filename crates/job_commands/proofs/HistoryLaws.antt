@@ -35,14 +35,16 @@ begins_other (z ∷ all) (x ∷ xs) (y ∷ ys) a b le =
     let rest = begins_other all xs ys (a.0, one) (b.0, two) (omega arith) in
     (rest.0, ap (λ (x' : _). x' ∷ ys) (sym head) ∙ ap (λ (l : List _). x ∷ l) rest.1)
 
--- the last commit, by its number
-pub last_commit : (base before : List Commit) (x e : Commit) → StartsWith (base ++ x ∷ []) (before ++ e ∷ []) → length before ≡ length base → x ≡ e
-last_commit [] [] x e b same = let h : x ∷ [] ≡ e ∷ b.0 = b.1 in cc
+-- the last commit and its base, by its number
+pub last_commit : (base before : List Commit) (x e : Commit) → StartsWith (base ++ x ∷ []) (before ++ e ∷ []) → length before ≡ length base → (base ≡ before) × (x ≡ e)
+last_commit [] [] x e b same = (refl, (let h : x ∷ [] ≡ e ∷ b.0 = b.1 in cc))
 last_commit [] (y ∷ before) x e b same = absurd (omega (arith, same))
 last_commit (y ∷ base) [] x e b same = absurd (omega (arith, same))
 last_commit (y ∷ base) (z ∷ before) x e b same =
     let rest : base ++ x ∷ [] ≡ (before ++ e ∷ []) ++ b.0 = (let h : y ∷ (base ++ x ∷ []) ≡ z ∷ ((before ++ e ∷ []) ++ b.0) = b.1 in cc) in
-    last_commit base before x e (b.0, rest) (omega (arith, same))
+    let head : y ≡ z = (let h : y ∷ (base ++ x ∷ []) ≡ z ∷ ((before ++ e ∷ []) ++ b.0) = b.1 in cc) in
+    let further = last_commit base before x e (b.0, rest) (omega (arith, same)) in
+    (ap (λ (l : List Commit). y ∷ l) further.0 ∙ ap (λ (c : Commit). c ∷ before) head, further.1)
 
 -- ---- versions by their numbers
 
@@ -64,8 +66,8 @@ last_stands s all part set v b e are =
     let le : v ≤ length part = omega arith in
     subst (λ (es : Entries). StandsAs es (set v)) (index_last s.opening part v e) (versions_front s all part set b are v le)
 
-pub explains_front : (deeds : Deeds) (all part : Sighting) → IsPartOf all part → Explains deeds all → Explains deeds part
-explains_front deeds all part p x = record {
+pub explains_front : (s : Setup) (deeds : Deeds) (all part : Sighting) → IsPartOf all part → Explains s deeds all → Explains s deeds part
+explains_front s deeds all part p x = record {
   namings = λ n here below.
       let long = begins_length all.history part.history p.history in
       let more : n.version < length all.history = omega (arith, below, long) in

@@ -17,7 +17,7 @@ use Rattle.shared_cells.specs.History.{StartsWith, entries_by, version_after}
 use Rattle.shared_cells.specs.Views.{number_of}
 use Rattle.qp_multi.specs.Operations.{applied}
 use Rattle.qp_multi.specs.Passes.{Known}
-use Rattle.job_commands.specs.Histories.{Setup, Commit, Entries, index_at, StandsAs, AreVersions, AreAsked, Deeds, Explains, judged_by, times_by}
+use Rattle.job_commands.specs.Histories.{Setup, Commit, Entries, index_at, StandsAs, AreVersions, AreAsked, Deeds, Explains, IsAsked, judged_by, times_by}
 use Rattle.job_commands.specs.Works.{Replayed}
 use Rattle.job_commands.specs.Closings.{Some', AreApart, Worker, second_view, workers_views, views_of, numbers_in, commands_in, outcomes_in, IsPass, Closed, MainSees}
 use Rattle.job_commands.specs.Runs.{IsRun}
@@ -319,31 +319,31 @@ module _ (s : Setup) (history : List Commit) (namings : List Naming) (main : Kno
 
   -- ---- commits do what was asked for
 
-  asked_short : (j : ℕ) (before : List Commit) (e : Commit) (pairs : Pairs) → StartsWith history (before ++ e ∷ []) → length before + 1 ≡ j → times_made j pairs ≡ 1 → AllByRecursion (Replayed s history) pairs → length e.change ≤ length (asked_at j pairs).operations
-  asked_short j before e [] begins numbered once r = absurd cc
-  asked_short j before e (p ∷ pairs) begins numbered once r = by_made (λ fewer. asked_short j before e pairs begins numbered fewer r.1) (made j p) refl
+  each_asked : (j : ℕ) (before : List Commit) (e : Commit) (pairs : Pairs) → StartsWith history (before ++ e ∷ []) → length before + 1 ≡ j → times_made j pairs ≡ 1 → AllByRecursion (Replayed s history) pairs → IsAsked s (asked_at j pairs) before e.change
+  each_asked j before e [] begins numbered once r = absurd cc
+  each_asked j before e (p ∷ pairs) begins numbered once r = by_made (λ fewer. each_asked j before e pairs begins numbered fewer r.1) (made j p) refl
     where
-      by_made : (times_made j pairs ≡ 1 → length e.change ≤ length (asked_at j pairs).operations) → (t : Bool) → made j p ≡ t → length e.change ≤ length (asked_at j (p ∷ pairs)).operations
+      by_made : (times_made j pairs ≡ 1 → IsAsked s (asked_at j pairs) before e.change) → (t : Bool) → made j p ≡ t → IsAsked s (asked_at j (p ∷ pairs)) before e.change
       by_made rest true is =
           let both = is_both (is_committed p.1.ended) (eqb p.1.version j) is in
           let same : p.1.version ≡ j = (let t : eqb p.1.version j ≡ true = both.1 in grind (arith, nat_tests)) in
-          subst (λ (t : Bool). length e.change ≤ length (cond t (asked_by p.0) (asked_at j pairs)).operations) (sym is) ((r.0 both.0).1 before e begins (numbered ∙ sym same))
+          subst (λ (t : Bool). IsAsked s (cond t (asked_by p.0) (asked_at j pairs)) before e.change) (sym is) ((r.0 both.0).1 before e begins (numbered ∙ sym same))
       by_made rest false is =
           let fewer : times_made j pairs ≡ 1 = sym (ap (λ (t : Bool). cond t 1 0 + times_made j pairs) is ∙ (let z : 0 + times_made j pairs ≡ times_made j pairs = omega arith in z)) ∙ once in
-          subst (λ (t : Bool). length e.change ≤ length (cond t (asked_by p.0) (asked_at j pairs)).operations) (sym is) (rest fewer)
+          subst (λ (t : Bool). IsAsked s (cond t (asked_by p.0) (asked_at j pairs)) before e.change) (sym is) (rest fewer)
 
-  all_asked : (pairs : Pairs) → AllByRecursion (Replayed s history) pairs → ((j : ℕ) → 0 < j → j ≤ length history → times_made j pairs ≡ 1) → AreAsked (λ j. asked_at j pairs) history
+  all_asked : (pairs : Pairs) → AllByRecursion (Replayed s history) pairs → ((j : ℕ) → 0 < j → j ≤ length history → times_made j pairs ≡ 1) → AreAsked s (λ j. asked_at j pairs) history
   all_asked pairs r once before e begins =
       let long = begins_length history (before ++ e ∷ []) begins in
-      asked_short (length before + 1) before e pairs begins refl (once (length before + 1) (omega arith) (omega (arith, long, length-append before (e ∷ [])))) r
+      each_asked (length before + 1) before e pairs begins refl (once (length before + 1) (omega arith) (omega (arith, long, length-append before (e ∷ [])))) r
 
   -- ---- all are lawful
 
   -- the whole history, and all namings
   abbrev ExplainsAll : Deeds → Type 0
-  ExplainsAll deeds = ((n : Naming) → Contains namings n → n.version < length history → Contains deeds.shown n.version) × AreAsked deeds.made_by history
+  ExplainsAll deeds = ((n : Naming) → Contains namings n → n.version < length history → Contains deeds.shown n.version) × AreAsked s deeds.made_by history
 
-  explains_each : (deeds : Deeds) (v : Known) → ExplainsAll deeds → Sees v → StartsWith namings v.seen.namings → Explains deeds v.seen
+  explains_each : (deeds : Deeds) (v : Known) → ExplainsAll deeds → Sees v → StartsWith namings v.seen.namings → Explains s deeds v.seen
   explains_each deeds v x b names = record {
     namings = λ n inside below.
         let long = begins_length history v.seen.history b in

@@ -104,7 +104,7 @@ module _ (s : Setup) (o : Outcome) (old new : Station) (opened : first_version o
     -- what a step is that leaves the second pass alone, whatever is told of it
     record Rest (c : Command) : Type 0 where
       asks : IsPartOf new.asks.seen old.asks.seen
-      ends : (sight : Sight) → IsSight old sight → (set : ℕ → Version) (deeds : Deeds) → AreVersions s new.asks.seen.history set → Explains deeds new.asks.seen
+      ends : (sight : Sight) → IsSight old sight → (set : ℕ → Version) (deeds : Deeds) → AreVersions s new.asks.seen.history set → Explains s deeds new.asks.seen
           → EndsLawfully (judged_by s set deeds) sight c o.version (ended_view o.told)
       below : o.version ≤ length new.asks.seen.history
       holding : (sight : Sight) → IsSight old sight → IsSight new (sight_after sight c o.version)
@@ -156,7 +156,7 @@ module _ (s : Setup) (o : Outcome) (old new : Station) (opened : first_version o
         stands_at : (set : ℕ → Version) → AreVersions s new.asks.seen.history set → StandsAs (version_seen new.asks.seen) (set o.version)
         stands_at set are = seen_stands s set new.asks new.asks o.version opened_now (begins_same new.asks.seen.history) b.version are
 
-        by_end : (sight : Sight) → IsSight old sight → (set : ℕ → Version) (deeds : Deeds) → AreVersions s new.asks.seen.history set → Explains deeds new.asks.seen → (e : Ended) → Transacts s asked ending old.asks new.asks e → BlockEnds (judged_by s set deeds) sight.seen asked ending o.version e
+        by_end : (sight : Sight) → IsSight old sight → (set : ℕ → Version) (deeds : Deeds) → AreVersions s new.asks.seen.history set → Explains s deeds new.asks.seen → (e : Ended) → Transacts s asked ending old.asks new.asks e → BlockEnds (judged_by s set deeds) sight.seen asked ending o.version e
         by_end sight is' set deeds are explains Shown t = t
         by_end sight is' set deeds are explains Committed t =
             let c = t.1 own is in
@@ -189,7 +189,7 @@ module _ (s : Setup) (o : Outcome) (old new : Station) (opened : first_version o
               operations = c.changes;
               before = c.before;
               mine = c.mine;
-              short = c.short;
+              does = c.does;
               history = c.history;
               pass = c.pass;
               numbered = b.version ∙ longer;
@@ -218,7 +218,7 @@ module _ (s : Setup) (o : Outcome) (old new : Station) (opened : first_version o
 
         writes_as : (own' : Own) (c : Bool) → Writes s own' (Block Heavy no_changes Commit) o.version c old.asks new.asks → Writes s own' Compact o.version c old.asks new.asks
         writes_as own' false y = stays_as own' new.asks y
-        writes_as own' true y = record { base = y.base; operations = y.operations; before = y.before; mine = y.mine; short = y.short; history = y.history; pass = y.pass; numbered = y.numbered; makes = y.makes }
+        writes_as own' true y = record { base = y.base; operations = y.operations; before = y.before; mine = y.mine; does = y.does; history = y.history; pass = y.pass; numbered = y.numbered; makes = y.makes }
 
 -- a pass has seen what it has seen
 pub under_itself : (v : Known) → IsUnder v v

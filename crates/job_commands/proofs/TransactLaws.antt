@@ -1,22 +1,23 @@
 -- What a transaction makes of a block, by its drafts.
-use Rattle.std.proofs.Common.{◌≡◌, ◌∙◌, ◌⊎◌, ⊎_elim, ℕ, suc, ◌+◌, ◌-◌, ◌/◌, ◌<◌, ◌≤◌, true, List, [], ◌∷◌, ◌++◌, length, take, get_or, Option, Some, None, Result, Ok, Err, refl, sym, ap, subst, arith, length-append}
+use Rattle.std.proofs.Common.{◌≡◌, ◌∙◌, ◌⊎◌, ⊎_elim, ℕ, suc, ◌+◌, ◌-◌, ◌*◌, ◌/◌, ◌<◌, ◌≤◌, true, List, [], ◌∷◌, ◌++◌, length, take, get_or, Option, Some, None, Result, Ok, Err, refl, sym, ap, subst, arith, length-append}
 use Rattle.std.specs.Prelude.{Contains, IsOk, unwrap_or}
 use Rattle.std.specs.List.{AllByRecursion, AllPairs}
 use Rattle.std.specs.List.Sorted.{IsStrictlySortedBy}
 use Rattle.std.specs.Ordering.{nat_cmp}
 use Rattle.std.specs.declared.cmp.Ordering.TheVariants.{Less}
 use Rattle.std.proofs.lemmas.Bool.Decides.{nat_tests}
+use Rattle.std.proofs.lemmas.List.{take_all, take-append-le}
 use Rattle.std.proofs.lemmas.List.Sums.{fold-append, sum_by-cons}
 use Rattle.std.proofs.lemmas.List.Elements.{Contains-append_left}
 use Rattle.zone_model.specs.Names.{Name}
-use Rattle.zone_model.specs.Versions.{Version, apply, all_applied, Operation as Said}
+use Rattle.zone_model.specs.Versions.{Version, owner_of, apply, all_applied, Operation as Said}
 use Rattle.zone_model.specs.Transactions.{Transaction, all_met, whole}
 use Rattle.zone_model.specs.declared.Refusal.{Refusal}
 use Rattle.trie_model.specs.Shape.{cells}
 use Rattle.job_model.specs.declared.Ending.{Ending}
 use Rattle.job_model.specs.declared.Ending.TheVariants as ending
-use Rattle.job_model.specs.Sizes.{cell_count, trie_entries}
-use Rattle.job_model.specs.Outcomes.{BoundsVersions, Cause, Rule, Full, Spent, Causes, FullCause, cells_kept, last_version}
+use Rattle.job_model.specs.Sizes.{cell_count, cells_asked, trie_entries}
+use Rattle.job_model.specs.Outcomes.{BoundsSets, BoundsVersions, Cause, Rule, Full, Spent, Causes, FullCause, cells_kept, last_version}
 use Rattle.report_laws.specs.Changes.{AllSaid}
 use Rattle.report_laws.proofs.ChangeLemmas.{whole_dumped}
 use Rattle.shared_cells.specs.declared.view.PassView.{PassView}
@@ -34,14 +35,17 @@ use Rattle.qp_multi.specs.Fulls.{version_at}
 use Rattle.qp_multi.specs.Fulls as fulls
 use Rattle.qp_multi.specs.Keepings.{GoesOn, versions_in}
 use Rattle.zone_edit.specs.Stores.{WorksOn, WorksOnSome}
-use Rattle.zone_edit.specs.Blocks.{Executes, IsFullAt}
+use Rattle.zone_edit.specs.Ways.{MadeOnTheWay}
+use Rattle.zone_edit.specs.Blocks.{EditsInOrder, Executes, IsFullAt}
 use Rattle.zone_edit.proofs.ApplyLaws.{next_applied}
 use Rattle.trie_model.specs.Capacity.{is_roomy}
 use Rattle.chunk_usage.specs.Keeping.{kept_versions}
 use Rattle.pin_core.proofs.Lists.{contains_cases}
 use Rattle.qp_multi.specs.Capacity.{BoundsHistory}
+use Rattle.qp_multi.specs.Crowds.{BoundsWays}
+use Rattle.qp_multi.proofs.GoesLaws.{base_goes_on}
 use Rattle.zone_edit.specs.declared.applying.Halt.TheVariants as halts
-use Rattle.job_commands.specs.Histories.{Setup, BeginsAt, Commit, Entries, IsLawful, StandsAs, AreVersions, Deeds, Explains, index_at, judged_by}
+use Rattle.job_commands.specs.Histories.{Setup, BeginsAt, Commit, Entries, IsLawful, StandsAs, AreVersions, Deeds, Explains, IsAsked, index_at, judged_by}
 use Rattle.job_commands.specs.Commands.{Accepts, Commits, OpensAt}
 use Rattle.job_commands.proofs.HistoryLaws.{begins_same, begins_length, begins_more, index_front, index_last, last_stands, opened_same, part_more}
 use Rattle.job_commands.proofs.JobLaws.{here, there}
@@ -126,6 +130,12 @@ commit_in (y ∷ history) x c = ⊎_elim
     further : CommitIn history x → CommitIn (y ∷ history) x
     further r = record { before = y ∷ r.before; begins = (r.begins.0, ap (λ (h : List Commit). y ∷ h) r.begins.1) }
 
+-- the operations in front of one
+taken : (front : List Said) (one : Said) (back all : List Said) (number : ℕ) → all ≡ front ++ one ∷ back → number ≡ length front + 1 → take (number - 1) all ≡ front
+taken front one back all number is place =
+    let before : number - 1 ≡ length front = omega (arith, place) in
+    ap (take (number - 1)) is ∙ ap (λ (n : ℕ). take n (front ++ one ∷ back)) before ∙ take-append-le (length front) front (one ∷ back) (omega arith) ∙ take_all (length front) front (omega arith)
+
 module _ (s : Setup) (asked : Transaction) (old : Known) (d e : Draft) (b : Begins IsLawful old d) (told : is_told old.seen.opening ≡ true) (opening : first_version old.seen ≡ s.opening) (known : GoesOn d.seat.place.me.0 e.seat.place.me.0) where
   base_opening : first_version d.seat.place.me.0.seen ≡ s.opening
   base_opening = opened_same d.seat.place.me.0.seen old.seen told b.joined.grows ∙ opening
@@ -148,8 +158,20 @@ module _ (s : Setup) (asked : Transaction) (old : Known) (d e : Draft) (b : Begi
 
   -- ---- committed
 
-  pub commits_block : (new : Known) → length e.log.operations ≤ length d.log.operations + length asked.operations → ((version : Version) → WorksOn d version → Executes s.origin asked (Ok tt) version e) → drafts.Commits e.seat.place.me.0 e.log.operations new → (own : Own) → old.pass ≡ Some own → Commits s asked own old new
-  commits_block new few becomes c own is =
+  -- what was done to the base
+  base_set : base_of e ≡ version_after applied s.opening d.seat.place.me.0.seen.history
+  base_set = base_goes_on known ∙ ap (λ (o : Entries). version_after applied o d.seat.place.me.0.seen.history) base_opening
+
+  does_asked : EditsInOrder s.origin asked.operations (Executes s.origin asked (Ok tt)) d e → IsAsked s asked d.seat.place.me.0.seen.history e.log.operations
+  does_asked r = record {
+    short = (let few = r.edits.few in omega (arith, few, ap (λ (os : List Operation). length os) b.none_done));
+    ways = λ zone stands n.
+        let begun : length d.log.operations ≤ n = omega (arith, ap (λ (os : List Operation). length os) b.none_done) in
+        subst (λ (es : Entries). MadeOnTheWay s.origin asked.operations zone (applied es (take n e.log.operations))) base_set (r.ways zone (works_at zone stands) n begun);
+  }
+
+  pub commits_block : (new : Known) → EditsInOrder s.origin asked.operations (Executes s.origin asked (Ok tt)) d e → drafts.Commits e.seat.place.me.0 e.log.operations new → (own : Own) → old.pass ≡ Some own → Commits s asked own old new
+  commits_block new r c own is =
       let mine : d.seat.place.me.0.pass ≡ Some own = b.joined.pass ∙ is in
       let both : ◌≡◌ {A = Option Own} (Some c.own) (Some own) = sym c.joined ∙ known.pass ∙ mine in
       let one : c.own ≡ own = cc in
@@ -160,11 +182,11 @@ module _ (s : Setup) (asked : Transaction) (old : Known) (d e : Draft) (b : Begi
         changes = e.log.operations;
         before = b.joined.grows.history;
         mine = b.joined.commits own mine;
-        short = omega (arith, few, ap (λ (os : List Operation). length os) b.none_done);
+        does = does_asked r;
         history = history;
         pass = c.pass ∙ ap (λ (o : Own). Some (record o { entries = o.entries ++ entry_of o.number e.log.operations ∷ [] })) one;
         makes = λ zone stands.
-            let made = becomes zone (works_at zone stands) in
+            let made = r.edits.becomes zone (works_at zone stands) in
             let set : version_after applied s.opening new.seen.history ≡ working_set e =
             ap (version_after applied s.opening) history
             ∙ fold-append (λ (es : Entries) (x : Commit). applied es x.change) s.opening d.seat.place.me.0.seen.history (entry_of own.number e.log.operations ∷ [])
@@ -226,7 +248,7 @@ module _ (s : Setup) (asked : Transaction) (old : Known) (d e : Draft) (b : Begi
 
     abbrev RefusedBlock : Ending → Cause → Type 0
     RefusedBlock ends cause = (new.pass ≡ old.pass)
-        × ((set : ℕ → Version) (deeds : Deeds) → AreVersions s new.seen.history set → Explains deeds new.seen → Causes (judged_by s set deeds) asked ends (length new.seen.history) cause)
+        × ((set : ℕ → Version) (deeds : Deeds) → AreVersions s new.seen.history set → Explains s deeds new.seen → Causes (judged_by s set deeds) asked ends (length new.seen.history) cause)
 
     pub rule_broken : (ends : Ending) (refusal : Refusal) → ((version : Version) → WorksOn d version → Executes s.origin asked (Err (halts.Refused refusal)) version e) → RefusedBlock ends (Rule refusal)
     rule_broken ends refusal becomes = (back_pass, λ set deeds are explains. becomes (set (length new.seen.history)) (works_set set (length new.seen.history) refl are))
@@ -265,7 +287,7 @@ module _ (s : Setup) (asked : Transaction) (old : Known) (d e : Draft) (b : Begi
         ∙ ap (λ (es : Entries). cells es + fulls.cells_kept e.seat.place.me.0 numbers) same ∙ ap (λ (k : ℕ). cell_count (set n) + k) (kept_cells set are numbers low.1)
 
     -- numbers that bound the versions bound what was published
-    bounds_of : (set : ℕ → Version) (deeds : Deeds) (most_cells most_operations : ℕ) → AreVersions s new.seen.history set → Explains deeds new.seen → BoundsVersions (judged_by s set deeds) (length new.seen.history) most_cells most_operations → BoundsHistory most_cells most_operations new.seen
+    bounds_of : (set : ℕ → Version) (deeds : Deeds) (most_cells most_operations : ℕ) → AreVersions s new.seen.history set → Explains s deeds new.seen → BoundsVersions (judged_by s set deeds) (length new.seen.history) most_cells most_operations → BoundsHistory most_cells most_operations new.seen
     bounds_of set deeds most_cells most_operations are explains bounds = record {
       versions = λ part begins.
           let le = begins_length new.seen.history part begins in
@@ -277,21 +299,47 @@ module _ (s : Setup) (asked : Transaction) (old : Known) (d e : Draft) (b : Begi
       commits = λ x inside.
           let at = commit_in new.seen.history x inside in
           let le = begins_length new.seen.history (at.before ++ x ∷ []) at.begins in
-          let short = explains.commits at.before x at.begins in
+          let short = (explains.commits at.before x at.begins).short in
           let few = bounds.operations (length at.before + 1) (omega arith) (omega (arith, le, length-append at.before (x ∷ []))) in
           omega (arith, short, few);
     }
 
-    pub full_block : (ends : Ending) (operation : ℕ) (kept : Versions) → versions_in kept ≡ kept_versions e.usage → s.chunks ≡ length e.usage.given → s.passes ≡ e.seat.passes → length e.log.operations ≤ length d.log.operations + (operation - 1)
-        → ((version : Version) → WorksOn d version → Executes s.origin asked (Err (halts.Full operation)) version e) → RefusedBlock ends (Full operation (versions_in kept))
-    full_block ends operation kept told chunks passes fewer becomes = (back_pass, λ set deeds are explains. cause set deeds are explains)
+    -- ---- sets on the way
+
+    -- cells that bound the sets of the versions up to the base bound those of what was published
+
+    first_within : (set : ℕ → Version) (most : ℕ) → AreVersions s new.seen.history set → cell_count (set 0) ≤ most → cells (first_version new.seen) ≤ most
+    first_within set most are le = subst (λ (es : Entries). cells es ≤ most) ((are 0 (omega arith)).entries ∙ sym opening_back) le
+
+    ways_within : (set : ℕ → Version) (deeds : Deeds) (front : List Said) (most : ℕ) → AreVersions s new.seen.history set → Explains s deeds new.seen → BoundsSets (judged_by s set deeds) (length new.seen.history) front most
+        → (part : List Commit) (x : Commit) → StartsWith new.seen.history (part ++ x ∷ []) → (n : ℕ) → cells (applied (version_after applied (first_version new.seen) part) (take n x.change)) ≤ most
+    ways_within set deeds front most are explains bounds part x begins n =
+        let le = begins_length new.seen.history (part ++ x ∷ []) begins in
+        let here = last_stands s new.seen.history part set (length part) (begins_more new.seen.history (part ++ x ∷ []) part begins (x ∷ [], refl)) refl are in
+        let m = (explains.commits part x begins).ways (set (length part)) here n in
+        let same : applied (version_after applied (first_version new.seen) part) (take n x.change) ≡ trie_entries m.working =
+        ap (λ (o : Entries). applied (version_after applied o part) (take n x.change)) opening_back ∙ m.entries in
+        subst (λ (es : Entries). cells es ≤ most) (sym same) (bounds.ways (length part) (omega (arith, le, length-append part (x ∷ []))) m.front m.back m.all m.working m.made)
+
+    -- those on the way of operations bound what these have done so far
+    sets_within : (set : ℕ → Version) (deeds : Deeds) (front : List Said) (most : ℕ) → AreVersions s new.seen.history set → BoundsSets (judged_by s set deeds) (length new.seen.history) front most
+        → ((version : Version) → WorksOn d version → (n : ℕ) → length d.log.operations ≤ n → MadeOnTheWay s.origin front version (applied (base_of e) (take n e.log.operations)))
+        → (n : ℕ) → cells (applied (base_of e) (take n e.log.operations)) ≤ most
+    sets_within set deeds front most are bounds ways n =
+        let begun : length d.log.operations ≤ n = omega (arith, ap (λ (os : List Operation). length os) b.none_done) in
+        let m = ways (set (length new.seen.history)) (works_set set (length new.seen.history) refl are) n begun in
+        subst (λ (es : Entries). cells es ≤ most) (sym m.entries) (bounds.sets m.front m.back m.all m.working m.made)
+
+    pub full_block : (ends : Ending) (operation : ℕ) (kept : Versions) → versions_in kept ≡ kept_versions e.usage → s.chunks ≡ length e.usage.given → s.passes ≡ e.seat.passes
+        → EditsInOrder s.origin (take (operation - 1) asked.operations) (Executes s.origin asked (Err (halts.Full operation))) d e → RefusedBlock ends (Full operation (versions_in kept))
+    full_block ends operation kept told chunks passes r = (back_pass, λ set deeds are explains. cause set deeds are explains)
       where
         base_is : e.seat.version ≡ length new.seen.history
         base_is = e.seat.version_is ∙ sym (ap (λ (v : Known). length v.seen.history) back)
 
-        cause : (set : ℕ → Version) (deeds : Deeds) → AreVersions s new.seen.history set → Explains deeds new.seen → FullCause (judged_by s set deeds) asked (length new.seen.history) operation (versions_in kept)
+        cause : (set : ℕ → Version) (deeds : Deeds) → AreVersions s new.seen.history set → Explains s deeds new.seen → FullCause (judged_by s set deeds) asked (length new.seen.history) operation (versions_in kept)
         cause set deeds are explains =
-            let stopped = becomes (set (length new.seen.history)) (works_set set (length new.seen.history) refl are) in
+            let stopped = r.edits.becomes (set (length new.seen.history)) (works_set set (length new.seen.history) refl are) in
             let at = subst (IsFullAt e s.origin asked.operations (set (length new.seen.history)) operation) (sym told) stopped.1 in
             let last : versions_in kept ≡ at.full.ends.0 ++ length new.seen.history ∷ [] = at.full.ends.1 ∙ ap (λ (n : ℕ). at.full.ends.0 ++ n ∷ []) base_is in
             let rising : Rising (versions_in kept) = rising_of (versions_in kept) kept.rising in
@@ -320,15 +368,27 @@ module _ (s : Setup) (asked : Transaction) (old : Known) (d e : Draft) (b : Begi
               full = subst (λ (n : ℕ). n - n / 4 - 8 ≤ cell_count at.working + cells_kept set (versions_in kept)) (sym chunks) (subst (λ (k : ℕ). length e.usage.given - length e.usage.given / 4 - 8 ≤ cell_count at.working + k) same many);
               cramped = λ most_cells most_operations bounds within roomy.
                   let place = at.place in
+                  let fewer = r.edits.few in
+                  let in_front = ap (λ (l : List Said). length l) (taken at.front at.refused at.back asked.operations operation at.all at.place) in
                   let none = ap (λ (os : List Operation). length os) b.none_done in
                   let history = bounds_of set deeds most_cells most_operations are explains bounds in
                   at.full.cramped most_cells most_operations
                   (record {
                     some = omega (arith, place, within);
                     history = subst (BoundsHistory most_cells most_operations) seen_back history;
-                    operations = omega (arith, fewer, none, place, within);
+                    operations = omega (arith, fewer, in_front, none, place, within);
                   })
                   (subst (λ (p : ℕ). is_roomy p most_cells most_operations (length e.usage.given)) passes (subst (is_roomy s.passes most_cells most_operations) chunks roomy));
+              crowded = record {
+                bound = λ most small some bounds.
+                    let in_front = taken at.front at.refused at.back asked.operations operation at.all at.place in
+                    let history : BoundsWays most new.seen = record { first = first_within set most are bounds.first; ways = ways_within set deeds at.front most are explains bounds } in
+                    subst (λ (n : ℕ). n - n / 4 ≤ (length (versions_in kept) + 1) * (most / 257 + 9) + 1 + cells_asked (owner_of at.refused) at.working at.next / 769) (sym chunks)
+                    (at.full.crowded most small (subst (λ (n : ℕ). 4 ≤ n) chunks some) (record {
+                      history = subst (BoundsWays most) seen_back history;
+                      work = sets_within set deeds at.front most are bounds (subst (λ (front : List Said). (version : Version) → WorksOn d version → (n : ℕ) → length d.log.operations ≤ n → MadeOnTheWay s.origin front version (applied (base_of e) (take n e.log.operations))) in_front r.ways);
+                    }));
+              };
             }
           where
             shown_all : (older : List ℕ) → ((x : ℕ) → Contains older x → Contains (versions_in kept) x) → AllByRecursion (λ x. x < length new.seen.history) older

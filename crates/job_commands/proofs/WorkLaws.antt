@@ -17,7 +17,7 @@ use Rattle.shared_cells.specs.Views.{is_told}
 use Rattle.qp_multi.specs.declared.meaning.Operation.{Operation}
 use Rattle.qp_multi.specs.Operations.{applied}
 use Rattle.qp_multi.specs.Passes.{Known, first_version}
-use Rattle.job_commands.specs.Histories.{Setup, Commit, Entries, index_at, StandsAs, AreVersions, judged_by, times_by}
+use Rattle.job_commands.specs.Histories.{Setup, Commit, Entries, IsAsked, index_at, StandsAs, AreVersions, judged_by, times_by}
 use Rattle.job_commands.specs.Steps.{Station, IsSight, IsUnder, Adds, Stays, Writes, Step}
 use Rattle.job_commands.specs.Works.{Replayed, Work, Numbers, Begins, WorkerRan, ended}
 use Rattle.job_commands.proofs.HistoryLaws.{begins_same, begins_more, begins_length, begins_other, last_commit, opened_same, index_front, index_last, versions_front, explains_front, by-push, times_front, times_past, times_there, times_else}
@@ -172,7 +172,7 @@ grows_more s numbers old new pairs p w number grows commits a =
             omega (arith, a.numbered),
             (λ before e begins here.
                 let same = last_commit a.base before (entry_of n a.operations) e (subst (λ (h : List Commit). StartsWith h (before ++ e ∷ [])) a.history begins) (omega (arith, here, a.numbered)) in
-                subst (λ (x : Commit). length x.change ≤ length (asked_by p.0).operations) same a.short),
+                subst (λ (x : Commit). IsAsked s (asked_by p.0) before x.change) same.1 (subst (λ (base : List Commit). IsAsked s (asked_by p.0) base a.operations) same.0 a.does)),
             (λ zone stands.
                 let in_base : index_at s.opening new.asks.seen.history (p.1.version - 1) ≡ version_after applied s.opening a.base =
                 index_front s.opening new.asks.seen.history a.base (p.1.version - 1) base_front (omega (arith, before_it)) ∙ index_last s.opening a.base (p.1.version - 1) before_it in
@@ -224,7 +224,7 @@ worker_goes_on s numbers old new done c behind os o opened w step =
         opened = opened ∙ w.work.opened;
         along = λ set deeds are explains. subst (Along (judged_by s set deeds) at_first) (sym more)
             (along-push (judged_by s set deeds) at_first (pairs_of done os) (c, outcome_view o)
-            (w.work.along set deeds (versions_front s new.asks.seen.history old.asks.seen.history set step.asks.history are) (explains_front deeds new.asks.seen old.asks.seen step.asks explains))
+            (w.work.along set deeds (versions_front s new.asks.seen.history old.asks.seen.history set step.asks.history are) (explains_front s deeds new.asks.seen old.asks.seen step.asks explains))
             (step.ends (sight_behind at_first (pairs_of done os)) w.sight set deeds are explains));
         none_above = subst (AllByRecursion (λ (q : Pair). q.1.version ≤ length new.asks.seen.history)) (sym more)
             (all-push (λ (q : Pair). q.1.version ≤ length new.asks.seen.history) (pairs_of done os) (c, outcome_view o)

@@ -28,7 +28,7 @@ use Rattle.qp_multi.specs.Operations.{applied}
 use Rattle.qp_multi.specs.Passes.{Known, first_version, known_at, version_seen}
 use Rattle.zone_edit.specs.declared.applying.Halt.{Halt}
 use Rattle.zone_edit.specs.declared.applying.Halt.TheVariants as halts
-use Rattle.job_commands.specs.Histories.{Setup, Commit as Commit', BeginsAt, StandsAs, AreVersions, Deeds, Explains, judged_by}
+use Rattle.job_commands.specs.Histories.{Setup, Commit as Commit', BeginsAt, IsAsked, StandsAs, AreVersions, Deeds, Explains, judged_by}
 
 -- the seat of a pass
 abbrev pub Seat : Type 0
@@ -68,13 +68,13 @@ pub record Asked (origin : Name) (question : Question) (old new : Known) (o : Ou
 
 -- ---- transactions
 
--- the version that stands as the base becomes what the block makes of it, by the next commit, of no more operations than the block has
+-- the version that stands as the base becomes what the block makes of it, by the next commit, which does what the block asks for
 pub record Commits (s : Setup) (asked : Transaction) (own : PassView (List Operation)) (old new : Known) : Type 0 where
   pub base : List Commit'
   pub changes : List Operation
   pub before : StartsWith base old.seen.history
   pub mine : own.entries ≡ entries_by own.number base
-  pub short : length changes ≤ length asked.operations
+  pub does : IsAsked s asked base changes
   pub history : new.seen.history ≡ base ++ entry_of own.number changes ∷ []
   pub pass : new.pass ≡ Some (record own { entries = own.entries ++ entry_of own.number changes ∷ [] })
   pub makes : (zone : Version) → StandsAs (version_after applied s.opening base) zone
@@ -89,7 +89,7 @@ Transacts s asked ending old new RolledBack =
     (ending ≡ Rollback) × (new.pass ≡ old.pass) × ((zone : Version) → StandsAs (version_seen new.seen) zone → IsOk (whole s.origin asked zone))
 Transacts s asked ending old new (Refused cause) =
     (new.pass ≡ old.pass)
-    × ((set : ℕ → Version) (deeds : Deeds) → AreVersions s new.seen.history set → Explains deeds new.seen → Causes (judged_by s set deeds) asked ending (length new.seen.history) cause)
+    × ((set : ℕ → Version) (deeds : Deeds) → AreVersions s new.seen.history set → Explains s deeds new.seen → Causes (judged_by s set deeds) asked ending (length new.seen.history) cause)
 
 pub record BlockRan (s : Setup) (asked : Transaction) (ending : Ending) (old new : Known) (o : Outcome) : Type 0 where
   pub grows : IsPartOf new.seen old.seen

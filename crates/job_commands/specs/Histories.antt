@@ -15,6 +15,7 @@ use Rattle.shared_cells.specs.declared.view.Seen.{Seen}
 use Rattle.shared_cells.specs.History.{StartsWith, version_after}
 use Rattle.qp_multi.specs.declared.meaning.Operation.{Operation}
 use Rattle.qp_multi.specs.Operations.{applied}
+use Rattle.zone_edit.specs.Ways.{MadeOnTheWay}
 
 abbrev pub Entries : Type 0
 Entries = List trie.Entry
@@ -51,15 +52,22 @@ pub record Deeds : Type 0 where
   pub shown : List ℕ
   pub made_by : ℕ → Transaction
 
--- the operations of each commit of a history, the first of which made version 1, are no more than its transaction asked for
-abbrev pub AreAsked : (ℕ → Transaction) → List Commit → Type 0
-AreAsked made_by history = (before : List Commit) (e : Commit) → StartsWith history (before ++ e ∷ []) → length e.change ≤ length (made_by (length before + 1)).operations
+-- What a commit did to its base is what a transaction asks for: with no more operations, and whatever it had made when it had done
+-- some of them, some first ones of the transaction make too.
+pub record IsAsked (s : Setup) (asked : Transaction) (base : List Commit) (change : List Operation) : Type 0 where
+  pub short : length change ≤ length asked.operations
+  pub ways : (zone : Version) → StandsAs (version_after applied s.opening base) zone
+      → (n : ℕ) → MadeOnTheWay s.origin asked.operations zone (applied (version_after applied s.opening base) (take n change))
+
+-- so it is of each commit of a history, the first of which made version 1
+abbrev pub AreAsked : Setup → (ℕ → Transaction) → List Commit → Type 0
+AreAsked s made_by history = (before : List Commit) (e : Commit) → StartsWith history (before ++ e ∷ []) → IsAsked s (made_by (length before + 1)) before e.change
 
 -- They explain what was seen: an older version that a pass was found reading is one that they show, and each commit does what was
 -- asked for.
-pub record Explains (deeds : Deeds) (seen : Sighting) : Type 0 where
+pub record Explains (s : Setup) (deeds : Deeds) (seen : Sighting) : Type 0 where
   pub namings : (n : Naming) → Contains seen.namings n → n.version < length seen.history → Contains deeds.shown n.version
-  pub commits : AreAsked deeds.made_by seen.history
+  pub commits : AreAsked s deeds.made_by seen.history
 
 -- what outcomes are judged by
 abbrev pub judged_by : Setup → (ℕ → Version) → Deeds → Setting

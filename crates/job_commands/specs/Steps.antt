@@ -15,7 +15,7 @@ use Rattle.qp_multi.specs.declared.meaning.Operation.{Operation}
 use Rattle.qp_multi.specs.Compactions.{Compacts}
 use Rattle.qp_multi.specs.Operations.{applied}
 use Rattle.qp_multi.specs.Passes.{Known, first_version}
-use Rattle.job_commands.specs.Histories.{Setup, Commit, IsLawful, StandsAs, AreVersions, Deeds, Explains, judged_by}
+use Rattle.job_commands.specs.Histories.{Setup, Commit, IsAsked, IsLawful, StandsAs, AreVersions, Deeds, Explains, judged_by}
 
 -- What a worker's two passes know, that of its questions and transactions and that of its snapshots; and whether it holds a snapshot.
 pub record Station : Type 0 where
@@ -37,7 +37,7 @@ pub record IsUnder (asks holds : Known) : Type 0 where
   pub opening : first_version holds.seen ≡ first_version asks.seen
   pub history : StartsWith asks.seen.history holds.seen.history
 
--- The pass of this number has committed a block: the history has operations of it, no more than it asks for, behind those of the
+-- The pass of this number has committed a block: the history has operations that do what it asks for behind those of the
 -- base, which has of the pass's commits those that it made before. The version that stands as the base becomes what the block makes
 -- of it.
 pub record Adds (s : Setup) (own : PassView (List Operation)) (c : Command) (version : ℕ) (old new : Known) : Type 0 where
@@ -45,7 +45,7 @@ pub record Adds (s : Setup) (own : PassView (List Operation)) (c : Command) (ver
   pub operations : List Operation
   pub before : StartsWith base old.seen.history
   pub mine : own.entries ≡ entries_by own.number base
-  pub short : length operations ≤ length (asked_by c).operations
+  pub does : IsAsked s (asked_by c) base operations
   pub history : new.seen.history ≡ base ++ entry_of own.number operations ∷ []
   pub pass : new.pass ≡ Some (record own { entries = own.entries ++ entry_of own.number operations ∷ [] })
   pub numbered : version ≡ length base + 1
@@ -80,7 +80,7 @@ pub record Step (s : Setup) (c : Command) (o : Outcome) (old new : Station) : Ty
   pub under : IsUnder new.asks new.holds
   pub held : new.held ≡ held_after old.held c
   pub tells : (set : ℕ → Version) → AreVersions s new.asks.seen.history set → Tells s.origin set c o
-  pub ends : (sight : Sight) → IsSight old sight → (set : ℕ → Version) (deeds : Deeds) → AreVersions s new.asks.seen.history set → Explains deeds new.asks.seen
+  pub ends : (sight : Sight) → IsSight old sight → (set : ℕ → Version) (deeds : Deeds) → AreVersions s new.asks.seen.history set → Explains s deeds new.asks.seen
       → EndsLawfully (judged_by s set deeds) sight c o.version (ended_view o.told)
   pub below : o.version ≤ length new.asks.seen.history
   -- what it holds now is of that version, if it took it

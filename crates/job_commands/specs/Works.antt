@@ -11,14 +11,14 @@ use Rattle.shared_cells.specs.declared.view.PassView.{PassView}
 use Rattle.shared_cells.specs.History.{StartsWith, entries_by}
 use Rattle.qp_multi.specs.declared.meaning.Operation.{Operation}
 use Rattle.qp_multi.specs.Passes.{Known, first_version}
-use Rattle.job_commands.specs.Histories.{Setup, Commit, Entries, index_at, StandsAs, AreVersions, Deeds, Explains, judged_by, times_by}
+use Rattle.job_commands.specs.Histories.{Setup, Commit, Entries, IsAsked, index_at, StandsAs, AreVersions, Deeds, Explains, judged_by, times_by}
 use Rattle.job_commands.specs.Steps.{Station}
 
--- a version that was made is what its operations make of the version before; its commit has no more of them
+-- a version that was made is what its operations make of the version before; its commit does what they ask for
 abbrev pub Replayed : Setup → List Commit → Pair → Type 0
 Replayed s history pair =
     is_committed pair.1.ended ≡ true → (0 < pair.1.version)
-    × ((before : List Commit) (e : Commit) → StartsWith history (before ++ e ∷ []) → length before + 1 ≡ pair.1.version → length e.change ≤ length (asked_by pair.0).operations)
+    × ((before : List Commit) (e : Commit) → StartsWith history (before ++ e ∷ []) → length before + 1 ≡ pair.1.version → IsAsked s (asked_by pair.0) before e.change)
     × ((base : Version) → StandsAs (index_at s.opening history (pair.1.version - 1)) base
     → (next : Version) × (whole s.origin (asked_by pair.0) base ≡ Ok next) × StandsAs (index_at s.opening history pair.1.version) next)
 
@@ -26,7 +26,7 @@ Replayed s history pair =
 -- that begins with it. The versions that they made are those of its first pass, which has told all of these.
 pub record Work (s : Setup) (t : Station) (pairs : List Pair) : Type 0 where
   pub opened : first_version t.asks.seen ≡ s.opening
-  pub along : (set : ℕ → Version) (deeds : Deeds) → AreVersions s t.asks.seen.history set → Explains deeds t.asks.seen → Along (judged_by s set deeds) at_first pairs
+  pub along : (set : ℕ → Version) (deeds : Deeds) → AreVersions s t.asks.seen.history set → Explains s deeds t.asks.seen → Along (judged_by s set deeds) at_first pairs
   pub none_above : AllByRecursion (λ pair. pair.1.version ≤ length t.asks.seen.history) pairs
   pub replayed : AllByRecursion (Replayed s t.asks.seen.history) pairs
   pub asker : PassView (List Operation)

@@ -4,11 +4,11 @@ use Rattle.std.specs.List.{AllByRecursion, list_any}
 use Rattle.std.specs.List.Sorted.{IsStrictlySortedBy}
 use Rattle.std.specs.Ordering.{nat_cmp}
 use Rattle.zone_model.specs.Names.{Name}
-use Rattle.zone_model.specs.Versions.{Version, Operation, apply, all_applied}
+use Rattle.zone_model.specs.Versions.{Version, Operation, owner_of, apply, all_applied}
 use Rattle.zone_model.specs.Transactions.{Transaction, no_changes, all_met, whole}
 use Rattle.trie_model.specs.Capacity.{is_roomy}
 use Rattle.job_model.specs.Commands.{Command, Ask, Hold, AskHeld, Release, Block, Compact}
-use Rattle.job_model.specs.Sizes.{cell_count}
+use Rattle.job_model.specs.Sizes.{cell_count, cells_asked}
 use Rattle.zone_model.specs.declared.Refusal.{Refusal}
 use Rattle.job_model.specs.declared.Ending.{Ending}
 use Rattle.job_model.specs.declared.Ending.TheVariants.{Commit, Rollback}
@@ -127,10 +127,25 @@ abbrev pub IsCramped : Setting → ℕ → ℕ → Type 0
 IsCramped s base operation =
     (most_cells most_operations : ℕ) → BoundsVersions s base most_cells most_operations → operation ≤ most_operations → is_roomy s.passes most_cells most_operations s.chunks → ⊥
 
+-- No set that the index was to hold up to there has more cells than so many: neither version 0, nor what any first operations of the
+-- transaction that made a version make of the one before, nor what any first ones of a transaction on the base make of that.
+pub record BoundsSets (s : Setting) (base : ℕ) (front : List Operation) (most : ℕ) : Type 0 where
+  pub first : cell_count (s.set 0) ≤ most
+  pub ways : (v : ℕ) → v < base → (begun rest : List Operation) → (s.made_by (v + 1)).operations ≡ begun ++ rest
+      → (working : Version) → all_applied s.origin begun (s.set v) ≡ Ok working → cell_count working ≤ most
+  pub sets : (begun rest : List Operation) → front ≡ begun ++ rest
+      → (working : Version) → all_applied s.origin begun (s.set base) ≡ Ok working → cell_count working ≤ most
+
+-- Where so many cells, at most 768, bound these sets, the kept versions and the working set may have taken all chunks but the reserve of a
+-- quarter: each of them one for each 257 of its cells, and nine that have fewer; and what the operation asks for, one for each 769.
+pub record IsCrowded (s : Setting) (base : ℕ) (front : List Operation) (asked kept : ℕ) : Type 0 where
+  pub bound : (most : ℕ) → most ≤ 768 → 4 ≤ s.chunks → BoundsSets s base front most
+      → s.chunks - s.chunks / 4 ≤ (kept + 1) * (most / 257 + 9) + 1 + asked / 769
+
 -- There was no room for an operation that is accepted and changes what the ones before it made of the base, which meets the
 -- prerequisites: the tries of that and of the kept versions have almost as many cells as there are chunks but for the reserve of a quarter. The base is the last kept
 -- version, and each other one is kept since a question or a hold shows it. Nor does it come where the index has the chunks that are
--- enough for these versions and operations.
+-- enough for these versions and operations; nor on a table that has more chunks than small sets may have taken.
 pub record FullCause (s : Setting) (asked : Transaction) (base operation : ℕ) (kept : List ℕ) : Type 0 where
   pub met : all_met (s.set base) asked.needs ≡ true
   pub front : List Operation
@@ -150,6 +165,7 @@ pub record FullCause (s : Setting) (asked : Transaction) (base operation : ℕ) 
   pub few : length kept ≤ s.passes + 1
   pub full : s.chunks - s.chunks / 4 - 8 ≤ cell_count working + cells_kept s.set kept
   pub cramped : IsCramped s base operation
+  pub crowded : IsCrowded s base front (cells_asked (owner_of refused) working next) (length kept)
 
 -- the greatest number of a version
 abbrev pub last_version : ℕ

@@ -3,6 +3,7 @@
 #![tactic(auto)]
 
 use dns_name::Name;
+use thiserror::Error;
 
 /// How the commands of a script are listed.
 #[derive(Clone, Copy, Debug, PartialEq, Eq)]
@@ -58,26 +59,36 @@ pub enum Ending {
 }
 
 /// Why lines are no script.
-#[derive(Clone, Copy, Debug, PartialEq, Eq)]
+#[derive(Clone, Copy, Debug, PartialEq, Eq, Error)]
 pub enum ScriptKind {
     /// A command stands before the first worker, or there is no worker.
+    #[error("no worker has begun")]
     NoWorker,
     /// A line is no command, or stands at a wrong place.
+    #[error("the line is no command here")]
     BadCommand,
     /// A name is none, or an operation's is not at or under the origin.
+    #[error("a name under the origin is wanted")]
     BadName,
     /// A type is none, or is not known by its name.
+    #[error("a type is wanted")]
     BadType,
     /// Data are not of their type.
+    #[error("the data are not of their type")]
     BadRdata,
     /// A time to live is none, or the number of names that are wanted is not 1 to 1,000.
+    #[error("a number within its limits is wanted")]
     BadNumber,
     /// A block is open where a worker begins or the script ends.
+    #[error("a block is open")]
     OpenBlock,
     /// A snapshot is asked or given back while none is held.
+    #[error("no snapshot is held")]
     NotHeld,
     /// A snapshot is taken while one is held.
+    #[error("a snapshot is held already")]
     AlreadyHeld,
     /// There are more workers, commands or operations than the limit says.
+    #[error("more than {limit}")]
     TooMany { limit: u32 },
 }

@@ -5,13 +5,16 @@ ghost use Rattle.job_script.specs.declared.refusal.JobRefusal.TheVariants.{Memor
 
 use job_model::ScriptKind;
 use std::alloc::AllocFailed;
+use thiserror::Error;
 
 /// Why a job's script is not read.
-#[derive(Clone, Copy, Debug, PartialEq, Eq)]
+#[derive(Clone, Copy, Debug, PartialEq, Eq, Error)]
 pub enum JobRefusal {
     /// The first line that is refused, and why.
+    #[error("line {line}: {kind}")]
     Refused { line: u32, kind: ScriptKind },
     /// Want of memory.
+    #[error("out of memory")]
     Memory,
 }
 

@@ -64,13 +64,26 @@ fn made_by(line: &str, command: u32) -> Option<usize> {
     version.parse().ok()
 }
 
+/// A hundred blocks, the I-th of which adds the name wI with the address 192.0.2.I.
+fn hundred_addresses(alloc: Global) -> Result<String, AllocError> {
+    let mut script = String::new(alloc);
+    for number in 1..101u32 {
+        write!(
+            script,
+            "write\nadd w{number} 60 A 192.0.2.{number}\ncommit\n"
+        )?;
+    }
+    Ok(script)
+}
+
 // By four workers, in the order of the commands: each block makes a version of its own.
 #[test]
 fn a_hundred_blocks_make_a_hundred_versions(rt: HostRuntime) -> Result<(), Fail> {
     let words = "feed --origin example. --workers 4 --chunks 256";
-    let script = blocks(rt.alloc(), 100, "A 192.0.2.1")?;
+    let script = hundred_addresses(rt.alloc())?;
     let (status, report) = told(&rt, rt.alloc(), words, ZONE, script.as_str(), &Open)?;
     assert_eq!(rt; status, 0);
+    assert_eq!(rt; report.lines().count(), 101);
     let mut made = Vec::new(rt.alloc());
     for (line, command) in report.lines().zip(1..101u32) {
         made.push(made_by(line, command).ok_or("no commit")?)?;

@@ -44,6 +44,15 @@ const CASES: &[Case] = &[
         reports: &["1.1 v0 ANSWER 1\nns.example. 300 IN A 192.0.2.1\nend v0 names 2\n"],
     },
     Case {
+        name: "a table as large as is sure to be enough",
+        words: "run --origin example. --chunks 178",
+        order: Order::Together(1),
+        script: "worker\nget ns A\nwrite\nadd www 300 A 192.0.2.7\ncommit\nget www A\n",
+        reports: &[
+            "1.1 v0 ANSWER 1\nns.example. 300 IN A 192.0.2.1\n1.2 v1 COMMITTED\n1.3 v1 ANSWER 1\nwww.example. 300 IN A 192.0.2.7\nend v1 names 3\n",
+        ],
+    },
+    Case {
         name: "two workers meet",
         words: "run --origin example.",
         order: Order::Together(2),

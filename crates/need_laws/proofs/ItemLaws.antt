@@ -31,7 +31,7 @@ fresh_cells x d l = omega arith
 more_cells : (x y d : ℕ) → x ≤ y + d → (x + 15) / 16 + (x - 17) / 4080 ≤ (y + 15) / 16 + (y - 17) / 4080 + ((d + 15) / 16 + (d + 4079) / 4080)
 more_cells x y d l = omega arith
 
-fewer_cells : (x y : ℕ) → x ≤ y → (x + 15) / 16 + (x - 17) / 4080 ≤ (y + 15) / 16 + (y - 17) / 4080
+pub fewer_cells : (x y : ℕ) → x ≤ y → (x + 15) / 16 + (x - 17) / 4080 ≤ (y + 15) / 16 + (y - 17) / 4080
 fewer_cells x y l = omega arith
 
 -- ---- an addition

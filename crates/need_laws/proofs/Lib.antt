@@ -7,3 +7,4 @@ pub mod RoomLaws
 pub mod RunLaws
 pub mod ReadLaws
 pub mod ListLaws
+pub mod SmallLaws

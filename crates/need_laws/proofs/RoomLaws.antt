@@ -35,20 +35,14 @@ roomy_still passes cells operations least chunks is more = further ((passes + 2)
     further : (needed : ℕ) → needed ≤ least / 2 → needed ≤ chunks / 2
     further needed le = omega (arith, le, more)
 
-module _ (s : Setting) (cells operations : ℕ) (roomy : is_roomy s.passes cells operations s.chunks) (few : (v : ℕ) → cell_count (s.set v) ≤ cells) (short : (v : ℕ) → length (s.made_by v).operations ≤ operations) where
-  cause_room : (asked : Transaction) (ending : Ending) (base : ℕ) (cause : Cause) → length asked.operations ≤ operations → Causes s asked ending base cause → FindsRoom (Refused cause)
-  cause_room asked ending base (Rule refusal) within c = tt
-  cause_room asked ending base (Full operation kept) within c =
-      let number = c.number in
-      let all = ap (λ (l : List Operation). length l) c.all in
-      c.cramped cells operations (record { cells = λ v le. few v; operations = λ v some le. short v }) (omega (arith, number, all, within, length-append c.front (c.refused ∷ c.back))) roomy
-  cause_room asked ending base Spent within c = tt
-
-  block_room : (seen : ℕ) (asked : Transaction) (ending : Ending) (v : ℕ) (ended : Ended) → length asked.operations ≤ operations → BlockEnds s seen asked ending v ended → FindsRoom ended
-  block_room seen asked ending v Shown within b = tt
-  block_room seen asked ending v Committed within b = tt
-  block_room seen asked ending v RolledBack within b = tt
-  block_room seen asked ending v (Refused cause) within b = cause_room asked ending v cause within b.1
+-- Where no cause that may come of a transaction on a version is want of room, no command ends by that.
+module _ (s : Setting) (MayCome : Transaction → ℕ → Ended → Type 0)
+    (cause_room : (asked : Transaction) (ending : Ending) (base : ℕ) (cause : Cause) → MayCome asked base (Refused cause) → Causes s asked ending base cause → FindsRoom (Refused cause)) where
+  block_room : (seen : ℕ) (asked : Transaction) (ending : Ending) (v : ℕ) (ended : Ended) → MayCome asked v ended → BlockEnds s seen asked ending v ended → FindsRoom ended
+  block_room seen asked ending v Shown may b = tt
+  block_room seen asked ending v Committed may b = tt
+  block_room seen asked ending v RolledBack may b = tt
+  block_room seen asked ending v (Refused cause) may b = cause_room asked ending v cause may b.1
 
   shown_room : (May : Type 0) (ended : Ended) → Shows May ended → FindsRoom ended
   shown_room May Shown h = tt
@@ -56,27 +50,43 @@ module _ (s : Setting) (cells operations : ℕ) (roomy : is_roomy s.passes cells
   shown_room May RolledBack h = tt
   shown_room May (Refused cause) h = absurd h
 
-  ends_room : (sight : Sight) (command : Command) (v : ℕ) (ended : Ended) → length (asked_by command).operations ≤ operations → EndsLawfully s sight command v ended → FindsRoom ended
-  ends_room sight (Ask question) v ended within e = shown_room (sight.seen ≤ v) ended e
-  ends_room sight Hold v ended within e = shown_room (sight.seen ≤ v) ended e
-  ends_room sight (AskHeld question) v ended within e = shown_room (sight.held ≡ Some v) ended e
-  ends_room sight Release v ended within e = shown_room (sight.held ≡ Some v) ended e
-  ends_room sight (Block _ asked ending) v ended within e = block_room sight.seen asked ending v ended within e
-  ends_room sight Compact v ended within e = block_room sight.seen no_changes Commit v ended within e
+  ends_room : (sight : Sight) (command : Command) (v : ℕ) (ended : Ended) → MayCome (asked_by command) v ended → EndsLawfully s sight command v ended → FindsRoom ended
+  ends_room sight (Ask question) v ended may e = shown_room (sight.seen ≤ v) ended e
+  ends_room sight Hold v ended may e = shown_room (sight.seen ≤ v) ended e
+  ends_room sight (AskHeld question) v ended may e = shown_room (sight.held ≡ Some v) ended e
+  ends_room sight Release v ended may e = shown_room (sight.held ≡ Some v) ended e
+  ends_room sight (Block _ asked ending) v ended may e = block_room sight.seen asked ending v ended may e
+  ends_room sight Compact v ended may e = block_room sight.seen no_changes Commit v ended may e
 
-  along_room : (sight : Sight) (pairs : List Pair) → AllByRecursion (IsShort operations) pairs → Along s sight pairs → AllFindRoom pairs
-  along_room sight [] within a = tt
-  along_room sight (pair ∷ pairs) within a = (ends_room sight pair.0 pair.1.version pair.1.ended within.0 a.0, along_room (sight_after sight pair.0 pair.1.version) pairs within.1 a.1)
+  abbrev PairMayCome : Pair → Type 0
+  PairMayCome pair = MayCome (asked_by pair.0) pair.1.version pair.1.ended
+
+  along_room : (sight : Sight) (pairs : List Pair) → AllByRecursion PairMayCome pairs → Along s sight pairs → AllFindRoom pairs
+  along_room sight [] may a = tt
+  along_room sight (pair ∷ pairs) may a = (ends_room sight pair.0 pair.1.version pair.1.ended may.0 a.0, along_room (sight_after sight pair.0 pair.1.version) pairs may.1 a.1)
 
   both_of : (P : Pair → Type 0) (xs ys : List Pair) → AllByRecursion P (xs ++ ys) → AllByRecursion P xs × AllByRecursion P ys
   both_of P [] ys all = (tt, all)
   both_of P (x ∷ xs) ys all = let parts = both_of P xs ys all.1 in ((all.0, parts.0), parts.1)
 
+  pub ends_with_room : (workers : List (List Pair)) → AllByRecursion PairMayCome (all_pairs workers) → AllAlong s workers → AllFindRoom (all_pairs workers)
+  ends_with_room [] may a = tt
+  ends_with_room (pairs ∷ workers) may a =
+      let parts = both_of PairMayCome pairs (all_pairs workers) may in
+      all_join (λ (pair : Pair). FindsRoom pair.1.ended) pairs (all_pairs workers) (along_room at_first pairs parts.0 a.0) (ends_with_room workers parts.1 a.1)
+
+-- where there are enough chunks
+module _ (s : Setting) (cells operations : ℕ) (roomy : is_roomy s.passes cells operations s.chunks) (few : (v : ℕ) → cell_count (s.set v) ≤ cells) (short : (v : ℕ) → length (s.made_by v).operations ≤ operations) where
+  sized_cause : (asked : Transaction) (ending : Ending) (base : ℕ) (cause : Cause) → length asked.operations ≤ operations → Causes s asked ending base cause → FindsRoom (Refused cause)
+  sized_cause asked ending base (Rule refusal) within c = tt
+  sized_cause asked ending base (Full operation kept) within c =
+      let number = c.number in
+      let all = ap (λ (l : List Operation). length l) c.all in
+      c.cramped cells operations (record { cells = λ v le. few v; operations = λ v some le. short v }) (omega (arith, number, all, within, length-append c.front (c.refused ∷ c.back))) roomy
+  sized_cause asked ending base Spent within c = tt
+
   pub all_room : (workers : List (List Pair)) → AllByRecursion (IsShort operations) (all_pairs workers) → AllAlong s workers → AllFindRoom (all_pairs workers)
-  all_room [] within a = tt
-  all_room (pairs ∷ workers) within a =
-      let parts = both_of (IsShort operations) pairs (all_pairs workers) within in
-      all_join (λ (pair : Pair). FindsRoom pair.1.ended) pairs (all_pairs workers) (along_room at_first pairs parts.0 a.0) (all_room workers parts.1 a.1)
+  all_room = ends_with_room s (λ asked v ended. length asked.operations ≤ operations) sized_cause
 
 pub sized_room : (job : Job) → IsSaidJob job → (workers : List (List Pair)) → AreOutcomesOf job workers → (chunks last : ℕ) → IsSized job chunks
     → Lawful chunks (passes_for (length job.workers)) job.origin job.zone workers last → AllFindRoom (all_pairs workers)

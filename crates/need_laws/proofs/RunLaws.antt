@@ -104,7 +104,7 @@ asked_said origin j (pair ∷ pairs) h = by_test (made j pair) (asked_said origi
     by_test false i = i
 
 module _ (origin : Name) (zone : Version) (pairs : List Pair) (is : IsZone origin zone) (ask : AllPairsAsk origin pairs) where
-  version_zone : (v : ℕ) → IsZone origin (version_at origin zone pairs v)
+  pub version_zone : (v : ℕ) → IsZone origin (version_at origin zone pairs v)
   version_zone zero = is
   version_zone (suc v) = zone_behind origin (asked_at (suc v) pairs) (version_at origin zone pairs v) (asked_said origin (suc v) pairs ask) (version_zone v)
 
@@ -118,7 +118,7 @@ module _ (origin : Name) (zone : Version) (pairs : List Pair) (is : IsZone origi
 
 -- ---- what a transaction works on
 
-front_said : (origin : Name) (front back : List Operation) → AllByRecursion (IsSaid origin) (front ++ back) → AllByRecursion (IsSaid origin) front
+pub front_said : (origin : Name) (front back : List Operation) → AllByRecursion (IsSaid origin) (front ++ back) → AllByRecursion (IsSaid origin) front
 front_said origin [] back h = tt
 front_said origin (first ∷ front) back h = (h.0, front_said origin front back h.1)
 
@@ -134,7 +134,7 @@ all_map : {A : Type 0} (P Q : A → Type 0) → ((x : A) → P x → Q x) → (x
 all_map P Q f [] h = tt
 all_map P Q f (x ∷ xs) h = (f x h.0, all_map P Q f xs h.1)
 
-all_both : {A : Type 0} (P Q R : A → Type 0) → ((x : A) → P x → Q x → R x) → (xs : List A) → AllByRecursion P xs → AllByRecursion Q xs → AllByRecursion R xs
+pub all_both : {A : Type 0} (P Q R : A → Type 0) → ((x : A) → P x → Q x → R x) → (xs : List A) → AllByRecursion P xs → AllByRecursion Q xs → AllByRecursion R xs
 all_both P Q R f [] g h = tt
 all_both P Q R f (x ∷ xs) g h = (f x g.0 h.0, all_both P Q R f xs g.1 h.1)
 
@@ -228,7 +228,7 @@ pub all_join : {A : Type 0} (P : A → Type 0) (xs ys : List A) → AllByRecursi
 all_join P [] ys g h = h
 all_join P (x ∷ xs) ys g h = (g.0, all_join P xs ys g.1 h)
 
-all_ask : (origin : Name) (workers : List (List Pair)) → AllWorkersAsk origin (map (map (λ (pair : Pair). pair.0)) workers) → AllPairsAsk origin (all_pairs workers)
+pub all_ask : (origin : Name) (workers : List (List Pair)) → AllWorkersAsk origin (map (map (λ (pair : Pair). pair.0)) workers) → AllPairsAsk origin (all_pairs workers)
 all_ask origin [] h = tt
 all_ask origin (pairs ∷ workers) h = all_join (λ (pair : Pair). AllAsked origin pair.0) pairs (all_pairs workers) (pairs_ask origin pairs h.0) (all_ask origin workers h.1)
 

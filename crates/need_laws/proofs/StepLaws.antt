@@ -21,16 +21,16 @@ items_of : (origin : Name) (version : Version) → AllByRecursion (IsOwned origi
 items_of origin [] h = tt
 items_of origin (pair ∷ rest) h = (h.0.item, items_of origin rest h.1)
 
-version_of_zone : (origin : Name) (version : Version) → IsZone origin version → IsVersion version
+pub version_of_zone : (origin : Name) (version : Version) → IsZone origin version → IsVersion version
 version_of_zone origin version z = record { rising = z.well_formed.rising; items = items_of origin version z.well_formed.each }
 
 -- operations without prerequisites leave a zone one
-zone_after : (origin : Name) (operations : List Operation) (version next : Version) → AllByRecursion (IsSaid origin) operations → IsZone origin version → all_applied origin operations version ≡ Ok next → IsZone origin next
+pub zone_after : (origin : Name) (operations : List Operation) (version next : Version) → AllByRecursion (IsSaid origin) operations → IsZone origin version → all_applied origin operations version ≡ Ok next → IsZone origin next
 zone_after origin operations version next said z e = zone_whole origin (record { needs = []; operations = operations }) version next said z e
 
 -- ---- one operation
 
-one_applied : (origin : Name) (operation : Operation) (version next : Version) → IsSaid origin operation → IsZone origin version → apply origin operation version ≡ Ok next → IsZone origin next
+pub one_applied : (origin : Name) (operation : Operation) (version next : Version) → IsSaid origin operation → IsZone origin version → apply origin operation version ≡ Ok next → IsZone origin next
 one_applied origin operation version next said z e =
     zone_after origin (operation ∷ []) version next (said, tt) z (ap (λ (r : Result Version Refusal). and_then r (all_applied origin [])) e)
 

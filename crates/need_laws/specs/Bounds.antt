@@ -72,9 +72,22 @@ FindsRoom (Refused (Rule refusal)) = Unit {0}
 FindsRoom (Refused (Full operation kept)) = ⊥
 FindsRoom (Refused Spent) = Unit {0}
 
+-- one that is names no more kept versions than so many
+abbrev pub NamesFew : ℕ → Ended → Type 0
+NamesFew most Shown = Unit {0}
+NamesFew most Committed = Unit {0}
+NamesFew most RolledBack = Unit {0}
+NamesFew most (Refused (Rule refusal)) = Unit {0}
+NamesFew most (Refused (Full operation kept)) = length kept ≤ most
+NamesFew most (Refused Spent) = Unit {0}
+
 -- none of these is
 abbrev pub AllFindRoom : List Pair → Type 0
 AllFindRoom pairs = AllByRecursion (λ pair. FindsRoom pair.1.ended) pairs
+
+-- each of these that is names few
+abbrev pub AllNameFew : ℕ → List Pair → Type 0
+AllNameFew most pairs = AllByRecursion (λ pair. NamesFew most pair.1.ended) pairs
 
 abbrev pub AllFedFindRoom : List FedPair → Type 0
 AllFedFindRoom fed = AllByRecursion (λ f. FindsRoom f.pair.1.ended) fed

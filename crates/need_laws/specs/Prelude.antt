@@ -13,5 +13,5 @@ pub use Rattle.job_model.specs.Sizes.{cell_count}
 pub use Rattle.report_laws.specs.Changes.{AllAsked}
 pub use Rattle.report_laws.specs.Octets.{AllOctets}
 pub use Rattle.report_laws.specs.Versions.{AreFedOutcomesOf, AreOutcomesOf}
-pub use Rattle.need_laws.specs.Bounds.{AllFedFindRoom, AllFindRoom, HaveFewCells, HaveFewOperations, IsSaidJob, IsSaidList, IsSized, IsSizedList}
+pub use Rattle.need_laws.specs.Bounds.{AllFedFindRoom, AllFindRoom, AllNameFew, HaveFewCells, HaveFewOperations, IsSaidJob, IsSaidList, IsSized, IsSizedList}
 pub use Rattle.qp_multi.specs.Openings.{room_in}

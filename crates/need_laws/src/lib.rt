@@ -6,7 +6,7 @@ ghost use Rattle.std.specs.Prelude.{◌≡◌, ◌+◌, ◌≤◌, ℕ, List, le
 ghost use Rattle.need_laws.specs.Prelude.{AllByRecursion, Name, IsName, Version, CanBeDumped, FedJob, Job, fed_job_of, job_of, cell_count};
 ghost use Rattle.need_laws.specs.Prelude.{cells_of_commands, most_cells, most_operations, Lawful, Pair, all_pairs, passes_for, Fed, FedPair, all_numbers};
 ghost use Rattle.need_laws.specs.Prelude.{by_worker, passes_fed, is_roomy, IsLeast, room_in, AllOctets, AllAsked, AreFedOutcomesOf, AreOutcomesOf};
-ghost use Rattle.need_laws.specs.Prelude.{AllFedFindRoom, AllFindRoom, IsSaidJob, IsSaidList, IsSized, IsSizedList, HaveFewCells, HaveFewOperations};
+ghost use Rattle.need_laws.specs.Prelude.{AllFedFindRoom, AllFindRoom, AllNameFew, IsSaidJob, IsSaidList, IsSized, IsSizedList, HaveFewCells, HaveFewOperations};
 
 /// No version of a job has more cells than the job is reckoned at, and no transaction of it works on more, however it ends. The
 /// commands may have any outcomes: those that are lawful are some of them.
@@ -53,6 +53,14 @@ pub fn least_is_enough()
 pub fn sized_jobs_find_room()
     ensures { (job : Job) → IsSaidJob job → (workers : List (List Pair)) → AreOutcomesOf job workers → (chunks last : ℕ) → IsSized job chunks
         → Lawful chunks (passes_for (length job.workers)) job.origin job.zone workers last → AllFindRoom (all_pairs workers) }
+{}
+
+/// A job of small sets finds room on 64 chunks, as many as an index has where nobody asks for others, while at most one version is kept
+/// beside the one that a transaction is on. How many operations a transaction has doesn't matter, nor how many workers there are.
+pub fn small_sets_find_room()
+    ensures { (job : Job) → IsSaidJob job → (workers : List (List Pair)) → AreOutcomesOf job workers
+        → HaveFewCells 768 job.origin job.zone (all_pairs workers) → AllNameFew 2 (all_pairs workers)
+        → (passes last : ℕ) → Lawful 64 passes job.origin job.zone workers last → AllFindRoom (all_pairs workers) }
 {}
 
 /// So it is of one list of commands that was handed out to so many workers, by the passes that these have.

@@ -4,15 +4,19 @@ ghost use Rattle.outer_io.specs.Prelude.{Consumes, IsAtEnd, Rose, Memory, Fault}
 use crate::schedule::Failed;
 use crate::sources::Source;
 use std::alloc::{AllocError, Global};
+use thiserror::Error;
 
 /// Why not all bytes were read.
-#[derive(Clone, Copy, Debug, PartialEq, Eq)]
+#[derive(Clone, Copy, Debug, PartialEq, Eq, Error)]
 pub enum ReadRefusal {
     /// A call on the source failed.
+    #[error("reading failed")]
     Fault,
-    /// More bytes came than this limit.
-    TooLong(u32),
+    /// More bytes came than the limit says.
+    #[error("over {limit} bytes")]
+    TooLong { limit: u32 },
     /// No memory was left.
+    #[error("out of memory")]
     Memory,
 }
 
@@ -63,5 +67,5 @@ pub fn read_all<S: Source>(
         }
         bytes.extend_from_slice(&piece[..count])?;
     }
-    Err(ReadRefusal::TooLong(limit))
+    Err(ReadRefusal::TooLong { limit })
 }

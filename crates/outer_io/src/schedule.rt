@@ -2,9 +2,11 @@ ghost use Rattle.std.specs.Prelude.{◌≡◌, ◌≤◌, ◌↔◌, IsErr, OnEr
 ghost use Rattle.outer_io.specs.Calls.{Calls, next_count};
 
 use std::marker::Model;
+use thiserror::Error;
 
 /// A call on an outer object failed.
-#[derive(Clone, Copy, Debug, PartialEq, Eq)]
+#[derive(Clone, Copy, Debug, PartialEq, Eq, Error)]
+#[error("a call on an outer object failed")]
 pub struct Failed;
 
 /// Which calls of an object in memory fail.

@@ -150,7 +150,7 @@ fn serve<R: Threads + Wait + Sync, S: Source, K: Sink, G: Gate>(
     let bytes = match read_all(alloc, source, INPUT_LIMIT) {
         Ok(bytes) => bytes,
         Err(ReadRefusal::Fault) => return Status::SourceFault,
-        Err(ReadRefusal::TooLong(_)) => {
+        Err(ReadRefusal::TooLong { .. }) => {
             return write_due(sink, Status::TooLong, b"input over 16777216 bytes\n");
         }
         Err(ReadRefusal::Memory) => return Status::NoMemory,

@@ -1,5 +1,5 @@
 -- An operation on lent cells, as the seat that lent them knows it.
-use Rattle.std.proofs.Common.{◌≡◌, ◌↔◌, ◌∙◌, ℕ, ◌+◌, ◌*◌, ◌/◌, ◌≤◌, ◌==◌, Bool, true, false, List, map, length, slice_index, Option, Some, None, Result, Ok, Err, inl, inr, refl, sym, ap, subst}
+use Rattle.std.proofs.Common.{◌≡◌, ◌↔◌, ◌⊎◌, ◌∙◌, ℕ, ◌+◌, ◌*◌, ◌/◌, ◌<◌, ◌≤◌, ◌==◌, Bool, true, false, List, map, length, slice_index, Option, Some, None, Result, Ok, Err, inl, inr, refl, sym, ap, subst}
 use Rattle.std.specs.Prelude.{IfOk, IfErr}
 use Rattle.std.specs.List.{Contains, range_with_len}
 use Rattle.std.proofs.lemmas.Bool.{cases_Bool}
@@ -106,10 +106,11 @@ pub record Leaves (first lent : Cells) (u n : Ledger) : Type 0 where
   pub opens : OpensFree (given_chunks first) (is_bump u.bump) (is_bump n.bump)
   pub grows : Grows (is_used u) (is_used n) (is_mutable u) (is_mutable n)
   pub last : frozen_part n ≡ frozen_part u
+  pub meets : (k : ℕ) → 0 < slice_index n.live k → (0 < slice_index u.live k) ⊎ ((is_bump u.bump k ≡ true) ⊎ (IsGiven (given_chunks first) k → ⊥))
   pub same : given_chunks lent ≡ n.given
 
 pub leaves_of : {first lent : Cells} {u n : Ledger} → Fenced HasCell kept_references given_chunks account_of first u lent n → Ready kept_references given_chunks account_of lent n → Leaves first lent u n
-leaves_of frame ready = record { given_stays = frame.given_stays; opens = frame.opens; grows = frame.grows; last = frame.last; same = ready.same }
+leaves_of frame ready = record { given_stays = frame.given_stays; opens = frame.opens; grows = frame.grows; last = frame.last; meets = frame.meets; same = ready.same }
 
 -- The cells were lent by a seat that knew so much, and came back as they are now.
 pub record Returned (first lent : Cells) (v w : Known) (u n : Ledger) (count : ℕ) : Type 0 where
@@ -161,6 +162,7 @@ module _ {first lent : Cells} {v w : Known} {u n : Ledger} {count : ℕ} (l : Re
     frozen = l.leaves.last;
     given = λ k h. get_or_from_slice_get n.given k true false (subst (λ (bs : List Bool). IsGiven bs k) l.leaves.same (l.leaves.given_stays k (given_first k h)));
     opens = λ k o. elim (l.leaves.opens k o) [ inl h ↦ inl h | inr free ↦ inr (was_free k free) ];
+    meets = λ k o. elim (l.leaves.meets k o) [ inl h ↦ inl h | inr (inl h) ↦ inr (inl h) | inr (inr free) ↦ inr (inr (was_free k free)) ];
   }
     where
       was_free : (k : ℕ) → (IsGiven (given_chunks first) k → ⊥) → is_given u k ≡ false

@@ -1,28 +1,29 @@
 -- Where a table is roomy for what is published and done, each step of a transaction leaves it so.
-use Rattle.std.proofs.Common.{◌≡◌, ◌∙◌, ⊎_elim, ℕ, suc, ◌+◌, ◌-◌, ◌*◌, ◌/◌, ◌<◌, ◌≤◌, nat_lt, Bool, true, false, not, List, [], ◌∷◌, ◌++◌, length, Option, Some, refl, sym, ap, subst, arith, append_assoc, append-nil, length-append}
-use Rattle.std.specs.Prelude.{unwrap_or, count_by}
-use Rattle.std.specs.List.{All, Contains, filter}
-use Rattle.std.proofs.lemmas.List.Elements.{All-cons, All-filter, All-nil, All-push, Contains-append_left, Contains-push}
-use Rattle.std.proofs.lemmas.List.Sums.{count_by-le-length, fold-append}
+use Rattle.std.proofs.Common.{◌≡◌, ◌∙◌, ℕ, ◌+◌, ◌*◌, ◌/◌, ◌≤◌, List, [], ◌∷◌, ◌++◌, length, Option, sym, ap, subst, arith, append_assoc, append-nil, length-append}
+use Rattle.std.specs.Prelude.{unwrap_or}
+use Rattle.std.specs.List.{Contains}
+use Rattle.std.proofs.lemmas.List.Elements.{All-filter, Contains-append_left, Contains-push}
+use Rattle.std.proofs.lemmas.List.Sums.{fold-append}
 use Rattle.trie_model.specs.Keys.{Entry}
 use Rattle.trie_model.specs.Shape.{cells}
 use Rattle.chunk_usage.specs.declared.space.Full.{Full as NoRoom}
 use Rattle.trie_model.specs.Capacity.{is_roomy}
 use Rattle.chunk_usage.specs.Handing.{Lacks, consumed}
 use Rattle.chunk_usage.specs.Keeping.{closed, is_among, rows_of}
-use Rattle.chunk_usage.specs.Ledger.{Ledger, Frozen, Row, free_count, reserve_of}
+use Rattle.chunk_usage.specs.Ledger.{Ledger, Frozen, IsLedger, Row, free_count, is_bump}
 use Rattle.shared_cells.specs.declared.view.Entry.{Entry as Commit}
-use Rattle.shared_cells.specs.declared.view.Seen.{Seen}
-use Rattle.shared_cells.specs.History.{StartsWith, entry_of, version_after}
+use Rattle.shared_cells.specs.History.{StartsWith, version_after}
 use Rattle.qp_multi.specs.declared.desk.Draft.{Draft}
 use Rattle.qp_multi.specs.declared.meaning.Operation.{Operation}
 use Rattle.qp_multi.specs.Bounds.{IsCramped}
-use Rattle.qp_multi.specs.Capacity.{BoundsHistory, EachRoomy, RestsRoomy, RowsAreFew, WorksRoomy, given_count, most_at_rest, most_met, row_size}
+use Rattle.qp_multi.specs.Capacity.{BoundsHistory, EachRoomy, RestsRoomy, WorksRoomy, given_count, most_at_rest}
+use Rattle.qp_multi.specs.Crowds.{BoundsWork, EachSmall, RestsSmall, RowsAreFew, WorksSmall, most_met, row_size}
 use Rattle.qp_multi.specs.Closings.{AllSeen}
-use Rattle.qp_multi.specs.Drafts.{working_set}
 use Rattle.qp_multi.specs.Operations.{applied}
 use Rattle.qp_multi.specs.Passes.{first_version, version_seen}
-use Rattle.qp_multi.specs.Tries.{Grown}
+use Rattle.qp_multi.specs.Tries.{Grown, Spares}
+use Rattle.qp_multi.proofs.BoundLaws.{small_on, work_part}
+use Rattle.qp_multi.proofs.CrowdLaws.{begins_small, closed_rests, rests_grown, spread_few, tried_small}
 use Rattle.qp_multi.proofs.GivenLaws.{given_short, given_consumed, consumed_given}
 
 -- ---- numbers that bound a history bound what it begins with
@@ -91,14 +92,16 @@ none_wanting c o u n done many roomy few before fits none asks =
 
 -- ---- a transaction begins
 
-pub begins_roomy : (u : Ledger) (s : AllSeen) → RestsRoomy u s → WorksRoomy u s 0
-begins_roomy u s r = record {
+pub begins_roomy : (u : Ledger) (s : AllSeen) → u.live ≡ u.last_live → ((k : ℕ) → is_bump u.bump k ≡ is_bump u.fender k) → RestsRoomy u s → WorksRoomy u s []
+begins_roomy u s live bump r = record {
   rows = r.rows;
   consumes = λ c o some b roomy few. let a = r.given c o some b roomy in let e = consumed_given u in omega arith;
+  rests = r.rests;
+  works = λ most small some b within. begins_small most u live bump (r.rests most small some b);
 }
 
 pub closed_roomy : (u n : Ledger) (s : AllSeen) → n ≡ closed u → RestsRoomy u s → RestsRoomy n s
-closed_roomy u n s after r = subst (λ (l : Ledger). RestsRoomy l s) (sym after) (record { rows = r.rows; given = r.given })
+closed_roomy u n s after r = subst (λ (l : Ledger). RestsRoomy l s) (sym after) (record { rows = r.rows; given = r.given; rests = λ most small some b. closed_rests most u (r.rests most small some b) })
 
 -- ---- an operation was tried
 
@@ -107,24 +110,48 @@ tried_rows u n s t grown opening history rows =
     let row : n.rows ≡ u.rows = ap (λ (f : Frozen). f.rows) grown.frozen in
     each_on u n s t (ap (λ (f : Frozen). f.passes) grown.frozen) grown.wide opening (same_part s t history) (λ c o b few. subst (RowsAreFew c) (sym row) few) rows
 
+-- few chunks are met still
+
+abbrev pub StaysEach : Ledger → Ledger → AllSeen → AllSeen → List Operation → List Operation → Type 0
+StaysEach u n s t operations now =
+    EachSmall n t (λ most. RestsSmall most n) × EachSmall n t (λ most. BoundsWork most t now → WorksSmall most n)
+
+pub tried_each : (u n : Ledger) (s t : AllSeen) (operations more : List Operation) → IsLedger n → Spares u n → t.opening ≡ s.opening → t.history ≡ s.history → WorksRoomy u s operations → StaysEach u n s t operations (operations ++ more)
+tried_each u n s t operations more is spares opening history r =
+    let part = same_part s t history in (
+      small_on u n s t spares.grown.wide opening part (λ most small b some rests. rests_grown most u n spares.grown rests) r.rests,
+      small_on u n s t spares.grown.wide opening part (λ most small b some works within.
+          tried_small most u n spares (spread_few u n is spares.grown spares.grown.meets) (works (work_part s t operations more opening history within))) r.works,
+    )
+
 -- it was done
-pub done_roomy : (u n : Ledger) (s t : AllSeen) (done now : ℕ) → Grown u n → t.opening ≡ s.opening → t.history ≡ s.history → consumed n ≤ consumed u + 30760 → now ≡ done + 1 → WorksRoomy u s done → WorksRoomy n t now
-done_roomy u n s t done now grown opening history cost one r =
+pub done_roomy : (u n : Ledger) (s t : AllSeen) (operations : List Operation) (o : Operation) → IsLedger n → Spares u n → t.opening ≡ s.opening → t.history ≡ s.history → consumed n ≤ consumed u + 30760 → WorksRoomy u s operations → WorksRoomy n t (operations ++ o ∷ [])
+done_roomy u n s t operations o is spares opening history cost r =
+    let grown = spares.grown in
     let passes : n.passes ≡ u.passes = ap (λ (f : Frozen). f.passes) grown.frozen in
+    let one = length-append operations (o ∷ []) in
+    let each = tried_each u n s t operations (o ∷ []) is spares opening history r in
     record {
       rows = tried_rows u n s t grown opening history r.rows;
-      consumes = each_on u n s t passes grown.wide opening (same_part s t history) (λ c o b before few. let a = before (omega arith) in let e = rest_same u n c passes in omega arith) r.consumes;
+      consumes = each_on u n s t passes grown.wide opening (same_part s t history) (λ c m b before few. let a = before (omega arith) in let e = rest_same u n c passes in omega arith) r.consumes;
+      rests = each.0;
+      works = each.1;
     }
 
 -- it found no room: so none of these numbers are such
-pub cramped_of : (u n : Ledger) (s : AllSeen) (done : ℕ) (f : NoRoom) → length n.given ≡ length u.given → consumed n ≤ consumed u + 30760 → Lacks n f → WorksRoomy u s done → EachRoomy u s (λ c o. done ≤ o → ⊥)
-cramped_of u n s done f wide cost lacks r c o some b roomy few = no_shortage c o u n f done some roomy wide few (r.consumes c o some b roomy few) cost lacks
+pub cramped_of : (u n : Ledger) (s : AllSeen) (operations : List Operation) (f : NoRoom) → length n.given ≡ length u.given → consumed n ≤ consumed u + 30760 → Lacks n f → WorksRoomy u s operations → EachRoomy u s (λ c o. length operations ≤ o → ⊥)
+cramped_of u n s operations f wide cost lacks r c o some b roomy few = no_shortage c o u n f (length operations) some roomy wide few (r.consumes c o some b roomy few) cost lacks
 
-pub short_roomy : (u n : Ledger) (s t : AllSeen) (done : ℕ) (f : NoRoom) → Grown u n → t.opening ≡ s.opening → t.history ≡ s.history → consumed n ≤ consumed u + 30760 → Lacks n f → WorksRoomy u s done → WorksRoomy n t done
-short_roomy u n s t done f grown opening history cost lacks r = record {
-  rows = tried_rows u n s t grown opening history r.rows;
-  consumes = each_on u n s t (ap (λ (f : Frozen). f.passes) grown.frozen) grown.wide opening (same_part s t history) (λ c o b none few. absurd (none few)) (cramped_of u n s done f grown.wide cost lacks r);
-}
+pub short_roomy : (u n : Ledger) (s t : AllSeen) (operations : List Operation) (f : NoRoom) → IsLedger n → Spares u n → t.opening ≡ s.opening → t.history ≡ s.history → consumed n ≤ consumed u + 30760 → Lacks n f → WorksRoomy u s operations → WorksRoomy n t operations
+short_roomy u n s t operations f is spares opening history cost lacks r =
+    let grown = spares.grown in
+    let each = tried_each u n s t operations [] is spares opening history r in
+    record {
+      rows = tried_rows u n s t grown opening history r.rows;
+      consumes = each_on u n s t (ap (λ (f : Frozen). f.passes) grown.frozen) grown.wide opening (same_part s t history) (λ c o b none few. absurd (none few)) (cramped_of u n s operations f grown.wide cost lacks r);
+      rests = each.0;
+      works = subst (λ (os : List Operation). EachSmall n t (λ most. BoundsWork most t os → WorksSmall most n)) (append-nil operations) each.1;
+    }
 
 -- ---- rows
 

@@ -1,5 +1,5 @@
 -- A changed root stands for what the operation makes of the version.
-use Rattle.std.proofs.Common.{◌≡◌, ◌⊎◌, ℕ, Bool, List, ◌∷◌, ◌++◌, Option, Some, None, inl, inr, sym, subst, slice_index}
+use Rattle.std.proofs.Common.{◌⊎◌, ℕ, Bool, List, ◌∷◌, ◌++◌, Option, Some, None, inl, inr, sym, subst, slice_index}
 use Rattle.packed_node.specs.declared.Cell.{Cell}
 use Rattle.zone_model.specs.Keys.{Leads}
 use Rattle.trie_model.specs.Keys.{Entry, InList, Rises}

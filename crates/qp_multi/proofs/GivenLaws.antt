@@ -1,9 +1,8 @@
 -- How many chunks are given: by what was consumed, and by what kept versions have cells in.
-use Rattle.std.proofs.Common.{◌≡◌, ◌⊎◌, ◌∙◌, ℕ, zero, suc, ◌+◌, ◌-◌, ◌*◌, ◌/◌, ◌<◌, ◌≤◌, ◌==◌, nat_lt, Bool, true, false, not, cond, ◌||◌, if◌then◌else◌, List, [], ◌∷◌, map, length, slice_index, slice_index_or, Option, Some, None, arith, refl, sym, ap, subst, inl, inr}
+use Rattle.std.proofs.Common.{◌≡◌, ◌∙◌, ℕ, zero, suc, ◌+◌, ◌*◌, ◌/◌, ◌<◌, ◌≤◌, ◌==◌, Bool, true, false, cond, ◌||◌, if◌then◌else◌, List, [], ◌∷◌, map, length, slice_index, slice_index_or, Option, Some, None, arith, refl, sym, ap, subst, inl, inr}
 use Rattle.std.specs.Prelude.{count_by}
-use Rattle.std.specs.List.{All, list_any, range_with_len}
+use Rattle.std.specs.List.{All, list_any}
 use Rattle.std.proofs.lemmas.Bool.{cases_lt, true≢false}
-use Rattle.std.proofs.lemmas.Bool.Decides.{nat_tests}
 use Rattle.std.proofs.lemmas.List.{get_or_past}
 use Rattle.std.proofs.lemmas.List.Elements.{All-head, All-tail}
 use Rattle.std.proofs.lemmas.List.FromFn.{get_or-map-range_with_len, length-map-range_with_len}
@@ -14,11 +13,12 @@ use Rattle.pin_core.specs.declared.kept.Kept.{Kept}
 use Rattle.trie_model.specs.Extents.{row}
 use Rattle.chunk_usage.specs.declared.bump.Bump.{Bump}
 use Rattle.chunk_usage.specs.declared.space.Full.{Full}
-use Rattle.chunk_usage.specs.Ledger.{Ledger, Row, free_count, is_given, is_in_row, is_bump}
+use Rattle.chunk_usage.specs.Ledger.{Ledger, Row, is_given, is_in_row, is_bump}
 use Rattle.chunk_usage.specs.Handing.{Lacks, consumed, unconsumed}
 use Rattle.chunk_usage.specs.Keeping.{is_in_rows}
 use Rattle.shared_cells.specs.Cells.{Cells}
-use Rattle.qp_multi.specs.Capacity.{given_count, row_size}
+use Rattle.qp_multi.specs.Capacity.{given_count}
+use Rattle.qp_multi.specs.Crowds.{row_size}
 use Rattle.qp_multi.specs.Turns.{Agrees, cell_counts, current_image, row_for}
 use Rattle.qp_multi.proofs.CauseLaws.{NeededBy, any_counts, open_once, open_one, some_row}
 use Rattle.qp_multi.proofs.CountedLaws.{row_le}

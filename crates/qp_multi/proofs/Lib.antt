@@ -34,3 +34,7 @@ pub mod ShortLaws
 pub mod CapacityLaws
 pub mod RoomyLaws
 pub mod StayLaws
+pub mod BoundLaws
+pub mod CrowdLaws
+pub mod CrowdedLaws
+pub mod SmallLaws

@@ -79,7 +79,7 @@ thin_dense most u dense = let a = count_none (is_thin u) none (range_with_len 0 
 -- ---- the cells were lent by a seat that knew so much, and came back as they are now
 
 pub leaves_moved : {first lent : Cells} {u n : Ledger} → Fenced HasCell kept_references given_chunks reserve_account_of first u lent n → Ready kept_references given_chunks account_of lent n → Leaves first lent u n
-leaves_moved frame ready = record { given_stays = frame.given_stays; opens = frame.opens; grows = frame.grows; last = frame.last; same = ready.same }
+leaves_moved frame ready = record { given_stays = frame.given_stays; opens = frame.opens; grows = frame.grows; last = frame.last; meets = frame.meets; same = ready.same }
 
 -- the trie stands for the same entries
 pub moved_of : {first lent : Cells} {v w : Known} {u n : Ledger} {count : ℕ} → Returned first lent v w u n count → (root new : Option ℕ) (done : Done) → IsLedger n

@@ -1,5 +1,5 @@
 -- How much a call of a transaction consumes at most: a key's path has few branches, since their offsets rise, and each has at most 47 twigs.
-use Rattle.std.proofs.Common.{◌≡◌, ℕ, ◌+◌, ◌-◌, ◌*◌, ◌≤◌, ◌==◌, Bool, true, false, if◌then◌else◌, List, Option, Some, None, suc, slice_index, arith, refl}
+use Rattle.std.proofs.Common.{ℕ, ◌+◌, ◌-◌, ◌*◌, ◌≤◌, ◌==◌, Bool, true, false, if◌then◌else◌, List, Option, Some, None, suc, slice_index, arith, refl}
 use Rattle.packed_node.specs.declared.Cell.{Cell}
 use Rattle.trie_model.specs.Keys.{Entry, at}
 use Rattle.trie_model.specs.Trees.{Tree, Twigs, IsTree, AreTwigs}

@@ -1,5 +1,5 @@
 -- In how many chunks a working set has cells, where few of them are thin.
-use Rattle.std.proofs.Common.{◌≡◌, ◌∙◌, ℕ, zero, suc, ◌+◌, ◌*◌, ◌/◌, ◌<◌, ◌≤◌, nat_lt, nat_le, Bool, true, false, not, cond, ◌&&◌, if◌then◌else◌, List, [], ◌∷◌, map, length, slice_index, slice_index_or, Option, Some, None, arith, refl, sym, ap, inl, inr}
+use Rattle.std.proofs.Common.{◌≡◌, ◌∙◌, ℕ, zero, suc, ◌+◌, ◌*◌, ◌/◌, ◌<◌, ◌≤◌, nat_lt, Bool, true, false, not, cond, ◌&&◌, if◌then◌else◌, List, [], ◌∷◌, length, slice_index, slice_index_or, Option, Some, None, arith, refl, sym, ap, inl, inr}
 use Rattle.std.specs.Prelude.{count_by}
 use Rattle.std.specs.List.{range_with_len}
 use Rattle.std.proofs.lemmas.Bool.{cases_Bool, cases_lt, true≢false}
@@ -13,11 +13,10 @@ use Rattle.trie_model.proofs.ExtentLaws.{both_true}
 use Rattle.trie_model.proofs.ReachLaws.{live_is}
 use Rattle.trie_model.proofs.SizeLaws.{size_is}
 use Rattle.chunk_usage.specs.Counting.{is_low, is_sparse}
-use Rattle.chunk_usage.specs.Ledger.{Ledger, IsLedger, free_count, is_given, is_bump, row_of}
-use Rattle.trie_space.specs.Standing.{Standing, StandsIn}
+use Rattle.chunk_usage.specs.Ledger.{Ledger, IsLedger, is_given, is_bump, row_of}
+use Rattle.trie_space.specs.Standing.{Standing}
 use Rattle.evacuate.specs.Fillings.{old_live}
 use Rattle.evacuate.proofs.SumLaws.{old_reached}
-use Rattle.qp_multi.specs.Capacity.{given_count}
 use Rattle.qp_multi.specs.Movings.{FewThin, is_thin}
 use Rattle.qp_multi.proofs.CauseLaws.{live_of, open_once, open_one, some_live}
 use Rattle.qp_multi.proofs.CountedLaws.{row_le}

@@ -26,6 +26,7 @@ use Rattle.qp_multi.specs.Passes.{Known, version_seen}
 use Rattle.qp_multi.specs.Turns.{cells_with}
 use Rattle.qp_multi.specs.Bases.{StandsFor}
 use Rattle.qp_multi.specs.Changes.{operation_of, IsRefused}
+use Rattle.qp_multi.specs.Bounds.{IsCrowded}
 use Rattle.qp_multi.specs.Drafts.{Works, Operates, IsFull, Between, Commits, working_set}
 use Rattle.qp_multi.specs.Fulls.{CausedFrom, full_with}
 use Rattle.qp_multi.specs.Tries.{Tried}
@@ -175,3 +176,10 @@ pub cause_told : (key : List ℕ) (written : ℕ) (asks : List ℕ → List ℕ)
     → Between (λ d e. CausedFrom d e key written asks f) old new
 cause_told key written asks old new r e full told f is field made same cause =
     subst (λ (x : Full). Between (λ d e. CausedFrom d e key written asks x) old new) (sym made.2 ∙ same) (cause full made.0 (subst (λ (u : Unchanged). r ≡ Err u) field is) made.1)
+
+pub crowded_told : (key : List ℕ) (written : ℕ) (new : Option Draft) (r : Result (Unit {0}) Unchanged) (e : Unchanged) (full : NoRoom) (told f : Full) → r ≡ Err e → e ≡ unchanged.Full full
+    → (kept : Versions) × IfSome new (λ d. versions_in kept ≡ kept_versions d.usage) × (told ≡ full_with full kept) → told ≡ f
+    → ((n : NoRoom) (kept : Versions) → r ≡ Err (unchanged.Full n) → IfSome new (λ d. versions_in kept ≡ kept_versions d.usage) → IsSomeAnd new (λ d. IsCrowded d key written (length (versions_in kept))))
+    → IsSomeAnd new (λ d. IsCrowded d key written (length (versions_in f.kept)))
+crowded_told key written new r e full told f is field made same crowded =
+    subst (λ (x : Full). IsSomeAnd new (λ d. IsCrowded d key written (length (versions_in x.kept)))) (sym made.2 ∙ same) (crowded full made.0 (subst (λ (u : Unchanged). r ≡ Err u) field is) made.1)

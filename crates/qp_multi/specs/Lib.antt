@@ -16,6 +16,7 @@ pub mod Fulls
 pub mod Closings
 pub mod Receipts
 pub mod Compactions
+pub mod Crowds
 pub mod Capacity
 pub mod Bounds
 pub mod Prelude

@@ -1,5 +1,5 @@
 -- An operation tried: on the turn's cells, from a root.
-use Rattle.std.specs.Prelude.{◌≡◌, ◌↔◌, ◌⊎◌, ℕ, ◌+◌, ◌≤◌, true, false, List, Contains, length, Option, Result, Err, IfOk, IfErr, slice_index}
+use Rattle.std.specs.Prelude.{◌≡◌, ◌↔◌, ◌⊎◌, ℕ, ◌+◌, ◌<◌, ◌≤◌, true, false, List, Contains, length, Option, Result, Err, IfOk, IfErr, slice_index}
 use Rattle.trie_model.specs.Keys.{Entry}
 use Rattle.chunk_usage.specs.declared.space.Full.{Full as NoRoom}
 use Rattle.chunk_usage.specs.Ledger.{Ledger, is_bump, is_used, is_given, frozen_part, reserved}
@@ -30,6 +30,8 @@ pub record Grown (old new : Ledger) : Type 0 where
   pub frozen : frozen_part new ≡ frozen_part old
   pub given : (k : ℕ) → is_given old k ≡ true → is_given new k ≡ true
   pub opens : (k : ℕ) → is_bump new.bump k ≡ true → (is_bump old.bump k ≡ true) ⊎ (is_given old k ≡ false)
+  -- a chunk with a cell that counts had one before, was the bump chunk, or was free
+  pub meets : (k : ℕ) → 0 < slice_index new.live k → (0 < slice_index old.live k) ⊎ ((is_bump old.bump k ≡ true) ⊎ (is_given old k ≡ false))
 
 -- and no chunk of the reserve was taken for them
 pub record Spares (old new : Ledger) : Type 0 where

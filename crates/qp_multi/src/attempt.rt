@@ -1,4 +1,5 @@
 //! An operation tried once, by who has the turn.
+ghost use Rattle.chunk_usage.specs.Ledger.{IsLedger};
 ghost use Rattle.std.specs.Prelude.{◌≡◌, ◌+◌, ◌*◌, List, length};
 ghost use Rattle.qp_multi.specs.Prelude.{words_for, Entry, Agrees, HasBack, cells_with, StandsFor, LeadsItem, Tried};
 
@@ -28,8 +29,10 @@ pub(crate) fn attempt<L: Law, B: Lent<Version, Operations>>(
     requires leads { LeadsItem change.now }
     ensures back { HasBack seat result.0 usage.new }
     ensures tried { Tried change.now root seat.place.me.0 usage.old result.0.place.me.0 usage.new result.1 }
+    ensures ledger { IsLedger usage.new }
 {
     let mut cells = seat.lend::<Meaning<L>, B>(shared);
     let outcome = change_trie(&mut cells, usage, root, change);
+    usage.known(); // for the proof
     (cells.into_joined(), outcome)
 }

@@ -59,8 +59,9 @@ fn publish<L: Law, M: Payload<Operations>>(
 }
 
 impl Draft {
-    ghost use Rattle.qp_multi.specs.Bounds.{HasRoom, WhereRoomy};
-    ghost use Rattle.qp_multi.specs.Capacity.{EachRoomy, RowsAreFew};
+    ghost use Rattle.qp_multi.specs.Bounds.{HasRoom, IsSmall, WhereRoomy, WhereSmall};
+    ghost use Rattle.qp_multi.specs.Capacity.{EachRoomy};
+    ghost use Rattle.qp_multi.specs.Crowds.{RowsAreFew};
     ghost use Rattle.qp_multi.specs.Drafts.{Works, Commits, working_set};
     ghost use Rattle.qp_multi.specs.Movings.{FewThin};
     ghost use Rattle.qp_multi.specs.Receipts.{Publishes, Recycles, Settles};
@@ -93,6 +94,7 @@ impl Draft {
     ) -> (Draft, bool)
         requires table { self.seat.place.table_id ≡ shared.now.table.shared.table_id }
         requires works { Works self }
+        requires few { most ≤ 8 }
         ensures table { result.0.seat.place.table_id ≡ self.seat.place.table_id }
         ensures settles { Settles most self result.0 result.1 }
         ensures version { result.0.seat.version ≡ self.seat.version }
@@ -100,7 +102,9 @@ impl Draft {
         ensures whole { result.1 ≡ true → FewThin most result.0.usage }
         ensures stopped { result.1 ≡ false → free_count result.0.usage ≡ 0 }
         ensures roomy { HasRoom self → WhereRoomy self (result.1 ≡ true) }
+        ensures small { HasRoom self → WhereSmall self (IsSmall result.0.usage) }
     {
+        self.usage.known(); // for the proof
         if self.usage.sparse() <= most {
             return (self, true);
         }
@@ -123,6 +127,7 @@ impl Draft {
         requires works { Works self }
         requires rows { EachRoomy self.usage self.seat.place.me.0.seen (λ most_cells _. RowsAreFew most_cells self.usage.rows) }
         requires thin { WhereRoomy self (FewThin 8 self.usage) }
+        requires small { WhereSmall self (IsSmall self.usage) }
         requires lawful { L.lawful (first_version self.seat.place.me.0.seen) (working_set self) }
         requires few_operations { AreWithin L.most_operations self.log.operations }
         ensures tables { (result.0.seat.place.table_id ≡ self.seat.place.table_id) × (result.1.place.table_id ≡ self.seat.place.table_id) }

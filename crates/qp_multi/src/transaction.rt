@@ -6,7 +6,7 @@ ghost use Rattle.qp_multi.specs.Passes.{known_at};
 ghost use Rattle.std.specs.Option.{ForSome};
 ghost use Rattle.std.proofs.Props.{props};
 ghost use Rattle.chunk_usage.specs.Keeping.{full};
-ghost use Rattle.qp_multi.specs.Bounds.{HasRoom, IsCramped};
+ghost use Rattle.qp_multi.specs.Bounds.{HasRoom, IsCramped, IsCrowded};
 
 use crate::change::Change;
 use crate::commit::Receipt;
@@ -161,6 +161,8 @@ impl<'i, L: Law, N: Named> Locked<'i, L, N> {
             → Between (λ d e. CausedFrom d e (key_of change.now) (written_by change.now) (asked_by change.now) (full_with f kept))
             self.old.draft self.new.draft }
         ensures cramped { (f : _) → result ≡ Err (Unchanged.Full f) → IsSomeAnd self.old.draft IsCramped }
+        ensures crowded { (f : _) (kept : Kept) → result ≡ Err (Unchanged.Full f) → IfSome self.new.draft (λ d. versions_in kept ≡ kept_versions d.usage)
+            → IsSomeAnd self.new.draft (λ d. IsCrowded d (key_of change.now) (written_by change.now) (length (versions_in kept))) }
     {
         let Some(draft) = self.draft.take() else {
             // A transaction's draft is there between two calls.
@@ -247,6 +249,7 @@ impl<L: Law, N: Named> Index<L, N> {
         ensures few_operations { CommitsAreWithin L.most_operations result.1.seat.place.me.0 }
         ensures goes_on { result.1.usage.bump ≡ result.1.usage.fender }
         ensures rests { RestsRoomy result.1.usage result.1.seat.place.me.0.seen }
+        ensures live { result.1.usage.live ≡ result.1.usage.last_live }
         ensures chunks { length result.1.usage.given ≡ self.now.shared.table.shared.key.chunks }
     {
         let Some(seat) = pass.seat.take() else {
@@ -405,6 +408,7 @@ impl<L: Law, N: Named, K> Transaction<'_, '_, L, N, K> {
     ghost use Rattle.qp_multi.specs.Drafts.{Works, Operates, IsFull, IsSame, Between, working_set};
     ghost use Rattle.trie_read.specs.Readings.{Fetched};
     ghost use Rattle.qp_multi.specs.Fulls.{CausedFrom};
+    ghost use Rattle.qp_multi.specs.Keepings.{versions_in};
     ghost use Rattle.qp_multi.specs.Rooms.{SparesReserve};
     ghost use Rattle.trie_write.specs.Paths.{insert_asks, replace_asks, delete_asks};
     ghost use Rattle.qp_multi.specs.declared.meaning.Operation.TheVariants as operation;
@@ -437,6 +441,8 @@ impl<L: Law, N: Named, K> Transaction<'_, '_, L, N, K> {
             → Between (λ d e. CausedFrom d e key.now (3 + cells_in item.now) (insert_asks item.now) f) self.old.locked.now.draft self.new.locked.now.draft }
         // Nor does it come where the table has room for what was published and done.
         ensures cramped { (f : _) → result ≡ Err (InsertRefusal.Full f) → IsSomeAnd self.old.locked.now.draft IsCramped }
+        ensures crowded { (f : _) → result ≡ Err (InsertRefusal.Full f)
+            → IsSomeAnd self.new.locked.now.draft (λ d. IsCrowded d key.now (3 + cells_in item.now) (length (versions_in f.kept))) }
     {
         match self.locked.change(&Change::Insert(key, item)) {
             Ok(()) => Ok(()),
@@ -460,6 +466,8 @@ impl<L: Law, N: Named, K> Transaction<'_, '_, L, N, K> {
             → Between (λ d e. CausedFrom d e key.now (3 + cells_in item.now) (replace_asks item.now) f) self.old.locked.now.draft self.new.locked.now.draft }
         // Nor does it come where the table has room for what was published and done.
         ensures cramped { (f : _) → result ≡ Err (ChangeRefusal.Full f) → IsSomeAnd self.old.locked.now.draft IsCramped }
+        ensures crowded { (f : _) → result ≡ Err (ChangeRefusal.Full f)
+            → IsSomeAnd self.new.locked.now.draft (λ d. IsCrowded d key.now (3 + cells_in item.now) (length (versions_in f.kept))) }
     {
         match self.locked.change(&Change::Replace(key, item)) {
             Ok(()) => Ok(()),
@@ -481,6 +489,8 @@ impl<L: Law, N: Named, K> Transaction<'_, '_, L, N, K> {
             → Between (λ d e. CausedFrom d e key.now 1 delete_asks f) self.old.locked.now.draft self.new.locked.now.draft }
         // Nor does it come where the table has room for what was published and done.
         ensures cramped { (f : _) → result ≡ Err (ChangeRefusal.Full f) → IsSomeAnd self.old.locked.now.draft IsCramped }
+        ensures crowded { (f : _) → result ≡ Err (ChangeRefusal.Full f)
+            → IsSomeAnd self.new.locked.now.draft (λ d. IsCrowded d key.now 1 (length (versions_in f.kept))) }
     {
         match self.locked.change(&Change::Delete(key)) {
             Ok(()) => Ok(()),

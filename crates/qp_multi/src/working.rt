@@ -1,5 +1,5 @@
 //! A transaction's operations: each is tried, and once more where there is no room, after rounds and an evacuation.
-ghost use Rattle.std.specs.Prelude.{◌≡◌, ◌⊎◌, ◌∷◌, ◌++◌, [], ℕ, Err, IsOk, IfErr, All, Contains};
+ghost use Rattle.std.specs.Prelude.{◌≡◌, ◌⊎◌, ◌∷◌, ◌++◌, [], ℕ, Err, IsOk, IfErr, All, Contains, length};
 ghost use Rattle.qp_multi.specs.Prelude.{Lacks, kept_versions, kept_in, IsNamed, IsVersion, operation_of, key_of};
 ghost use Rattle.qp_multi.specs.Prelude.{written_by, asked_by, LeadsItem, IsRefused, versions_in, Versions, Spares, Tried};
 
@@ -15,7 +15,8 @@ use std::marker::Brand;
 use trie_write::Unchanged;
 
 impl Draft {
-    ghost use Rattle.qp_multi.specs.Bounds.{HasRoom, IsCramped};
+    ghost use Rattle.qp_multi.specs.Bounds.{Crowds, HasRoom, IsCramped, IsCrowded, StaysSmall};
+    ghost use Rattle.chunk_usage.specs.Ledger.{IsLedger};
     ghost use Rattle.qp_multi.specs.Drafts.{Works, Operates, IsFull};
     ghost use Rattle.qp_multi.specs.Fulls.{CausedBy, CausedFrom, full_with, version_at};
     ghost use Rattle.qp_multi.specs.Rooms.{Fails, FreesRoom, MakesRoom, SparesReserve};
@@ -49,6 +50,7 @@ impl Draft {
         ensures tried { IfErr result.1 (λ e. Tried change.now self.root self.seat.place.me.0 self.usage result.0.seat.place.me.0 result.0.usage (Err e)) }
         ensures fails { (f : _) → result.1 ≡ Err (Unchanged.Full f) → Fails self result.0 }
         ensures spares { Spares self.usage result.0.usage }
+        ensures ledger { IsLedger result.0.usage }
         ensures root { IfErr result.1 (λ _. result.0.root ≡ self.root) }
         ensures room { HasRoom self → HasRoom result.0 }
         ensures cramped { HasRoom self → (f : _) → result.1 ≡ Err (Unchanged.Full f) → IsCramped self }
@@ -118,6 +120,8 @@ impl Draft {
         ensures full { (f : _) (kept : Versions) → result.1 ≡ Err (Unchanged.Full f) → versions_in kept ≡ kept_versions result.0.usage
             → IsFull result.0 (full_with f kept) }
         ensures room { (left : Left) × MakesRoom self left × Spares left.usage result.0.usage }
+        ensures small { StaysSmall self result.0.usage }
+        ensures crowded { (f : _) → result.1 ≡ Err (Unchanged.Full f) → Crowds self result.0 (key_of change.now) (written_by change.now) }
         ensures cause { (f : _) (kept : Versions) → result.1 ≡ Err (Unchanged.Full f) → versions_in kept ≡ kept_versions result.0.usage
             → CausedBy self result.0 (key_of change.now) (written_by change.now) (asked_by change.now) (full_with f kept) }
     {
@@ -142,6 +146,8 @@ impl Draft {
         ensures full { (f : _) (kept : Versions) → result.1 ≡ Err (Unchanged.Full f) → versions_in kept ≡ kept_versions result.0.usage
             → IsFull result.0 (full_with f kept) }
         ensures spares { SparesReserve self result.0 }
+        ensures crowded { HasRoom self → (f : _) (kept : Versions) → result.1 ≡ Err (Unchanged.Full f) → versions_in kept ≡ kept_versions result.0.usage
+            → IsCrowded result.0 (key_of change.now) (written_by change.now) (length (versions_in kept)) }
         ensures cause { (f : _) (kept : Versions) → result.1 ≡ Err (Unchanged.Full f) → versions_in kept ≡ kept_versions result.0.usage
             → CausedFrom self result.0 (key_of change.now) (written_by change.now) (asked_by change.now) (full_with f kept) }
         ensures room { HasRoom self → HasRoom result.0 }

@@ -2,6 +2,7 @@
 ghost use Rattle.std.specs.Prelude.{◌≡◌, ◌+◌, ◌≤◌, ◌++◌, length, take};
 ghost use Rattle.rr_data.specs.Prelude.{flat_map, item_limit, record_bytes, rrset_bytes};
 
+use crate::numbers::{number_octets, short_octets};
 use crate::rdata::Rdata;
 use crate::rrset::RrSet;
 
@@ -24,7 +25,7 @@ fn put_record(out: &mut [u8], at: usize, octets: &[u8]) -> usize
     ensures end { result ≡ at + length (record_bytes octets.now) }
     ensures puts { take (at + length (record_bytes octets.now)) out.new ≡ take at out.old ++ record_bytes octets.now }
 {
-    let behind_len = put(out, at, &(octets.len() as u16).to_be_bytes());
+    let behind_len = put(out, at, &short_octets(octets.len() as u16));
     put(out, behind_len, octets)
 }
 
@@ -49,9 +50,9 @@ fn put_set(out: &mut [u8], at: usize, set: &RrSet) -> usize
     ensures puts { take (at + length (rrset_bytes set.now)) out.new ≡ take at out.old ++ rrset_bytes set.now }
 {
     let records = set.records();
-    let behind_type = put(out, at, &set.rtype().to_be_bytes());
-    let behind_ttl = put(out, behind_type, &set.ttl().to_be_bytes());
-    let behind_count = put(out, behind_ttl, &(records.len() as u16).to_be_bytes());
+    let behind_type = put(out, at, &short_octets(set.rtype()));
+    let behind_ttl = put(out, behind_type, &number_octets(set.ttl()));
+    let behind_count = put(out, behind_ttl, &short_octets(records.len() as u16));
     put_records(out, behind_count, records)
 }
 

@@ -6,6 +6,7 @@ ghost use Rattle.rr_data.specs.Prelude.{item_limit, rrset_bytes, IsEntry, IsItem
 
 use crate::decoding::read_item;
 use crate::encoding::{put, put_sets};
+use crate::numbers::short_octets;
 use crate::places::place_of;
 use crate::rdata::Rdata;
 use crate::refusal::DecodeRefusal;
@@ -236,7 +237,7 @@ impl Entry {
             return None;
         }
         let behind_owner = put(out, 0, owner.wire());
-        let behind_count = put(out, behind_owner, &(self.sets.len() as u16).to_be_bytes());
+        let behind_count = put(out, behind_owner, &short_octets(self.sets.len() as u16));
         Some(put_sets(out, behind_count, &self.sets))
     }
 

@@ -3,6 +3,7 @@ ghost use Rattle.std.specs.Prelude.{map, Some, Ok, Err, Result, IfOk};
 ghost use Rattle.rr_data.specs.Prelude.{All, field_octets, word_octets, read_fields, option_map, w16, w32, to_be_bytes};
 ghost use Rattle.rr_data.specs.Prelude.{number, NameField, time_of, IsPlaced, token_view, PushesAll, Pushes, field_view};
 
+use crate::numbers::{number_octets, short_octets};
 use crate::refusal::RdataRefusal;
 use crate::splits::MOST_SHORT;
 use crate::types::Field;
@@ -26,7 +27,7 @@ fn push_short(text: &[u8], out: &mut Vec<u8>) -> Result<bool, AllocError>
     let Some(value) = number(text, MOST_SHORT) else {
         return Ok(false);
     };
-    out.extend_from_slice(&(value as u16).to_be_bytes())?;
+    out.extend_from_slice(&short_octets(value as u16))?;
     Ok(true)
 }
 
@@ -37,7 +38,7 @@ fn push_number(value: Option<u32>, out: &mut Vec<u8>) -> Result<bool, AllocError
     let Some(value) = value else {
         return Ok(false);
     };
-    out.extend_from_slice(&value.to_be_bytes())?;
+    out.extend_from_slice(&number_octets(value))?;
     Ok(true)
 }
 

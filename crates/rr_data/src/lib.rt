@@ -10,6 +10,7 @@ mod fields;
 mod forms;
 mod generic;
 pub mod laws;
+mod numbers;
 mod places;
 mod rdata;
 mod reading;

@@ -1,8 +1,9 @@
 //! The items of single records.
 ghost use Rattle.std.specs.Prelude.{◌<◌, ◌≤◌, ◌∷◌, [], length, IfOk, MatchOption};
-ghost use Rattle.rr_data.specs.Prelude.{to_be_bytes, fresh, item, item_limit, IsItem};
+ghost use Rattle.rr_data.specs.Prelude.{fresh, item, item_limit, IsItem};
 
 use crate::entry::ITEM_LIMIT;
+use crate::numbers::{number_octets, short_octets};
 use dns_name::Name;
 use std::alloc::{AllocError, Global};
 
@@ -26,11 +27,11 @@ pub fn single_item(
     }
     let mut item = Vec::with_capacity(alloc, len)?;
     item.extend_from_slice(wire)?;
-    item.extend_from_slice(&1u16.to_be_bytes())?;
-    item.extend_from_slice(&rtype.to_be_bytes())?;
-    item.extend_from_slice(&ttl.to_be_bytes())?;
-    item.extend_from_slice(&1u16.to_be_bytes())?;
-    item.extend_from_slice(&(octets.len() as u16).to_be_bytes())?;
+    item.extend_from_slice(&short_octets(1))?;
+    item.extend_from_slice(&short_octets(rtype))?;
+    item.extend_from_slice(&number_octets(ttl))?;
+    item.extend_from_slice(&short_octets(1))?;
+    item.extend_from_slice(&short_octets(octets.len() as u16))?;
     item.extend_from_slice(octets)?;
     Ok(Some(item))
 }

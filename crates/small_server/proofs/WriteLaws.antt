@@ -10,8 +10,9 @@ use Rattle.qp_multi.specs.Operations.{applied}
 use Rattle.qp_multi.specs.Passes.{Known}
 use Rattle.qp_multi.specs.Drafts.{Begins, Works, base_of, working_set}
 use Rattle.zone_edit.specs.Stores.{WorksOnSome}
-use Rattle.zone_edit.specs.Blocks.{Edited, Executes, most_done}
-use Rattle.zone_edit.proofs.EditLaws.{edits_some, some_weaker}
+use Rattle.zone_edit.specs.Blocks.{Edited, Executes}
+use Rattle.zone_edit.proofs.EditLaws.{some_weaker}
+use Rattle.zone_edit.proofs.WayLaws.{some_in_order}
 
 -- the law: a version is what names own
 abbrev pub IsStored : List Entry → List Entry → Type 0
@@ -30,7 +31,7 @@ module _ (old : Known) (first : Option Draft) (begins : IsSomeAnd first (Begins 
   module _ (origin : Name) (asked : Transaction) (second : Option Draft) (edits : Edited origin asked (Ok tt) first second) where
     -- and works on one when it is done
     done : IsSomeAnd second WorksOnSome
-    done = edits_some (most_done asked.operations (Ok tt)) (Executes origin asked (Ok tt)) first second begun (λ version e a. record { version = a.0; on = a.2 }) edits
+    done = some_in_order origin asked.operations (Executes origin asked (Ok tt)) first second begun (λ version e a. record { version = a.0; on = a.2 }) edits
 
     pub done_works : IsSomeAnd second Works
     done_works = some_weaker WorksOnSome Works second (λ d w. w.on.works) done

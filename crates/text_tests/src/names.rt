@@ -40,16 +40,16 @@ fn wire_len(text: &[u8]) -> Result<usize, NameRefusal> {
 
 // Texts, and the first fault of each.
 const REFUSED: &[(&[u8], NameRefusal)] = &[
-    (b"a..b", NameRefusal::EmptyLabel(2)),
+    (b"a..b", NameRefusal::EmptyLabel { at: 2 }),
     (
         b"aaaaaaaaaaaaaaaaaaaaaaaaaaaaaaaaaaaaaaaaaaaaaaaaaaaaaaaaaaaaaaaa",
-        NameRefusal::LongLabel(63),
+        NameRefusal::LongLabel { at: 63 },
     ),
-    (b"a\\256", NameRefusal::BadEscape(1)),
-    (b"a\\2", NameRefusal::BadEscape(1)),
-    (b"a\\", NameRefusal::BadEscape(1)),
-    (b"a\\1.2..", NameRefusal::BadEscape(1)),
-    (b"", NameRefusal::EmptyLabel(0)),
+    (b"a\\256", NameRefusal::BadEscape { at: 1 }),
+    (b"a\\2", NameRefusal::BadEscape { at: 1 }),
+    (b"a\\", NameRefusal::BadEscape { at: 1 }),
+    (b"a\\1.2..", NameRefusal::BadEscape { at: 1 }),
+    (b"", NameRefusal::EmptyLabel { at: 0 }),
 ];
 
 #[test]
@@ -59,7 +59,10 @@ fn the_first_fault_of_a_text_is_refused(rt: HostRuntime) -> Result<(), Fail> {
     }
     // Labels of the octets FF: three of 63, and one of so many.
     let full = "\\255".repeat(rt.alloc(), 63)?;
-    for (last, want) in [(61, Ok(255)), (62, Err(NameRefusal::LongName(256)))] {
+    for (last, want) in [
+        (61, Ok(255)),
+        (62, Err(NameRefusal::LongName { octets: 256 })),
+    ] {
         let last = "\\255".repeat(rt.alloc(), last)?;
         let text = format!(in rt.alloc(); "{full}.{full}.{full}.{last}.")?;
         assert_eq!(rt; wire_len(text.as_bytes()), want);

@@ -52,7 +52,7 @@ fn texts_are_read_whole_or_refused(rt: HostRuntime) -> Result<(), Fail> {
     );
     assert_eq!(rt;
         read_quietly(rt.alloc(), b"hello!", 9).err(),
-        Some(ReadRefusal::TooLong(5))
+        Some(ReadRefusal::TooLong { limit: 5 })
     );
     assert_eq!(rt;
         read_faultily(rt.alloc(), b"hello").err(),

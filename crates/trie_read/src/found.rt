@@ -6,8 +6,8 @@ ghost use Rattle.trie_read.specs.Prelude.{Leads, Entry, Stands, IsPredecessor, c
 use super::ancestors::Ancestors;
 use super::iter::Iter;
 use super::leaf::key_at;
+use super::top::Root;
 use chunk_cells::CellRead;
-use packed_node::Ref;
 use shift_key::Key;
 
 /// Whether a name is there, or else names above it.
@@ -67,7 +67,7 @@ pub struct Found {
 }
 
 /// What there is of the key's name, the names above it, and the last name that isn't after it.
-pub fn find<C: CellRead>(cells: &mut C, root: Option<Ref>, key: &Key) -> Found
+pub fn find<C: CellRead>(cells: &mut C, root: Root, key: &Key) -> Found
     requires { (version : List Entry) × Stands (C.has cells.old) root version × EachTells Leads version }
     ensures same { cells.new ≡ cells.old }
     ensures kind { (version : List Entry) → Stands (C.has cells.old) root version → EachTells Leads version

@@ -9,6 +9,7 @@ use super::ancestors::{Ancestor, Ancestors};
 use super::labels::{ends_at, labels_of, labels_to};
 use super::leaf::{difference_at, key_at};
 use super::path::Path;
+use super::top::Root;
 use chunk_cells::CellRead;
 use packed_node::{Leaf, Ref};
 use shift_key::{Difference, Key};
@@ -28,14 +29,14 @@ pub enum Place {
 /// that a walk takes a few steps for each name: it takes 4 KiB.
 #[derive(Clone, Copy)]
 pub struct Iter {
-    root: Option<Ref>,
+    root: Root,
     path: Path,
     place: Place,
 }
 
 impl Iter {
     /// Before the first name.
-    pub fn start(root: Option<Ref>) -> Iter
+    pub fn start(root: Root) -> Iter
         ensures { IsStart root result }
     {
         Iter {
@@ -46,7 +47,7 @@ impl Iter {
     }
 
     /// Before the first name of a trie, from wherever in whatever trie it stood. It clears nothing, so one iterator serves many walks.
-    pub fn restart(&mut self, root: Option<Ref>)
+    pub fn restart(&mut self, root: Root)
         ensures { IsStart root self.new }
     {
         self.root = root;

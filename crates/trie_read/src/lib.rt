@@ -16,6 +16,7 @@ mod path;
 mod reading;
 mod size;
 mod steps;
+mod top;
 
 pub use ancestors::{Ancestor, Ancestors};
 pub use found::{Chain, Found, Kind, find};
@@ -26,3 +27,4 @@ pub use look_up::{get, get_counted};
 pub use reading::{CellReading, Reading, Rooted};
 pub use size::{count, nodes};
 pub use steps::Steps;
+pub use top::Root;

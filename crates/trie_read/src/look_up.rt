@@ -5,6 +5,7 @@ ghost use Rattle.trie_read.specs.Prelude.{Cell, Leads, Entry, Stands, EachTells,
 
 use super::leaf::is_of;
 use super::steps::Steps;
+use super::top::Root;
 use chunk_cells::CellRead;
 use chunk_cells::extents::content_cells_for;
 use packed_node::{Cell, Leaf, Node, Ref};
@@ -13,7 +14,7 @@ use std::marker::Brand;
 use std::sync::ledger::{Blank, Ledger};
 
 /// Where the item of the key lies; `None` where the key is not there.
-pub fn get<C: CellRead>(cells: &mut C, root: Option<Ref>, key: &Key) -> Option<Leaf>
+pub fn get<C: CellRead>(cells: &mut C, root: Root, key: &Key) -> Option<Leaf>
     requires { (version : List Entry) × Stands (C.has cells.old) root version × EachTells Leads version }
     ensures same { cells.new ≡ cells.old }
     ensures value { (version : List Entry) → Stands (C.has cells.old) root version → EachTells Leads version
@@ -25,7 +26,7 @@ pub fn get<C: CellRead>(cells: &mut C, root: Option<Ref>, key: &Key) -> Option<L
 /// The same; nobody asks for what was counted.
 fn get_from<C: CellRead, L: Ledger>(
     cells: &mut C,
-    root: Option<Ref>,
+    root: Root,
     key: &Key,
     blank: Blank,
 ) -> Option<Leaf>
@@ -44,7 +45,7 @@ fn get_from<C: CellRead, L: Ledger>(
 /// Where the item of the key lies, as `get` tells it. Each cell that is read is a step.
 pub fn get_counted<C: CellRead, L: Ledger>(
     cells: &mut C,
-    root: Option<Ref>,
+    root: Root,
     key: &Key,
     steps: &mut Steps<L>,
 ) -> Option<Leaf>

@@ -9,6 +9,7 @@ use super::iter::{Iter, Met};
 use super::leaf::name_at;
 use super::look_up::get;
 use super::size::{count, nodes};
+use super::top::Root;
 use chunk_cells::{CellRead, read_item};
 use dns_name::Name;
 use packed_node::{Cell, Leaf, Ref};
@@ -205,7 +206,7 @@ pub trait Rooted: CellRead {
     ghost number: { Self → ℕ };
 
     /// The version's root.
-    fn root(&mut self) -> Option<Ref>
+    fn root(&mut self) -> Root
         ensures same { self.new ≡ self.old }
         ensures root { result ≡ root self.old };
 
@@ -315,13 +316,13 @@ impl<V: Rooted> Reading for V {
 #[derive(Drop)]
 pub struct CellReading<C> {
     pub cells: C,
-    pub root: Option<Ref>,
+    pub root: Root,
     pub number: u64,
 }
 
 impl<C: CellRead + Drop> CellReading<C> {
     /// The version with this root.
-    pub fn new(cells: C, root: Option<Ref>, number: u64) -> CellReading<C>
+    pub fn new(cells: C, root: Root, number: u64) -> CellReading<C>
         ensures number { ⟦<CellReading<C> as Reading>⟧.number result ≡ number }
         ensures holds { (version : List Entry) → Stands (C.has cells) root version → EachTells Leads version
             → ⟦<CellReading<C> as Reading>⟧.holds result version }
@@ -347,7 +348,7 @@ impl<C: CellRead + Drop> Rooted for CellReading<C> {
 
     ghost number = { λ s. s.number };
 
-    fn root(&mut self) -> Option<Ref> {
+    fn root(&mut self) -> Root {
         self.root
     }
 

@@ -3,11 +3,12 @@
 ghost use Rattle.std.specs.Prelude.{◌≡◌, ◌≤◌, ◌^◌, ℕ, List, length};
 ghost use Rattle.trie_read.specs.Prelude.{Entry, Tree, entries_of, Stands, nodes_of_keys, keys_of, nodes_of, IsTop};
 
+use super::top::Root;
 use chunk_cells::CellRead;
-use packed_node::{Cell, Node, Ref};
+use packed_node::{Cell, Node};
 
 /// How many names there are.
-pub fn count<C: CellRead>(cells: &mut C, root: Option<Ref>) -> u64
+pub fn count<C: CellRead>(cells: &mut C, root: Root) -> u64
     requires { (version : List Entry) × Stands (C.has cells.old) root version }
     ensures same { cells.new ≡ cells.old }
     ensures value { (version : List Entry) → Stands (C.has cells.old) root version → result ≡ length version }
@@ -16,7 +17,7 @@ pub fn count<C: CellRead>(cells: &mut C, root: Option<Ref>) -> u64
 }
 
 /// How many nodes there are: leaves and branches.
-pub fn nodes<C: CellRead>(cells: &mut C, root: Option<Ref>) -> u64
+pub fn nodes<C: CellRead>(cells: &mut C, root: Root) -> u64
     requires { (version : List Entry) × Stands (C.has cells.old) root version }
     ensures same { cells.new ≡ cells.old }
     ensures value { (version : List Entry) → Stands (C.has cells.old) root version → result ≡ nodes_of_keys (keys_of version) }
@@ -30,7 +31,7 @@ struct Size {
     nodes: u64,
 }
 
-fn size_at<C: CellRead>(cells: &mut C, root: Option<Ref>) -> Size
+fn size_at<C: CellRead>(cells: &mut C, root: Root) -> Size
     requires { (version : List Entry) × Stands (C.has cells.old) root version }
     ensures same { cells.new ≡ cells.old }
     ensures names { (version : List Entry) → Stands (C.has cells.old) root version → result.names ≡ length version }

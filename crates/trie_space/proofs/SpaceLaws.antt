@@ -1,5 +1,5 @@
 -- Calls one after the other, and cells that are handed out.
-use Rattle.std.proofs.Common.{◌≡◌, ℕ, zero, suc, ◌+◌, ◌/◌, ◌<◌, ◌≤◌, Bool, true, false, List, [], ◌∷◌, Contains, Option, Some, None, Result, Ok, Err, IfOk, IfErr, slice_get, slice_set, arith, refl, sym, ◌∙◌, ap, subst, inl, inr}
+use Rattle.std.proofs.Common.{◌≡◌, ◌⊎◌, ℕ, zero, suc, ◌+◌, ◌/◌, ◌<◌, ◌≤◌, Bool, true, false, List, [], ◌∷◌, Contains, Option, Some, None, Result, Ok, Err, IfOk, IfErr, slice_get, slice_set, arith, refl, sym, ◌∙◌, ap, subst, inl, inr}
 use Rattle.std.specs.Prelude.{IsErrAnd}
 use Rattle.std.proofs.lemmas.Bool.{true≢false, cases_eq}
 use Rattle.packed_node.specs.declared.Cell.{Cell}
@@ -51,7 +51,7 @@ apart_from {old} h z u i l e = true≢false (sym u ∙ ap old.used e ∙ h.unuse
 
 module _ {S A : Type 0} {has : S → ℕ → Cell → Type 0} {kept : S → List ℕ} {given : S → List Bool} {account : A → Account} where
   pub frame_refl : (s : S) (a : A) → Frame has kept given account s a s a
-  frame_refl s a = record { stays = λ q c m h. h; frozen = λ q c m h. h; keeps = refl; given_stays = λ k h. h; opens = λ k o. inl o; grows = grows_refl (account a).used (account a).mutable; spares = refl; last = refl }
+  frame_refl s a = record { stays = λ q c m h. h; frozen = λ q c m h. h; keeps = refl; given_stays = λ k h. h; opens = λ k o. inl o; grows = grows_refl (account a).used (account a).mutable; spares = refl; last = refl; meets = λ k h. inl h }
 
   pub frame_then : {s s1 s2 : S} {a a1 a2 : A} → Frame has kept given account s a s1 a1 → Frame has kept given account s1 a1 s2 a2 → Frame has kept given account s a s2 a2
   frame_then {a1 = a1} {a2 = a2} f g = record {
@@ -63,11 +63,12 @@ module _ {S A : Type 0} {has : S → ℕ → Cell → Type 0} {kept : S → List
     grows = grows_then f.grows g.grows;
     spares = g.spares ∙ f.spares;
     last = g.last ∙ f.last;
+    meets = λ k h. elim (g.meets k h) [ inl m ↦ f.meets k m | inr (inl o) ↦ elim (f.opens k o) [ inl m ↦ inr (inl m) | inr free ↦ inr (inr free) ] | inr (inr free) ↦ inr (inr (λ b. free (f.given_stays k b))) ];
   }
 
   -- counts change alone
-  pub frame_counts : {s s1 : S} {a a1 a2 : A} → Frame has kept given account s a s1 a1 → account a2 ≡ record (account a1) { live = (account a2).live } → Frame has kept given account s a s1 a2
-  frame_counts f rest = record {
+  pub frame_counts : {s s1 : S} {a a1 a2 : A} → Frame has kept given account s a s1 a1 → account a2 ≡ record (account a1) { live = (account a2).live } → ((k : ℕ) → (account a2).live k ≤ (account a1).live k) → Frame has kept given account s a s1 a2
+  frame_counts f rest fewer = record {
     stays = f.stays;
     frozen = λ q c m h. f.frozen q c (sym (ap (λ (z : Account). z.mutable q) rest) ∙ m) h;
     keeps = f.keeps;
@@ -76,6 +77,7 @@ module _ {S A : Type 0} {has : S → ℕ → Cell → Type 0} {kept : S → List
     grows = record { stays = λ q u. ap (λ (z : Account). z.used q) rest ∙ f.grows.stays q u; settled = λ q u. ap (λ (z : Account). z.mutable q) rest ∙ f.grows.settled q u; fresher = λ q m. ap (λ (z : Account). z.mutable q) rest ∙ f.grows.fresher q m };
     spares = ap (λ (z : Account). z.reserved) rest ∙ f.spares;
     last = ap (λ (z : Account). z.frozen) rest ∙ f.last;
+    meets = λ k h. f.meets k (let e = fewer k in omega arith);
   }
 
   -- cells that were handed out are written
@@ -89,13 +91,15 @@ module _ {S A : Type 0} {has : S → ℕ → Cell → Type 0} {kept : S → List
     grows = f.grows;
     spares = f.spares;
     last = f.last;
+    meets = f.meets;
   }
 
   -- a chunk is given with the cells
   pub frame_given : {s s1 : S} {a a1 : A} (chunk : Option ℕ) → GivesChunk (given s) (given s1) chunk → ((q : ℕ) (c : Cell) → has s q c → has s1 q c) → kept s1 ≡ kept s →
       OpensFree (given s) (account a).opened (account a1).opened → Grows (account a).used (account a1).used (account a).mutable (account a1).mutable → (account a1).reserved ≡ (account a).reserved → (account a1).frozen ≡ (account a).frozen
+      → ((k : ℕ) → 0 < (account a1).live k → (0 < (account a).live k) ⊎ (((account a).opened k ≡ true) ⊎ (IsGiven (given s) k → ⊥)))
       → Frame has kept given account s a s1 a1
-  frame_given {s} {s1} chunk gives all keeps opens grows spares last = record {
+  frame_given {s} {s1} chunk gives all keeps opens grows spares last meets = record {
     stays = λ q c u h. all q c h;
     frozen = λ q c m h. all q c h;
     keeps = keeps;
@@ -104,6 +108,7 @@ module _ {S A : Type 0} {has : S → ℕ → Cell → Type 0} {kept : S → List
     grows = grows;
     spares = spares;
     last = last;
+    meets = meets;
   }
 
 module _ {S A : Type 0} {kept : S → List ℕ} {given : S → List Bool} {account : A → Account} where
@@ -204,7 +209,7 @@ module _ {S A : Type 0} {has : S → ℕ → Cell → Type 0} {kept : S → List
   -- ---- calls that may write mutable cells
 
   pub fenced_of : {s s1 : S} {a a1 : A} → Frame has kept given account s a s1 a1 → Fenced has kept given account s a s1 a1
-  fenced_of f = record { frozen = f.frozen; keeps = f.keeps; given_stays = f.given_stays; opens = f.opens; grows = f.grows; spares = f.spares; last = f.last }
+  fenced_of f = record { frozen = f.frozen; keeps = f.keeps; given_stays = f.given_stays; opens = f.opens; grows = f.grows; spares = f.spares; last = f.last; meets = f.meets }
 
   pub fenced_then : {s s1 s2 : S} {a a1 a2 : A} → Fenced has kept given account s a s1 a1 → Fenced has kept given account s1 a1 s2 a2 → Fenced has kept given account s a s2 a2
   fenced_then {a1 = a1} {a2 = a2} f g = record {
@@ -215,6 +220,7 @@ module _ {S A : Type 0} {has : S → ℕ → Cell → Type 0} {kept : S → List
     grows = grows_then f.grows g.grows;
     spares = g.spares ∙ f.spares;
     last = g.last ∙ f.last;
+    meets = λ k h. elim (g.meets k h) [ inl m ↦ f.meets k m | inr (inl o) ↦ elim (f.opens k o) [ inl m ↦ inr (inl m) | inr free ↦ inr (inr free) ] | inr (inr free) ↦ inr (inr (λ b. free (f.given_stays k b))) ];
   }
 
   -- a mutable cell is written
@@ -227,10 +233,11 @@ module _ {S A : Type 0} {has : S → ℕ → Cell → Type 0} {kept : S → List
     grows = f.grows;
     spares = f.spares;
     last = f.last;
+    meets = f.meets;
   }
 
-  pub fenced_counts : {s s1 : S} {a a1 a2 : A} → Fenced has kept given account s a s1 a1 → account a2 ≡ record (account a1) { live = (account a2).live } → Fenced has kept given account s a s1 a2
-  fenced_counts f rest = record {
+  pub fenced_counts : {s s1 : S} {a a1 a2 : A} → Fenced has kept given account s a s1 a1 → account a2 ≡ record (account a1) { live = (account a2).live } → ((k : ℕ) → (account a2).live k ≤ (account a1).live k) → Fenced has kept given account s a s1 a2
+  fenced_counts f rest fewer = record {
     frozen = λ q c m h. f.frozen q c (sym (ap (λ (z : Account). z.mutable q) rest) ∙ m) h;
     keeps = f.keeps;
     given_stays = f.given_stays;
@@ -238,6 +245,7 @@ module _ {S A : Type 0} {has : S → ℕ → Cell → Type 0} {kept : S → List
     grows = record { stays = λ q u. ap (λ (z : Account). z.used q) rest ∙ f.grows.stays q u; settled = λ q u. ap (λ (z : Account). z.mutable q) rest ∙ f.grows.settled q u; fresher = λ q m. ap (λ (z : Account). z.mutable q) rest ∙ f.grows.fresher q m };
     spares = ap (λ (z : Account). z.reserved) rest ∙ f.spares;
     last = ap (λ (z : Account). z.frozen) rest ∙ f.last;
+    meets = λ k h. f.meets k (let e = fewer k in omega arith);
   }
 
   pub fenced_same : {s s1 s2 : S} {a a2 : A} → s1 ≡ s → Fenced has kept given account s1 a s2 a2 → Fenced has kept given account s a s2 a2

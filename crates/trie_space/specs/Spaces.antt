@@ -1,5 +1,5 @@
 -- What cells, and the space that hands them out, know together, and what a call leaves of it.
-use Rattle.std.specs.Prelude.{◌≡◌, ℕ, ◌+◌, ◌/◌, ◌<◌, Bool, true, false, List, Contains}
+use Rattle.std.specs.Prelude.{◌≡◌, ◌⊎◌, ℕ, ◌+◌, ◌/◌, ◌<◌, Bool, true, false, List, Contains}
 use Rattle.packed_node.specs.declared.Cell.{Cell}
 use Rattle.chunk_cells.specs.Chunks.{IsGiven}
 use Rattle.chunk_usage.specs.declared.space.Full.{Full}
@@ -22,6 +22,8 @@ pub record Frame {S A : Type 0} (has : S → ℕ → Cell → Type 0) (kept : S 
   pub grows : Grows (account a).used (account a_new).used (account a).mutable (account a_new).mutable
   pub spares : (account a_new).reserved ≡ (account a).reserved
   pub last : (account a_new).frozen ≡ (account a).frozen
+  -- a chunk with a cell that counts had one before, was the bump chunk, or wasn't given
+  pub meets : (k : ℕ) → 0 < (account a_new).live k → (0 < (account a).live k) ⊎ (((account a).opened k ≡ true) ⊎ (IsGiven (given s) k → ⊥))
 
 -- A call that may write cells in use: the same, but for mutable ones.
 pub record Fenced {S A : Type 0} (has : S → ℕ → Cell → Type 0) (kept : S → List ℕ) (given : S → List Bool) (account : A → Account) (s : S) (a : A) (s_new : S) (a_new : A) : Type 0 where
@@ -32,6 +34,8 @@ pub record Fenced {S A : Type 0} (has : S → ℕ → Cell → Type 0) (kept : S
   pub grows : Grows (account a).used (account a_new).used (account a).mutable (account a_new).mutable
   pub spares : (account a_new).reserved ≡ (account a).reserved
   pub last : (account a_new).frozen ≡ (account a).frozen
+  -- a chunk with a cell that counts had one before, was the bump chunk, or wasn't given
+  pub meets : (k : ℕ) → 0 < (account a_new).live k → (0 < (account a).live k) ⊎ (((account a).opened k ≡ true) ⊎ (IsGiven (given s) k → ⊥))
 
 -- A call that changes nothing: cells in use are as they were, and so are the counts.
 pub record Unchanged {S A : Type 0} (has : S → ℕ → Cell → Type 0) (account : A → Account) (s : S) (a : A) (s_new : S) (a_new : A) : Type 0 where

@@ -3,6 +3,8 @@
 #![tactic(auto)]
 
 #[cfg(test)]
+mod crowded;
+#[cfg(test)]
 mod evacuations;
 #[cfg(test)]
 mod few_names;
@@ -30,3 +32,5 @@ mod thinned;
 mod tries;
 #[cfg(test)]
 mod usage;
+#[cfg(test)]
+mod walks;

@@ -19,7 +19,7 @@ fn item_of(alloc: Global, name: &Name, octets: usize) -> Result<Item, Fail>
 }
 
 /// The items of so many names with so many octets each, from n0.example. on.
-fn numbered(alloc: Global, names: u32, octets: usize) -> Result<Vec<Item>, Fail>
+pub(crate) fn numbered(alloc: Global, names: u32, octets: usize) -> Result<Vec<Item>, Fail>
     requires { 255 ≤ octets }
 {
     let mut sorted = Vec::new(alloc);

@@ -114,6 +114,7 @@ module _ {S A : Type 0} {has : S → ℕ → Cell → Type 0} {kept : S → List
     grows = f.grows;
     spares = f.spares;
     last = f.last;
+    meets = f.meets;
   }
 
   -- there was no room for more, and they count no more

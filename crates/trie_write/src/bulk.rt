@@ -15,6 +15,7 @@ use super::row::Row;
 use chunk_cells::CellWrite;
 use chunk_usage::{Full, Space};
 use packed_node::{Branch, Cell, Node, Ref, bitmap};
+use trie_read::Root;
 
 /// The trie of the first of some items, all written but for the cell of its top.
 #[derive(Clone, Copy)]
@@ -31,7 +32,7 @@ pub fn build<C: CellWrite, U: Space>(
     cells: &mut C,
     usage: &mut U,
     items: &[Item],
-) -> Result<Option<Ref>, Full>
+) -> Result<Root, Full>
     requires rising { Rises (entries_of_items items.now) }
     requires uncounted { (k : ℕ) → (U.account usage.old).live k ≡ 0 }
     requires ready { Ready C.kept C.given U.account cells.old usage.old }

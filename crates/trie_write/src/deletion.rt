@@ -15,6 +15,7 @@ use chunk_cells::CellWrite;
 use chunk_usage::{Full, Path, Space};
 use packed_node::Ref;
 use shift_key::Key;
+use trie_read::Root;
 
 /// The root of the trie with a name taken out that is not the only one: the descent is the last one on the way to its leaf.
 fn drop_leaf<C: CellWrite, U: Space>(
@@ -51,7 +52,7 @@ fn delete_item<C: CellWrite, U: Space>(
     usage: &mut U,
     root: Ref,
     key: &Key,
-) -> Result<Option<Ref>, Full>
+) -> Result<Root, Full>
     requires there { KeyIsThere C.has U.account cells.old usage.old root key.now }
     requires ready { Ready C.kept C.given U.account cells.old usage.old }
     ensures stands { IfOk result (λ new. (t : Tree) (version : List Entry) → HasKey C.has U.account cells.old usage.old root key.now t version
@@ -90,9 +91,9 @@ fn delete_item<C: CellWrite, U: Space>(
 pub fn delete<C: CellWrite, U: Space>(
     cells: &mut C,
     usage: &mut U,
-    root: Option<Ref>,
+    root: Root,
     key: &Key,
-) -> Result<Option<Ref>, Unchanged>
+) -> Result<Root, Unchanged>
     requires stands { (version : List Entry) × HasTrie C.has U.account cells.old usage.old root version × EachTells Leads version }
     requires ready { Ready C.kept C.given U.account cells.old usage.old }
     ensures deleted { IfOk result (λ new. (version : List Entry) → HasTrie C.has U.account cells.old usage.old root version → EachTells Leads version

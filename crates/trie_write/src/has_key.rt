@@ -6,10 +6,10 @@ ghost use Rattle.trie_write.specs.Prelude.{Leads, Entry, InList, Stands, IsThere
 use chunk_cells::CellRead;
 use packed_node::Ref;
 use shift_key::Key;
-use trie_read::get;
+use trie_read::{Root, get};
 
 /// The root, where the key is below it.
-pub fn root_with<C: CellRead>(cells: &mut C, root: Option<Ref>, key: &Key) -> Option<Ref>
+pub fn root_with<C: CellRead>(cells: &mut C, root: Root, key: &Key) -> Option<Ref>
     requires stands { (version : List Entry) × Stands (C.has cells.old) root version × EachTells Leads version }
     ensures same { cells.new ≡ cells.old }
     ensures root { IfSome result (λ at. root ≡ Some at) }

@@ -17,6 +17,7 @@ use chunk_cells::CellWrite;
 use chunk_usage::{Full, Space};
 use packed_node::{Node, Ref};
 use shift_key::{Difference, Key};
+use trie_read::Root;
 
 /// The root of the trie of one name.
 fn insert_first<C: CellWrite, U: Space>(
@@ -123,10 +124,10 @@ fn insert_further<C: CellWrite, U: Space>(
 pub fn insert<C: CellWrite, U: Space>(
     cells: &mut C,
     usage: &mut U,
-    root: Option<Ref>,
+    root: Root,
     key: &Key,
     item: &[u8],
-) -> Result<Option<Ref>, Unchanged>
+) -> Result<Root, Unchanged>
     requires stands { (version : List Entry) × HasTrie C.has U.account cells.old usage.old root version × EachTells Leads version }
     requires leads { Leads key.now item.now }
     requires ready { Ready C.kept C.given U.account cells.old usage.old }

@@ -15,6 +15,7 @@ use chunk_cells::CellWrite;
 use chunk_usage::{Full, Space};
 use packed_node::{Node, Ref};
 use shift_key::Key;
+use trie_read::Root;
 
 /// What exchanges the item of a name that is there: the leaf of the new item, which is written, in place of the old one.
 fn other_leaf<C: CellWrite, U: Space>(
@@ -86,10 +87,10 @@ fn replace_item<C: CellWrite, U: Space>(
 pub fn replace<C: CellWrite, U: Space>(
     cells: &mut C,
     usage: &mut U,
-    root: Option<Ref>,
+    root: Root,
     key: &Key,
     item: &[u8],
-) -> Result<Option<Ref>, Unchanged>
+) -> Result<Root, Unchanged>
     requires stands { (version : List Entry) × HasTrie C.has U.account cells.old usage.old root version × EachTells Leads version }
     requires leads { Leads key.now item.now }
     requires ready { Ready C.kept C.given U.account cells.old usage.old }

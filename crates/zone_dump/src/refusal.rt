@@ -4,13 +4,16 @@ ghost use Rattle.zone_dump.specs.declared.refusal.DumpRefusal.TheVariants.{Fault
 
 use outer_io::Failed;
 use std::alloc::AllocError;
+use thiserror::Error;
 
 /// Why only a front of a dump was written.
-#[derive(Clone, Copy, Debug, PartialEq, Eq)]
+#[derive(Clone, Copy, Debug, PartialEq, Eq, Error)]
 pub enum DumpRefusal {
     /// A call on the sink failed.
+    #[error("writing failed")]
     Fault,
     /// No memory was left.
+    #[error("out of memory")]
     Memory,
 }
 

@@ -115,10 +115,6 @@ next_applied origin front operation version now next e a = applied_on origin fro
 pub refused_applied : (origin : Name) (front back : List Operation) (operation : Operation) (version now : Version) (refusal : Refusal) → all_applied origin front version ≡ Ok now → apply origin operation now ≡ Err refusal → all_applied origin (front ++ operation ∷ back) version ≡ Err refusal
 refused_applied origin front back operation version now refusal e a = applied_on origin front (operation ∷ back) version now e ∙ ap (λ (r : Result Version Refusal). and_then r (all_applied origin back)) a
 
--- those in front of a place are no more than all
-pub few_in_front : {C : Type 0} (view : C → Operation) (operations : List C) (i : ℕ) → length (take i operations) + 0 ≤ length (map view operations)
-few_in_front view operations i = omega (arith, length-map operations view, ap (λ (l : List _). length l) (take-append-drop i operations), length-append (take i operations) (drop i operations))
-
 -- the operations up to the one at a place, and all
 pub up_to : {C : Type 0} (view : C → Operation) (operations : List C) (i : ℕ) (here : C) → i < length operations → here ≡ get_or operations i here → map view (take (i + 1) operations) ≡ map view (take i operations) ++ view here ∷ []
 up_to view operations i here lt is = map_more view operations i here lt ∙ ap (λ (x : _). map view (take i operations) ++ view x ∷ []) (sym is)

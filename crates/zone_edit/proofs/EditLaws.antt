@@ -1,5 +1,5 @@
 -- What a transaction's call makes of a working set that is a version.
-use Rattle.std.proofs.Common.{◌≡◌, ◌∙◌, ℕ, ◌+◌, ◌-◌, ◌≤◌, List, [], ◌∷◌, ◌++◌, length, Option, Some, None, Ok, Err, refl, sym, ap, subst, arith, append-nil, length-append}
+use Rattle.std.proofs.Common.{◌≡◌, ◌∙◌, ℕ, ◌+◌, ◌-◌, ◌*◌, ◌/◌, ◌≤◌, List, [], ◌∷◌, ◌++◌, length, Option, Some, None, Ok, Err, refl, sym, ap, subst, arith, append-nil, append_assoc, length-append}
 use Rattle.std.specs.Prelude.{Contains, IsSome, IsSomeAnd, IfSome, unwrap_or}
 use Rattle.std.specs.BTreeMap.{insert_entry}
 use Rattle.zone_model.specs.Names.{Name, IsName, name_cmp}
@@ -9,14 +9,14 @@ use Rattle.zone_model.specs.Versions.{Version, owned, put}
 use Rattle.trie_model.specs.Keys as trie
 use Rattle.trie_model.specs.Keys.{InList}
 use Rattle.zone_answer.specs.Standing.{IsVersion, trie_entry}
-use Rattle.job_model.specs.Sizes.{trie_entries}
+use Rattle.job_model.specs.Sizes.{cell_count, cells_asked, item_cells, trie_entries}
 use Rattle.qp_multi.specs.declared.desk.Draft.{Draft}
 use Rattle.qp_multi.specs.declared.refusal.Full.{Full}
 use Rattle.qp_multi.specs.declared.meaning.Operation.{Operation}
 use Rattle.qp_multi.specs.declared.meaning.Operation.TheVariants as operation
 use Rattle.qp_multi.specs.Operations.{operated, applied, with_entry, without}
 use Rattle.qp_multi.specs.Drafts.{Operates, IsFull, IsSame, Between, base_of, working_set}
-use Rattle.qp_multi.specs.Bounds.{IsCramped}
+use Rattle.qp_multi.specs.Bounds.{IsCramped, IsCrowded}
 use Rattle.qp_multi.specs.Capacity.{BoundsHistory}
 use Rattle.qp_multi.specs.Rooms.{SparesReserve}
 use Rattle.qp_multi.specs.Fulls.{CausedFrom, cells_kept}
@@ -36,7 +36,7 @@ use Rattle.zone_edit.proofs.StoreLaws.{put_some, storable, same_entry, record_of
 use Rattle.trie_read.specs.Readings.{Fetched}
 use Rattle.zone_answer.specs.Parts.{IsRead}
 use Rattle.zone_edit.specs.declared.storing.NoRoom.{NoRoom}
-use Rattle.zone_edit.specs.Stores.{WorksOn, WorksOnSome, Owns, EditsOne, Edits, Reads, Stores, IsFullOn}
+use Rattle.zone_edit.specs.Stores.{WorksOn, WorksOnSome, Owns, EditsOne, Edits, Reads, Stores, IsCrowdedBy, IsFullOn}
 use Rattle.zone_edit.proofs.SetLaws.{IsOwner, inserted, exchanged, deleted}
 
 -- ---- drafts that are there
@@ -127,17 +127,27 @@ between_from R S P T None None f r s p = r
 
 -- ---- edits, one after another
 
+pub begins_through : {A : Type 0} (all more part : List A) → StartsWith all more → StartsWith more part → StartsWith all part
+begins_through all more part a b = (b.0 ++ a.0, a.1 ∙ ap (λ (xs : List _). xs ++ a.0) b.1 ∙ append_assoc part b.0 a.0)
+
+begins_as : {A : Type 0} (all part : List A) → all ≡ part → StartsWith all part
+begins_as all part same = ([], same ∙ sym (append-nil part))
+
+begins_itself : {A : Type 0} (xs : List A) → StartsWith xs xs
+begins_itself xs = begins_as xs xs refl
+
 pub goes_same : (v : Known) → GoesOn v v
 goes_same v = record { pass = refl; opening = refl; history = refl; namings = ([], sym (append-nil v.seen.namings)) }
 
 pub edits_same : (most : ℕ) (P : Draft → Type 0) (told : Version → Draft → Type 0) (old : Option Draft) → IsSomeAnd old P → ((d : Draft) (version : Version) → WorksOn d version → told version d) → Edits most told old old
-edits_same most P told (Some d) p f = record { known = goes_same d.seat.place.me.0; passes = refl; few = omega arith; becomes = λ version on. f d version on }
+edits_same most P told (Some d) p f = record { known = goes_same d.seat.place.me.0; passes = refl; log = begins_itself d.log.operations; few = omega arith; becomes = λ version on. f d version on }
 edits_same most P told None p f = absurd p
 
 pub edits_as : (m most : ℕ) (A B : Version → Draft → Type 0) (old new : Option Draft) → m ≤ most → ((version : Version) (e : Draft) → A version e → B version e) → Edits m A old new → Edits most B old new
 edits_as m most A B old new le f = between_as (EditsOne m A) (EditsOne most B) old new (λ d e _ _ r. record {
   known = r.known;
   passes = r.passes;
+  log = r.log;
   few = (let l = r.few in omega arith);
   becomes = λ version on. f version e (r.becomes version on);
 })
@@ -147,6 +157,7 @@ pub edits_on : (m n most : ℕ) (A B C : Version → Draft → Type 0) (a b c : 
 edits_on m n most A B C a b c le h = between_then (EditsOne m A) (EditsOne n B) (EditsOne most C) a b c (λ d e f r s. record {
   known = goes_further r.known s.known;
   passes = s.passes ∙ r.passes;
+  log = begins_through f.log.operations e.log.operations d.log.operations s.log r.log;
   few = (let l = r.few in let k = s.few in omega arith);
   becomes = λ version on. (let m = h version e f (r.becomes version on) in m.2 (s.becomes m.0 m.1));
 })
@@ -166,6 +177,19 @@ edits_some most A None (Some e) p f r = absurd p
 edits_some most A None None p f r = p
 
 -- ---- an entry stored
+
+some_both : (P Q : Draft → Type 0) (o : Option Draft) → IsSomeAnd o P → IsSomeAnd o Q → IsSomeAnd o (λ d. P d × Q d)
+some_both P Q (Some d) p q = (p, q)
+some_both P Q None p q = absurd p
+
+-- what the index was asked for is no more than what a version's operation asks for
+crowded_by : (e : Draft) (key : List ℕ) (written kept asked : ℕ) (version : Version) → WorksOn e version → written + cell_count version ≤ asked → IsCrowded e key written kept → IsCrowdedBy e asked kept
+crowded_by e key written kept asked version on within c most small some bounds =
+    let few = c.few_twigs in
+    let path : c.path ≤ cell_count version = subst (λ (es : List trie.Entry). c.path ≤ cells es) on.set few in
+    let bound = c.bound most small some bounds in
+    let less : (written + c.path) / 769 ≤ asked / 769 = omega arith in
+    omega (arith, bound, less)
 
 -- of kept versions there are no more than passes and one
 few_kept : (d : Draft) (f : Full) → IsFull d f → length (versions_in f.kept) ≤ d.seat.passes + 1
@@ -205,38 +229,42 @@ module _ (o : Operation) (denied : List trie.Entry → Type 0) (A B : Type 0) (n
   abbrev Cramped : Draft → Draft → Type 0
   Cramped d e = Operates o denied d e A B × IsCramped e
 
-  abbrev Filled : Full → Draft → Draft → Type 0
-  Filled f d e = Operates o denied d e A B × IsFull e f × IsCramped e
+  abbrev Filled : Full → List ℕ → ℕ → Draft → Draft → Type 0
+  Filled f key written d e = Operates o denied d e A B × IsFull e f × IsCramped e × IsCrowded e key written (length (versions_in f.kept))
 
   pub stored : A → ((version : Version) (d e : Draft) → Operates o denied d e A B → WorksOn d version → before ≡ owned name version → WorksOn e (put name entry version)) → Called → Edits 1 (Stores name before entry (Ok tt)) old new
   stored a puts call = between_as Operated (EditsOne 1 (Stores name before entry (Ok tt))) old new (λ d e _ _ op. record {
     known = op.known;
     passes = op.passes;
+    log = (o ∷ [], op.done a);
     few = omega (arith, ap (λ (os : List Operation). length os) (op.done a), length-append d.log.operations (o ∷ []));
     becomes = λ version on is. puts version d e op on is;
   }) call
 
   -- there was no room
-  pub no_room : (none : NoRoom) (f : Full) (key : List ℕ) (written : ℕ) (asks : List ℕ → List ℕ) → (A → ⊥) → ((version : Version) → IsVersion version → before ≡ owned name version → put name entry version ≡ version → ⊥) → Called → IsSomeAnd new (λ d. IsFull d f)
-      → Between (λ d e. CausedFrom d e key written asks f) old new → Between SparesReserve old new → IsSomeAnd old IsCramped → Edits 0 (Stores name before entry (Err none)) old new
-  no_room none f key written asks undone changes call full cause spares cramped =
-      between_both (λ d e. CausedFrom d e key written asks f) (Filled f) (EditsOne 0 (Stores name before entry (Err none))) old new
+  pub no_room : (none : NoRoom) (f : Full) (key : List ℕ) (written : ℕ) (asks : List ℕ → List ℕ) → (A → ⊥) → ((version : Version) → IsVersion version → before ≡ owned name version → put name entry version ≡ version → ⊥)
+      → ((version : Version) → IsVersion version → written ≤ 3 + item_cells name (put name entry version)) → Called → IsSomeAnd new (λ d. IsFull d f)
+      → Between (λ d e. CausedFrom d e key written asks f) old new → Between SparesReserve old new → IsSomeAnd old IsCramped → IsSomeAnd new (λ d. IsCrowded d key written (length (versions_in f.kept))) → Edits 0 (Stores name before entry (Err none)) old new
+  no_room none f key written asks undone changes within call full cause spares cramped crowded =
+      between_both (λ d e. CausedFrom d e key written asks f) (Filled f key written) (EditsOne 0 (Stores name before entry (Err none))) old new
       (λ d e cause both. record {
         known = both.0.known;
         passes = both.0.passes;
+        log = begins_as e.log.operations d.log.operations (both.0.stays undone);
         few = omega (arith, ap (λ (os : List Operation). length os) (both.0.stays undone));
         becomes = λ version on is. (
           works_same o denied d e A B version both.0 undone on,
-          subst (IsFullOn e version) both.1.kept (record {
+          subst (IsFullOn e version (cells_asked name version (put name entry version))) both.1.kept (record {
             named = both.1.named;
             ends = both.1.ends;
             few = few_kept e f both.1;
             many = subst (λ (es : List trie.Entry). length e.usage.given - reserve_of e.usage - 8 ≤ cells es + cells_kept e.seat.place.me.0 (versions_in f.kept)) (same_set o denied d e A B both.0 undone ∙ on.set) cause.caused.cause.many_cells;
             cramped = both.2;
+            crowded = crowded_by e key written (length (versions_in f.kept)) (cells_asked name version (put name entry version)) version (works_same o denied d e A B version both.0 undone on) (let l = within version on.valid in omega arith) both.3;
           }),
           changes version on.valid is,
         );
-      }) cause (between_and Cramped (λ d. IsFull d f) (Filled f) old new (λ d e kept p. (kept.0, p, kept.1)) (between_from Operated SparesReserve IsCramped Cramped old new (λ d e op s c. (op, cramped_still o denied d e A B op undone s c)) call spares cramped) full)
+      }) cause (between_and Cramped (λ d. IsFull d f × IsCrowded d key written (length (versions_in f.kept))) (Filled f key written) old new (λ d e kept p. (kept.0, p.0, kept.1, p.1)) (between_from Operated SparesReserve IsCramped Cramped old new (λ d e op s c. (op, cramped_still o denied d e A B op undone s c)) call spares cramped) (some_both (λ d. IsFull d f) (λ d. IsCrowded d key written (length (versions_in f.kept))) new full crowded))
 
   -- the name was refused
   pub refused_set : IsSomeAnd old (Owns name before) → B → Called → (version : Version) × (IsVersion version) × (before ≡ owned name version) × denied (trie_entries version)
@@ -255,6 +283,7 @@ module _ (name : Name) (key before after : List ℕ) (found : Option ℕ) (len :
   read_one d e same item = record {
     passes = sym e.agrees.passes ∙ ap (λ (u : Ledger). u.passes) same.usage ∙ d.agrees.passes;
     known = subst (GoesOn d.seat.place.me.0) (sym same.known) (goes_same d.seat.place.me.0);
+    log = begins_as e.log.operations d.log.operations same.log;
     few = omega (arith, ap (λ (os : List Operation). length os) same.log);
     becomes = λ version on.
         let set : working_set e ≡ working_set d = ap (λ (v : Known). applied (version_seen v.seen) e.log.operations) same.known ∙ ap (applied (base_of d)) same.log in

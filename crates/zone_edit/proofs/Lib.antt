@@ -4,4 +4,5 @@ pub mod StoreLaws
 pub mod ApplyLaws
 pub mod SetLaws
 pub mod EditLaws
+pub mod WayLaws
 pub mod MeetLaws

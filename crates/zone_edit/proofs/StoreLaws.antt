@@ -1,5 +1,5 @@
 -- What storing an entry under a name needs of the version, and makes of it.
-use Rattle.std.proofs.Common.{◌≡◌, ◌∙◌, ℕ, ◌<◌, Bool, true, false, cond, List, [], ◌∷◌, length, Option, Some, None, unwrap_or, refl, sym, ap, subst, arith}
+use Rattle.std.proofs.Common.{◌≡◌, ◌∙◌, ℕ, ◌+◌, ◌<◌, ◌≤◌, Bool, true, false, cond, List, [], ◌∷◌, length, Option, Some, None, unwrap_or, refl, sym, ap, subst, arith}
 use Rattle.std.specs.List.{AllByRecursion}
 use Rattle.std.specs.List.Sorted.{IsStrictlySortedBy}
 use Rattle.std.specs.Map.{keys_of, remove_entry}
@@ -8,14 +8,15 @@ use Rattle.std.specs.declared.cmp.Ordering.TheVariants as order
 use Rattle.std.specs.Ordering.{is_eq}
 use Rattle.zone_model.specs.Names.{Name, IsName, name_cmp}
 use Rattle.zone_model.specs.Keys.{key_of}
-use Rattle.zone_model.specs.Records.{Entry, IsItem}
+use Rattle.zone_model.specs.Records.{Entry, IsItem, item}
 use Rattle.zone_model.specs.Versions.{Version, entry_of, owned, put}
 use Rattle.rr_data.specs.ItemViews.{SaysEntry}
 use Rattle.rr_data.proofs.EntryChanges.{item_once}
 use Rattle.trie_model.specs.Keys as trie
 use Rattle.zone_answer.specs.Standing.{IsStorable, IsVersion, trie_entry}
 use Rattle.zone_answer.proofs.OwnedLaws.{self_equal, kept, entry_there, nothing_owned}
-use Rattle.job_model.specs.Sizes.{trie_entries}
+use Rattle.trie_model.specs.Extents.{cells_in}
+use Rattle.job_model.specs.Sizes.{item_cells, trie_entries}
 use Rattle.zone_edit.proofs.VersionLaws.{by_name, put_here, put_over, put_later, gone_here, gone_later, turned, after_all}
 
 pub put_some : (name : Name) (entry : Entry) (version : Version) → 0 < length entry → put name entry version ≡ insert_entry name_cmp version name entry
@@ -153,6 +154,12 @@ one_entry name a b e f h k same = let one = item_once b name name e f (subst (λ
 
 pub nothing_some : (entry : Entry) → 0 < length entry → entry ≡ [] → ⊥
 nothing_some entry some none = let zero : length entry ≡ 0 = ap (λ (l : Entry). length l) none in omega (arith, zero, some)
+
+-- an item that is written is the one that its name then owns
+pub written_few : (name : Name) (bytes : List ℕ) (entry : Entry) (version : Version) → IsItem bytes name entry → 3 + cells_in bytes ≤ 3 + item_cells name (put name entry version)
+written_few name bytes entry version is =
+    let owns : owned name (put name entry version) ≡ entry = ap (owned name) (put_some name entry version is.some) ∙ owned_put name entry version in
+    subst (λ (n : ℕ). 3 + cells_in bytes ≤ 3 + n) (ap cells_in (is.octets ∙ ap (item name) (sym owns))) (omega arith)
 
 -- ---- what octets say
 

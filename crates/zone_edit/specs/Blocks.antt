@@ -1,11 +1,15 @@
 -- What operations make of a transaction whose working set is a version of a zone.
-use Rattle.std.specs.Prelude.{◌≡◌, ℕ, ◌+◌, ◌-◌, Bool, true, List, ◌∷◌, ◌++◌, length, Option, Result, Ok, Err}
+use Rattle.std.specs.Prelude.{◌≡◌, ℕ, ◌+◌, ◌-◌, ◌≤◌, Bool, true, List, ◌∷◌, ◌++◌, length, take, Option, Result, Ok, Err}
 use Rattle.zone_model.specs.Names.{Name}
-use Rattle.zone_model.specs.Versions.{Version, Operation, owned, apply, all_applied}
+use Rattle.zone_model.specs.Versions.{Version, Operation, owned, owner_of, apply, all_applied}
 use Rattle.zone_model.specs.Transactions.{Prerequisite, Transaction, is_met_by, all_met, whole}
+use Rattle.job_model.specs.Sizes.{cells_asked}
 use Rattle.qp_multi.specs.declared.desk.Draft.{Draft}
+use Rattle.qp_multi.specs.Operations.{applied}
+use Rattle.qp_multi.specs.Drafts.{Between, base_of}
 use Rattle.chunk_usage.specs.Keeping.{kept_versions}
-use Rattle.zone_edit.specs.Stores.{WorksOn, IsFullOn, Edits, done_by}
+use Rattle.zone_edit.specs.Ways.{MadeOnTheWay}
+use Rattle.zone_edit.specs.Stores.{WorksOn, IsFullOn, EditsOne, Edits, done_by}
 use Rattle.zone_edit.specs.declared.applying.Stopped.{Stopped}
 use Rattle.zone_edit.specs.declared.applying.Stopped.TheVariants as stops
 use Rattle.zone_edit.specs.declared.applying.Halt.{Halt}
@@ -18,7 +22,7 @@ Applies origin operation (Ok u) version new = (next : Version) × (apply origin 
 Applies origin operation (Err stops.Memory) version new = (next : Version) × (apply origin operation version ≡ Ok next) × WorksOn new version
 Applies origin operation (Err (stops.Refused refusal)) version new = apply origin operation version ≡ Err refusal
 Applies origin operation (Err stops.Full) version new =
-    (next : Version) × (apply origin operation version ≡ Ok next) × (next ≡ version → ⊥) × IsFullOn new version (kept_versions new.usage)
+    (next : Version) × (apply origin operation version ≡ Ok next) × (next ≡ version → ⊥) × IsFullOn new version (cells_asked (owner_of operation) version next) (kept_versions new.usage)
 
 -- There is no room for an operation that is accepted and changes what the ones before it made.
 pub record IsFullAt (new : Draft) (origin : Name) (operations : List Operation) (version : Version) (operation : ℕ) (kept : List ℕ) : Type 0 where
@@ -32,7 +36,7 @@ pub record IsFullAt (new : Draft) (origin : Name) (operations : List Operation) 
   pub next : Version
   pub accepted : apply origin refused working ≡ Ok next
   pub changes : next ≡ working → ⊥
-  pub full : IsFullOn new working kept
+  pub full : IsFullOn new working (cells_asked (owner_of refused) working next) kept
 
 -- Memory was wanting for an operation that is accepted, and the working set is what the ones before it made.
 pub record IsWanting (new : Draft) (origin : Name) (operations : List Operation) (version : Version) : Type 0 where
@@ -53,20 +57,25 @@ AppliesAll origin operations (Err halts.Memory) version new = IsWanting new orig
 AppliesAll origin operations (Err (halts.Refused refusal)) version new = all_applied origin operations version ≡ Err refusal
 AppliesAll origin operations (Err (halts.Full operation)) version new = IsFullAt new origin operations version operation (kept_versions new.usage)
 
--- How many operations of the index these are at most: one for each that is applied, and where there is no room for one, for each in
--- front of it.
-abbrev pub most_done : List Operation → Result (Unit {0}) Halt → ℕ
-most_done operations (Ok u) = length operations
-most_done operations (Err halts.Memory) = length operations
-most_done operations (Err (halts.Refused refusal)) = length operations
-most_done operations (Err (halts.Full operation)) = operation - 1
+-- The operations that are done at most: all, and where there is no room for one, those in front of it.
+abbrev pub done_of : List Operation → Result (Unit {0}) Halt → List Operation
+done_of operations (Ok u) = operations
+done_of operations (Err halts.Memory) = operations
+done_of operations (Err (halts.Refused refusal)) = operations
+done_of operations (Err (halts.Full operation)) = take (operation - 1) operations
 
--- a draft became another one by an operation, and by operations in order
+-- A draft became another one by operations in order. The index has done no more than these, since an operation that changes nothing
+-- isn't written; and whatever it had made when it had done some of them, some first ones of these make too.
+pub record EditsInOrder (origin : Name) (done : List Operation) (told : Version → Draft → Type 0) (old new : Draft) : Type 0 where
+  pub edits : EditsOne (length done) told old new
+  pub ways : (version : Version) → WorksOn old version → (n : ℕ) → length old.log.operations ≤ n → MadeOnTheWay origin done version (applied (base_of new) (take n new.log.operations))
+
+-- it did by an operation, and by operations in order
 abbrev pub EditedOnce : Name → Operation → Result (Unit {0}) Stopped → Option Draft → Option Draft → Type 0
 EditedOnce origin operation result old new = Edits (done_by result) (Applies origin operation result) old new
 
 abbrev pub EditedInOrder : Name → List Operation → Result (Unit {0}) Halt → Option Draft → Option Draft → Type 0
-EditedInOrder origin operations result old new = Edits (most_done operations result) (AppliesAll origin operations result) old new
+EditedInOrder origin operations result old new = Between (EditsInOrder origin (done_of operations result) (AppliesAll origin operations result)) old new
 
 -- the version stays, and it is told whether it meets a prerequisite, and whether all
 abbrev pub Meets : Prerequisite → Bool → Version → Draft → Type 0
@@ -85,4 +94,4 @@ Executes origin asked (Err (halts.Full operation)) version new =
 
 -- so did it by a transaction
 abbrev pub Edited : Name → Transaction → Result (Unit {0}) Halt → Option Draft → Option Draft → Type 0
-Edited origin asked result old new = Edits (most_done asked.operations result) (Executes origin asked result) old new
+Edited origin asked result old new = Between (EditsInOrder origin (done_of asked.operations result) (Executes origin asked result)) old new

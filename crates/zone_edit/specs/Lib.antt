@@ -1,3 +1,4 @@
+pub mod Ways
 pub mod Stores
 pub mod Blocks
 pub mod Prelude

@@ -3,25 +3,31 @@ ghost use Rattle.std.specs.Prelude.{◌≡◌, ◌+◌};
 ghost use Rattle.zone_list.specs.declared.refusal.ListRefusal.TheVariants.{Memory, Refused};
 
 use std::alloc::{AllocError, AllocFailed};
+use thiserror::Error;
 use zone_model::ZoneKind;
 
 /// Why lines are no zones.
-#[derive(Clone, Copy, Debug, PartialEq, Eq)]
+#[derive(Clone, Copy, Debug, PartialEq, Eq, Error)]
 pub enum ListKind {
     /// A part is no zone, or its first line names no origin.
+    #[error("{0}")]
     Zone(ZoneKind),
     /// The origin is that of an earlier zone.
+    #[error("an earlier zone has this origin")]
     Repeated,
     /// There are more zones than the limit says.
+    #[error("more than 16 zones")]
     TooManyZones,
 }
 
 /// Why an input is not read.
-#[derive(Clone, Copy, Debug, PartialEq, Eq)]
+#[derive(Clone, Copy, Debug, PartialEq, Eq, Error)]
 pub enum ListRefusal {
     /// The line of the first refusal from the top, from 1, and why.
+    #[error("line {line}: {kind}")]
     Refused { line: u64, kind: ListKind },
     /// Want of memory.
+    #[error("out of memory")]
     Memory,
 }
 

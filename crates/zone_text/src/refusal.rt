@@ -10,7 +10,7 @@ use zone_model::ZoneKind;
 #[derive(Clone, Copy, Debug, Error)]
 pub enum ZoneRefusal {
     /// The first entry that is refused, from the top: the line of what is refused, from 1, and why.
-    #[error("line {line}: {kind:?}")]
+    #[error("line {line}: {kind}")]
     Refused { line: u32, kind: ZoneKind },
     /// Want of memory.
     #[error("out of memory")]

@@ -8,7 +8,7 @@ use Rattle.evacuate.proofs.BehindLaws.{goes_same}
 use Rattle.evacuate.proofs.ChainLaws.{goes_behind, goes_moved}
 use Rattle.evacuate.proofs.DescentLaws.{by_err}
 use Rattle.evacuate.proofs.FillingLaws.{moves_paid}
-use Rattle.evacuate.proofs.TreeLaws.{later_counted, handed_writable, released_rest}
+use Rattle.evacuate.proofs.TreeLaws.{later_counted, handed_writable, released_fewer, released_rest}
 use Rattle.evacuate.proofs.moves.move_linked.Goals as goal
 
 pub next_extent-from-requires-clause-inside : goal.next_extent-from-requires-clause-inside
@@ -64,7 +64,7 @@ returns-clause-frame g c =
     let f = c.in_ok-to.ensures.frame in
     let m = subst (λ (q : ℕ). (reserve_account_of c.copy_out.new.usage).mutable q ≡ true) (sym c.link_of.ensures) (f.grows.fresher (c.args.at + 255) c.requires.writable.mutable) in
     fenced_same c.next_extent-from.ensures.same
-    (fenced_counts (fenced_put (fenced_of f) m c.put.ensures.others c.put.ensures.given c.put.ensures.kept) (released_rest c.copy_out.new.usage c.next_extent-from.result c.first_extent_for-n.result c.release.ensures))
+    (fenced_counts (fenced_put (fenced_of f) m c.put.ensures.others c.put.ensures.given c.put.ensures.kept) (released_rest c.copy_out.new.usage c.next_extent-from.result c.first_extent_for-n.result c.release.ensures) (released_fewer c.copy_out.new.usage c.next_extent-from.result c.first_extent_for-n.result c.release.ensures))
 
 pub returns-clause-ready : goal.returns-clause-ready
 returns-clause-ready g c = ready_counts (released_rest c.copy_out.new.usage c.next_extent-from.result c.first_extent_for-n.result c.release.ensures) (ready_put c.in_ok-to.ensures.ready c.put.ensures.given c.put.ensures.kept)

@@ -5,7 +5,7 @@ use Rattle.trie_space.proofs.SpaceLaws.{fenced_of, fenced_put, fenced_counts, re
 use Rattle.evacuate.specs.Fillings.{Paid, is_old}
 use Rattle.evacuate.specs.Places.{first_of, width_of, put_at}
 use Rattle.evacuate.proofs.FillingLaws.{moves_paid}
-use Rattle.evacuate.proofs.TreeLaws.{hung_cells, moved_is_node, hung_moved, later_counted, handed_writable, released_rest}
+use Rattle.evacuate.proofs.TreeLaws.{hung_cells, moved_is_node, hung_moved, later_counted, handed_writable, released_fewer, released_rest}
 use Rattle.evacuate.proofs.moves.move_node.Goals as goal
 
 pub copy_out-requires : goal.copy_out-requires
@@ -50,7 +50,7 @@ returns-clause-paid g c given fills old =
 pub returns-clause-frame : goal.returns-clause-frame
 returns-clause-frame g c =
     let f = c.in_ok-to.ensures.frame in
-    fenced_counts (fenced_put (fenced_of f) (f.grows.fresher c.args.at c.requires.writable.mutable) c.put.ensures.others c.put.ensures.given c.put.ensures.kept) (released_rest c.copy_out.new.usage c.first_cell-from.result c.cell_count-n.result c.release.ensures)
+    fenced_counts (fenced_put (fenced_of f) (f.grows.fresher c.args.at c.requires.writable.mutable) c.put.ensures.others c.put.ensures.given c.put.ensures.kept) (released_rest c.copy_out.new.usage c.first_cell-from.result c.cell_count-n.result c.release.ensures) (released_fewer c.copy_out.new.usage c.first_cell-from.result c.cell_count-n.result c.release.ensures)
 
 pub returns-clause-ready : goal.returns-clause-ready
 returns-clause-ready g c = ready_counts (released_rest c.copy_out.new.usage c.first_cell-from.result c.cell_count-n.result c.release.ensures) (ready_put c.in_ok-to.ensures.ready c.put.ensures.given c.put.ensures.kept)

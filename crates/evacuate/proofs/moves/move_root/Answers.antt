@@ -6,7 +6,7 @@ use Rattle.trie_space.specs.Weights.{mark}
 use Rattle.trie_space.proofs.SpaceLaws.{fenced_of, fenced_counts, ready_counts}
 use Rattle.trie_space.proofs.WeightLaws.{at_itself, mark_tells}
 use Rattle.evacuate.proofs.FillingLaws.{moves_paid}
-use Rattle.evacuate.proofs.TreeLaws.{root_counted, root_moved, later_counted, handed_writable, released_rest}
+use Rattle.evacuate.proofs.TreeLaws.{root_counted, root_moved, later_counted, handed_writable, released_fewer, released_rest}
 use Rattle.evacuate.proofs.moves.move_root.Goals as goal
 
 pub copy_out-requires-clause-there : goal.copy_out-requires-clause-there
@@ -38,7 +38,7 @@ pub returns-clause-paid : goal.returns-clause-paid
 returns-clause-paid g c given fills old = moves_paid c.args.root (c.in_ok-to.ensures.moves given fills) old (later_counted c.args.usage.now c.copy_out.new.usage (c.args.root / 1024) c.in_ok-to.ensures.handed (root_counted c.requires.stood.stood)) c.release.ensures
 
 pub returns-clause-frame : goal.returns-clause-frame
-returns-clause-frame g c = fenced_counts (fenced_of c.in_ok-to.ensures.frame) (released_rest c.copy_out.new.usage c.args.root 1 c.release.ensures)
+returns-clause-frame g c = fenced_counts (fenced_of c.in_ok-to.ensures.frame) (released_rest c.copy_out.new.usage c.args.root 1 c.release.ensures) (released_fewer c.copy_out.new.usage c.args.root 1 c.release.ensures)
 
 pub returns-clause-ready : goal.returns-clause-ready
 returns-clause-ready g c = ready_counts (released_rest c.copy_out.new.usage c.args.root 1 c.release.ensures) c.in_ok-to.ensures.ready

@@ -1,5 +1,5 @@
-use Rattle.std.proofs.Common.{◌≡◌, List, Bool, true, slice_set, Some, refl, ◌∙◌, sym, ap, subst}
-use Rattle.chunk_cells.specs.Chunks.{IsFree}
+use Rattle.std.proofs.Common.{◌≡◌, ◌⊎◌, ℕ, ◌<◌, slice_index, List, Bool, true, slice_set, Some, refl, ◌∙◌, sym, ap, subst}
+use Rattle.chunk_cells.specs.Chunks.{IsFree, IsGiven}
 use Rattle.chunk_usage.specs.Rooms.{GivesChunk, OpensFree}
 use Rattle.chunk_usage.specs.Ledger.{is_bump}
 use Rattle.trie_space.proofs.SpaceLaws.{handed_open, frame_given, ready_grows}
@@ -44,6 +44,7 @@ pub returns-in-Some-clause-frame : goal.returns-in-Some-clause-frame
 returns-in-Some-clause-frame g c =
     frame_given (Some c.in-Some.chunk) (free g c, c.give.ensures.given) c.give.ensures.cells c.give.ensures.kept
     (subst (λ (flags : List Bool). OpensFree flags (is_bump c.args.usage.now.bump) (is_bump c.alloc_reserve.new.self.bump)) (sym c.requires.ready.same) (grant g c).opens) (grant g c).hands.grows refl (grant g c).frozen
+    (subst (λ (flags : List Bool). (k : ℕ) → 0 < slice_index c.alloc_reserve.new.self.live k → (0 < slice_index c.args.usage.now.live k) ⊎ ((is_bump c.args.usage.now.bump k ≡ true) ⊎ (IsGiven flags k → ⊥))) (sym c.requires.ready.same) (grant g c).meets)
 
 pub returns-clause-handed : goal.returns-clause-handed
 returns-clause-handed g c = reserve_handing _ _ (granted c.known.ensures c.requires.some c.requires.few c.in_ok-grant.ensures.after c.in_ok-grant.ensures.grant).hands.handed
@@ -71,4 +72,4 @@ returns-clause-frame g c =
     let h = granted c.known.ensures c.requires.some c.requires.few c.in_ok-grant.ensures.after c.in_ok-grant.ensures.grant in
     let gives = subst (GivesChunk c.args.usage.now.given c.alloc_reserve.new.self.given) c.in_default.is h.hands.gives in
     let opens = subst (λ (flags : List Bool). OpensFree flags (is_bump c.args.usage.now.bump) (is_bump c.alloc_reserve.new.self.bump)) (sym c.requires.ready.same) h.opens in
-    record { stays = λ q x u k. k; frozen = λ q x m k. k; keeps = refl; given_stays = λ k x. x; opens = opens; grows = h.hands.grows; spares = refl; last = h.frozen }
+    record { stays = λ q x u k. k; frozen = λ q x m k. k; keeps = refl; given_stays = λ k x. x; opens = opens; grows = h.hands.grows; spares = refl; last = h.frozen; meets = (subst (λ (flags : List Bool). (k : ℕ) → 0 < slice_index c.alloc_reserve.new.self.live k → (0 < slice_index c.args.usage.now.live k) ⊎ ((is_bump c.args.usage.now.bump k ≡ true) ⊎ (IsGiven flags k → ⊥))) (sym c.requires.ready.same) h.meets) }

@@ -4,7 +4,7 @@ use Rattle.job_model.specs.declared.Weight.{Weight}
 use Rattle.job_script.specs.Views.{asked_view}
 use Rattle.qp_multi.specs.Passes.{known_at}
 use Rattle.zone_edit.specs.Blocks.{Executes}
-use Rattle.zone_edit.proofs.EditLaws.{is_there}
+use Rattle.zone_edit.proofs.WayLaws.{there_in_order}
 use Rattle.job_commands.specs.Weights.{IsOfWeight}
 use Rattle.job_commands.proofs.ShowLaws.{seat_told}
 use Rattle.job_commands.proofs.BlockLaws.{begun_works, after_works, after_lawful, edits_as, committed_ran, rollback_ran, stopped_ran, ran_as, result_as, stopped_wants, wants_as, has_passes, full_chunks}
@@ -43,7 +43,7 @@ returns-clause-ran g c = λ s setup.
     (search rules)
 
 pub kept-requires : goal.kept-requires
-kept-requires g c = is_there _ (Executes c.args.origin.now (asked_view c.args.block.now) (Err c.in-Err.halt)) c.write-write.result.locked.now.draft c.edit.new.transaction.locked.now.draft c.in-Err.ensures.executes
+kept-requires g c = there_in_order c.args.origin.now _ (Executes c.args.origin.now (asked_view c.args.block.now) (Err c.in-Err.halt)) c.write-write.result.locked.now.draft c.edit.new.transaction.locked.now.draft c.in-Err.ensures.executes
 
 pub returns-in-Err-clause-ran : goal.returns-in-Err-clause-ran
 returns-in-Err-clause-ran g c = λ s setup.

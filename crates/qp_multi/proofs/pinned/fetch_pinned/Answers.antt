@@ -1,4 +1,4 @@
-use Rattle.std.proofs.Common.{◌≡◌, ◌∙◌, List, ℕ, take, ap, refl, sym, subst}
+use Rattle.std.proofs.Common.{◌≡◌, ◌∙◌, List, ℕ, take, refl, sym, subst}
 use Rattle.std.specs.Prelude.{Contains}
 use Rattle.trie_model.specs.Extents.{HasItem}
 use Rattle.trie_model.specs.Keys.{Entry}

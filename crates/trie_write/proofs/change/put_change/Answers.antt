@@ -36,7 +36,7 @@ pub returns-in-Ok-clause-frame : goal.returns-in-Ok-clause-frame
 returns-in-Ok-clause-frame g c =
     let s = c.in-Ok.ensures.slot _ _ _ c.requires.asks.asks.slot in
     subst (λ z. Fenced g.C.CellRead.has g.C.CellWrite.kept g.C.CellWrite.given g.U.Space.account c.args.cells.now c.args.usage.now c.put.new.self z) (sym c.note.ensures)
-    (fenced_counts (fenced_put c.in-Ok.ensures.frame s.writable.mutable c.put.ensures.others c.put.ensures.given c.put.ensures.kept) c.let_go-in-Ok.ensures.rest)
+    (fenced_counts (fenced_put c.in-Ok.ensures.frame s.writable.mutable c.put.ensures.others c.put.ensures.given c.put.ensures.kept) c.let_go-in-Ok.ensures.rest (λ k. let e = c.let_go-in-Ok.ensures.counts k in omega arith))
 
 pub returns-in-Err-clause-outside : goal.returns-in-Err-clause-outside
 returns-in-Err-clause-outside g c way end u a q x used out h = c.in-Err.ensures.refused.untouched q x used h

@@ -44,7 +44,7 @@ returns-in-None g c =
       copies = λ t version h. omega arith;
       refused = tt;
       asked = tt;
-      frame = fenced_of (frame_counts (frame_same same (frame_refl _ _)) c.let_go.ensures.rest);
+      frame = fenced_of (frame_counts (frame_same same (frame_refl _ _)) c.let_go.ensures.rest (λ k. let e = c.let_go.ensures.counts k in omega arith));
       ready = ready_counts c.let_go.ensures.rest (ready_put c.requires.ready (ap g.C.CellWrite.given same) (ap g.C.CellWrite.kept same));
     }
 

@@ -71,7 +71,7 @@ pub returns-in-Ok-clause-frame : goal.returns-in-Ok-clause-frame
 returns-in-Ok-clause-frame g c = frame_same (c.end_node-node.ensures.same ∙ c.cell-top.ensures.same) (frame_then c.in_ok-there.ensures.frame c.in-Ok.ensures.frame)
 
 pub returns-in-Err-clause-frame : goal.returns-in-Err-clause-frame
-returns-in-Err-clause-frame g c = frame_counts (frame_same (c.end_node-node.ensures.same ∙ c.cell-top.ensures.same) (frame_then c.in_ok-there.ensures.frame c.with_leaf.ensures.frame)) c.release_item.ensures.rest
+returns-in-Err-clause-frame g c = frame_counts (frame_same (c.end_node-node.ensures.same ∙ c.cell-top.ensures.same) (frame_then c.in_ok-there.ensures.frame c.with_leaf.ensures.frame)) c.release_item.ensures.rest (λ k. let e = c.release_item.ensures.counts k in omega arith)
 
 pub returns-in-Err-clause-ready : goal.returns-in-Err-clause-ready
 returns-in-Err-clause-ready g c = ready_counts c.release_item.ensures.rest c.with_leaf.ensures.ready

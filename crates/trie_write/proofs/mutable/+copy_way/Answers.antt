@@ -74,7 +74,7 @@ pub returns-in-Err-clause-refused : goal.returns-in-Err-clause-refused
 returns-in-Err-clause-refused g t c = refused_room c.next_descent.ensures.same c.in_ok-to-in-Some.ensures.frame c.in_ok-to-in-Some.ensures.handed c.in-Err.ensures.refused c.release.ensures.counts c.release.ensures.lacks
 
 pub returns-in-Err-clause-frame : goal.returns-in-Err-clause-frame
-returns-in-Err-clause-frame g t c = frame_counts (frame_same c.next_descent.ensures.same (frame_then c.in_ok-to-in-Some.ensures.frame c.copy_way.ensures.frame)) c.release.ensures.rest
+returns-in-Err-clause-frame g t c = frame_counts (frame_same c.next_descent.ensures.same (frame_then c.in_ok-to-in-Some.ensures.frame c.copy_way.ensures.frame)) c.release.ensures.rest (λ k. let e = c.release.ensures.counts k in omega arith)
 
 pub returns-in-Err-clause-ready : goal.returns-in-Err-clause-ready
 returns-in-Err-clause-ready g t c = ready_counts c.release.ensures.rest c.copy_way.ensures.ready
@@ -123,7 +123,7 @@ returns-in-Ok-clause-consumes g t c way end asks =
 pub returns-in-Ok-clause-frame : goal.returns-in-Ok-clause-frame
 returns-in-Ok-clause-frame g t c =
     let h = subst (Handed (g.U.Space.account c.args.usage.now) (g.U.Space.account c.room_for.new.usage) c.in_ok-to-in-Some.to) c.twig_count-n.ensures c.in_ok-to-in-Some.ensures.handed in
-    frame_counts (frame_wrote h (frame_same c.next_descent.ensures.same c.in_ok-to-in-Some.ensures.frame) c.in-Ok.ensures.frame c.move_twigs.ensures.wrote) c.move_twigs.ensures.rest
+    frame_counts (frame_wrote h (frame_same c.next_descent.ensures.same c.in_ok-to-in-Some.ensures.frame) c.in-Ok.ensures.frame c.move_twigs.ensures.wrote) c.move_twigs.ensures.rest (λ k. let e = c.move_twigs.ensures.counts k in omega arith)
 
 pub returns-in-Ok-clause-ready : goal.returns-in-Ok-clause-ready
 returns-in-Ok-clause-ready g t c = ready_counts c.move_twigs.ensures.rest (ready_wrote c.move_twigs.ensures.wrote c.in-Ok.ensures.ready)

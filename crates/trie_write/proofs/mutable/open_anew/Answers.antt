@@ -33,7 +33,7 @@ pub returns-in-Err-clause-refused : goal.returns-in-Err-clause-refused
 returns-in-Err-clause-refused g c = refused_room refl c.in_ok-root.ensures.frame c.in_ok-root.ensures.handed c.in-Err.ensures.refused c.release.ensures.counts c.release.ensures.lacks
 
 pub returns-in-Err-clause-frame : goal.returns-in-Err-clause-frame
-returns-in-Err-clause-frame g c = fenced_of (frame_counts (frame_then c.in_ok-root.ensures.frame c.copy_way.ensures.frame) c.release.ensures.rest)
+returns-in-Err-clause-frame g c = fenced_of (frame_counts (frame_then c.in_ok-root.ensures.frame c.copy_way.ensures.frame) c.release.ensures.rest (λ k. let e = c.release.ensures.counts k in omega arith))
 
 pub returns-in-Err-clause-ready : goal.returns-in-Err-clause-ready
 returns-in-Err-clause-ready g c = ready_counts c.release.ensures.rest c.copy_way.ensures.ready
@@ -65,7 +65,7 @@ returns-in-Ok-clause-consumes g c spare way end a =
 pub returns-in-Ok-clause-frame : goal.returns-in-Ok-clause-frame
 returns-in-Ok-clause-frame g c =
     let zeroth : c.in_ok-root.root ≡ c.in_ok-root.root + 0 = omega arith in
-    fenced_of (frame_counts (frame_wrote c.in_ok-root.ensures.handed c.in_ok-root.ensures.frame c.in-Ok.ensures.frame (wrote_one c.in_ok-root.root 0 (omega arith) zeroth c.put.ensures.others c.put.ensures.given c.put.ensures.kept)) c.release-in-Ok.ensures.rest)
+    fenced_of (frame_counts (frame_wrote c.in_ok-root.ensures.handed c.in_ok-root.ensures.frame c.in-Ok.ensures.frame (wrote_one c.in_ok-root.root 0 (omega arith) zeroth c.put.ensures.others c.put.ensures.given c.put.ensures.kept)) c.release-in-Ok.ensures.rest (λ k. let e = c.release-in-Ok.ensures.counts k in omega arith))
 
 pub returns-in-Ok-clause-ready : goal.returns-in-Ok-clause-ready
 returns-in-Ok-clause-ready g c = ready_counts c.release-in-Ok.ensures.rest (ready_put c.in-Ok.ensures.ready c.put.ensures.given c.put.ensures.kept)

@@ -5,7 +5,9 @@ use Rattle.zone_model.specs.Versions.{owned, owner_of, put}
 use Rattle.zone_change.specs.Views.{operation_view}
 use Rattle.zone_change.specs.Counts.{candidate}
 use Rattle.zone_edit.proofs.ApplyLaws.{owned_short, changed_short, made_of, made_by}
-use Rattle.zone_edit.specs.Stores.{WorksOn, Reads, Stores}
+use Rattle.job_model.specs.Sizes.{cells_asked}
+use Rattle.chunk_usage.specs.Keeping.{kept_versions}
+use Rattle.zone_edit.specs.Stores.{IsFullOn, WorksOn, Reads, Stores}
 use Rattle.zone_edit.specs.Blocks.{Applies}
 use Rattle.zone_edit.specs.declared.applying.Stopped.TheVariants as stops
 use Rattle.zone_edit.proofs.EditLaws.{edits_as, edits_on, read_some}
@@ -53,4 +55,4 @@ returns-clause-applies g c =
     c.args.transaction.now.locked.now.draft c.read_owned-len.new.transaction.locked.now.draft c.store.new.transaction.locked.now.draft (omega arith)
     (λ version e f r. let both = c.in-Ok.ensures (owned owner version) r.read.says in
     let made = made_by c.args.origin.now operation owner octets c.in-Ok.before c.in-Ok.entry version c.owner-owner.ensures c.in_default.ensures r.read.says both.0 both.1 in
-    (version, r.stays, λ y. (put (owner_of operation) c.in-Ok.entry version, made, subst (λ (n : Name). put n c.in-Ok.entry version ≡ version → ⊥) c.owner-owner.ensures (y both.0).2, (y both.0).1))) c.read_owned-len.ensures.read c.in-Err.ensures.stores
+    (version, r.stays, λ y. (put (owner_of operation) c.in-Ok.entry version, made, subst (λ (n : Name). put n c.in-Ok.entry version ≡ version → ⊥) c.owner-owner.ensures (y both.0).2, subst (λ (n : Name). IsFullOn f version (cells_asked n version (put n c.in-Ok.entry version)) (kept_versions f.usage)) c.owner-owner.ensures (y both.0).1))) c.read_owned-len.ensures.read c.in-Err.ensures.stores

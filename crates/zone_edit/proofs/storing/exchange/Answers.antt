@@ -5,7 +5,7 @@ use Rattle.trie_model.specs.Keys as trie
 use Rattle.trie_model.specs.Keys.{InList}
 use Rattle.qp_multi.specs.declared.meaning.Operation.TheVariants as operation
 use Rattle.qp_multi.specs.declared.refusal.ChangeRefusal.TheVariants.{NotFound}
-use Rattle.zone_edit.proofs.StoreLaws.{somebody, put_changes, record_of}
+use Rattle.zone_edit.proofs.StoreLaws.{written_few, somebody, put_changes, record_of}
 use Rattle.zone_edit.proofs.SetLaws.{owner_in}
 use Rattle.zone_edit.proofs.EditLaws.{stored, no_room, refused_set, put_over}
 use Rattle.zone_edit.proofs.storing.exchange.Goals as goal
@@ -32,4 +32,5 @@ returns-in-Err-Full-clause-stores g c =
     no_room (operation.Replace (record_of c.args.key.now c.args.item.now)) (Absent c.args.key.now) (IsOk c.replace.result) (c.replace.result ≡ Err NotFound) c.args.name.now c.args.before.now c.args.entry.now c.args.transaction.now.locked.now.draft c.replace.new.self.locked.now.draft
     _ c.in-Err-Full.field-0-0 c.args.key.now _ _ (λ ok. absurd (let h = subst (λ r. IsOk r) full_is ok in cc))
     (λ version v is. put_changes c.args.name.now c.args.entry.now version c.requires.item.some (λ e. c.requires.other (e ∙ sym is)))
-    c.replace.ensures.replaces (c.replace.ensures.full c.in-Err-Full.field-0-0 full_is) (c.replace.ensures.cause c.in-Err-Full.field-0-0 full_is) c.replace.ensures.spares (c.replace.ensures.cramped c.in-Err-Full.field-0-0 full_is)
+    (λ version v. written_few c.args.name.now c.args.item.now c.args.entry.now version c.requires.item)
+    c.replace.ensures.replaces (c.replace.ensures.full c.in-Err-Full.field-0-0 full_is) (c.replace.ensures.cause c.in-Err-Full.field-0-0 full_is) c.replace.ensures.spares (c.replace.ensures.cramped c.in-Err-Full.field-0-0 full_is) (c.replace.ensures.crowded c.in-Err-Full.field-0-0 full_is)

@@ -4,7 +4,7 @@ use Rattle.trie_model.specs.Keys as trie
 use Rattle.trie_model.specs.Keys.{InList}
 use Rattle.qp_multi.specs.declared.meaning.Operation.TheVariants as operation
 use Rattle.qp_multi.specs.declared.refusal.InsertRefusal.TheVariants.{Exists}
-use Rattle.zone_edit.proofs.StoreLaws.{nobody, put_changes, nothing_some, record_of}
+use Rattle.zone_edit.proofs.StoreLaws.{written_few, nobody, put_changes, nothing_some, record_of}
 use Rattle.zone_edit.proofs.EditLaws.{stored, no_room, refused_set, put_new}
 use Rattle.zone_edit.proofs.storing.put_in.Goals as goal
 
@@ -30,4 +30,5 @@ returns-in-Err-Full-clause-stores g c =
     no_room (operation.Insert (record_of c.args.key.now c.args.item.now)) (There c.args.key.now) (IsOk c.insert.result) (c.insert.result ≡ Err Exists) c.args.name.now [] c.args.entry.now c.args.transaction.now.locked.now.draft c.insert.new.self.locked.now.draft
     _ c.in-Err-Full.field-0-0 c.args.key.now _ _ (λ ok. absurd (let h = subst (λ r. IsOk r) full_is ok in cc))
     (λ version v none. put_changes c.args.name.now c.args.entry.now version c.requires.item.some (λ e. nothing_some c.args.entry.now c.requires.item.some (e ∙ sym none)))
-    c.insert.ensures.inserts (c.insert.ensures.full c.in-Err-Full.field-0-0 full_is) (c.insert.ensures.cause c.in-Err-Full.field-0-0 full_is) c.insert.ensures.spares (c.insert.ensures.cramped c.in-Err-Full.field-0-0 full_is)
+    (λ version v. written_few c.args.name.now c.args.item.now c.args.entry.now version c.requires.item)
+    c.insert.ensures.inserts (c.insert.ensures.full c.in-Err-Full.field-0-0 full_is) (c.insert.ensures.cause c.in-Err-Full.field-0-0 full_is) c.insert.ensures.spares (c.insert.ensures.cramped c.in-Err-Full.field-0-0 full_is) (c.insert.ensures.crowded c.in-Err-Full.field-0-0 full_is)

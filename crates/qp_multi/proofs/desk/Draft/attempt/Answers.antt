@@ -1,6 +1,6 @@
-use Rattle.std.proofs.Common.{◌≡◌, ◌∙◌, ℕ, List, length, Option, Ok, Err, IfErr, refl, sym, ap, subst}
+use Rattle.std.proofs.Common.{◌≡◌, ◌∙◌, ℕ, List, Option, Ok, Err, IfErr, refl, sym, ap, subst}
 use Rattle.trie_model.specs.Keys.{Entry}
-use Rattle.chunk_usage.specs.Ledger.{Ledger}
+use Rattle.chunk_usage.specs.Ledger.{Ledger, IsLedger}
 use Rattle.shared_cells.specs.declared.turn.JoinedSeat.{JoinedSeat}
 use Rattle.qp_multi.specs.declared.meaning.Operation.{Operation}
 use Rattle.qp_multi.specs.Passes.{Known}
@@ -46,16 +46,16 @@ returns-in-Ok-clause-room g c room =
     let done = c.with_done.ensures in
     let change = c.args.change.now in
     let tried = subst (Tried change d.root d.seat.place.me.0 d.usage c.attempt-seat.result.0.place.me.0 c.attempt-seat.new.usage) c.in-Ok.is c.attempt-seat.ensures.tried in
-    let there = tried_done change d c.attempt-seat.result.0.place.me.0 c.attempt-seat.new.usage c.in-Ok.new n.log.operations c.requires.works c.requires.leads tried done.log room in
-    subst (λ (u : Ledger). WorksRoomy u n.seat.place.me.0.seen (length n.log.operations)) (sym done.usage)
-    (subst (λ (s : JoinedSeat (List Entry) (List Operation)). WorksRoomy c.attempt-seat.new.usage s.place.me.0.seen (length n.log.operations)) (sym done.seat) there)
+    let there = tried_done change d c.attempt-seat.result.0.place.me.0 c.attempt-seat.new.usage c.in-Ok.new n.log.operations c.requires.works c.requires.leads c.attempt-seat.ensures.ledger tried done.log room in
+    subst (λ (u : Ledger). WorksRoomy u n.seat.place.me.0.seen n.log.operations) (sym done.usage)
+    (subst (λ (s : JoinedSeat (List Entry) (List Operation)). WorksRoomy c.attempt-seat.new.usage s.place.me.0.seen n.log.operations) (sym done.seat) there)
 
 pub returns-in-Err-clause-room : goal.returns-in-Err-clause-room
 returns-in-Err-clause-room g c room =
     let d = c.args.self in
     let change = c.args.change.now in
     let tried = subst (Tried change d.root d.seat.place.me.0 d.usage c.attempt-seat.result.0.place.me.0 c.attempt-seat.new.usage) c.in-Err.is c.attempt-seat.ensures.tried in
-    tried_failed change d c.attempt-seat.result.0.place.me.0 c.attempt-seat.new.usage c.in-Err.unchanged c.requires.works c.requires.leads tried room
+    tried_failed change d c.attempt-seat.result.0.place.me.0 c.attempt-seat.new.usage c.in-Err.unchanged c.requires.works c.requires.leads c.attempt-seat.ensures.ledger tried room
 
 pub returns-in-Err-clause-cramped : goal.returns-in-Err-clause-cramped
 returns-in-Err-clause-cramped g c room f e =
@@ -64,3 +64,6 @@ returns-in-Err-clause-cramped g c room f e =
     let is = c.in-Err.is ∙ ap (λ x. Err x) (subst (λ r. IfErr r (λ x. c.in-Err.unchanged ≡ x)) e refl) in
     let tried = subst (Tried change d.root d.seat.place.me.0 d.usage c.attempt-seat.result.0.place.me.0 c.attempt-seat.new.usage) is c.attempt-seat.ensures.tried in
     tried_cramped change d c.attempt-seat.result.0.place.me.0 c.attempt-seat.new.usage f c.requires.works c.requires.leads tried room
+
+pub returns-in-Ok-clause-ledger : goal.returns-in-Ok-clause-ledger
+returns-in-Ok-clause-ledger g c = subst IsLedger (sym c.with_done.ensures.usage) c.attempt-seat.ensures.ledger

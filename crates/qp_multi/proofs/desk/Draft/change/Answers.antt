@@ -1,8 +1,13 @@
-use Rattle.std.proofs.Common.{arith, inl, inr, refl, rules}
+use Rattle.std.proofs.Common.{◌≡◌, ◌∙◌, ◌++◌, List, ap, append_assoc, inl, inr, refl, rules}
 use Rattle.qp_multi.specs.Bounds.{HasRoom, IsCramped}
 use Rattle.qp_multi.specs.Rooms.{Fails}
 use Rattle.qp_multi.proofs.GoesLaws.{goes_further}
-use Rattle.qp_multi.proofs.RoomyLaws.{cramped_room, keeps_grown, keeps_made, keeps_then, no_fewer}
+use Rattle.qp_multi.specs.declared.meaning.Operation.{Operation}
+use Rattle.qp_multi.specs.Changes.{key_of, written_by}
+use Rattle.qp_multi.specs.Drafts.{working_set}
+use Rattle.qp_multi.specs.Keepings.{versions_in}
+use Rattle.qp_multi.proofs.RoomyLaws.{begins_with, cramped_room, crowded_by, keeps_grown, keeps_made, keeps_then}
+use Rattle.qp_multi.proofs.WorkLaws.{set_stays}
 use Rattle.qp_multi.proofs.desk.Draft.change.Given.{Over}
 use Rattle.qp_multi.proofs.desk.Draft.change.Goals as goal
 
@@ -25,6 +30,10 @@ returns-in-Err-Full-clause-cause g c f kept e same = record { first = c.attempt-
 cramped_first : (g : Over) (c : goal.After-change_at_last g) → HasRoom c.args.self → IsCramped c.args.self
 cramped_first g c room = c.attempt-draft.ensures.cramped room c.in-Err-Full.field-0-0 (search rules)
 
+-- the working set is the same behind it
+same_first : (g : Over) (c : goal.After-change_at_last g) → working_set c.attempt-draft.result.0 ≡ working_set c.args.self
+same_first g c = set_stays c.args.self c.attempt-draft.result.0 c.attempt-draft.ensures.operates.known (c.attempt-draft.ensures.operates.stays (λ h. absurd (search rules)))
+
 pub returns-in-Err-Full-clause-room : goal.returns-in-Err-Full-clause-room
 returns-in-Err-Full-clause-room g c room =
     let d = c.args.self in
@@ -32,12 +41,29 @@ returns-in-Err-Full-clause-room g c room =
     let last = c.change_at_last in
     let made = last.ensures.room in
     let keeps = keeps_then (keeps_grown tried.ensures.spares.grown) (keeps_then (keeps_made made.1) (keeps_grown made.2.grown)) in
-    let a = no_fewer tried.result.1 tried.ensures.operates in
-    let b = no_fewer last.result.1 last.ensures.operates in
-    cramped_room d last.result.0 room (cramped_first g c room) keeps (goes_further tried.ensures.operates.known last.ensures.operates.known) (omega arith)
+    let a = begins_with tried.result.1 tried.ensures.operates in
+    let b = begins_with last.result.1 last.ensures.operates in
+    cramped_room d tried.result.0 last.result.0 room (cramped_first g c room) keeps (goes_further tried.ensures.operates.known last.ensures.operates.known)
+    (a.0 ++ b.0, b.1 ∙ ap (λ (os : List Operation). os ++ b.0) a.1 ∙ append_assoc d.log.operations a.0 b.0)
+    tried.ensures.ledger tried.ensures.spares (same_first g c) tried.ensures.spares.grown.wide last.ensures.small
 
 pub returns-in-Err-Full-clause-cramped : goal.returns-in-Err-Full-clause-cramped
 returns-in-Err-Full-clause-cramped g c room f e = cramped_first g c room
 
 pub returns-in_default-clause-cause : goal.returns-in_default-clause-cause
 returns-in_default-clause-cause g c f kept e same = absurd (search rules)
+
+pub returns-in_default-clause-crowded : goal.returns-in_default-clause-crowded
+returns-in_default-clause-crowded g c room f kept e same = absurd (search rules)
+
+pub returns-in-Err-Full-clause-crowded : goal.returns-in-Err-Full-clause-crowded
+returns-in-Err-Full-clause-crowded g c room f kept e same =
+    let old = c.args.self in
+    let tried = c.attempt-draft in
+    let d = c.change_at_last.result.0 in
+    let op = c.change_at_last.ensures.operates in
+    let log = op.stays (λ h. absurd (search rules)) ∙ tried.ensures.operates.stays (λ h. absurd (search rules)) in
+    let on = goes_further tried.ensures.operates.known op.known in
+    let k = c.change_at_last.ensures.crowded f e in
+    let wide = keeps_then (keeps_grown tried.ensures.spares.grown) (keeps_then (keeps_made c.change_at_last.ensures.room.1) (keeps_grown c.change_at_last.ensures.room.2.grown)) in
+    crowded_by old tried.result.0 d (key_of c.args.change.now) (written_by c.args.change.now) (versions_in kept) room k on log tried.ensures.ledger tried.ensures.spares (same_first g c) wide.wide same

@@ -1,6 +1,6 @@
 use Rattle.std.proofs.Common.{◌≡◌, ◌∙◌, true, sym, subst}
 use Rattle.qp_multi.specs.Operations.{AreWithin}
-use Rattle.qp_multi.proofs.RoomyLaws.{alike_room, alike_where, settled_rows, settled_thin}
+use Rattle.qp_multi.proofs.RoomyLaws.{alike_room, alike_where, settled_rows, settled_small, settled_thin}
 use Rattle.qp_multi.proofs.SettleLaws.{IsAlike, settled_recycles}
 use Rattle.qp_multi.proofs.desk.Draft.commit.Goals as goal
 
@@ -28,6 +28,13 @@ publish-desk-requires-clause-thin g c =
     let s = c.settle-draft.ensures in
     let alike : IsAlike c.args.self c.next_version.new.self = record { known = next.known; usage = next.usage; log = next.log } in
     settled_thin c.requires.few s.settles s.whole (s.roomy (alike_room alike c.requires.room))
+
+pub publish-desk-requires-clause-small : goal.publish-desk-requires-clause-small
+publish-desk-requires-clause-small g c =
+    let next = c.next_version.ensures in
+    let s = c.settle-draft.ensures in
+    let alike : IsAlike c.args.self c.next_version.new.self = record { known = next.known; usage = next.usage; log = next.log } in
+    settled_small s.settles (s.small (alike_room alike c.requires.room))
 
 pub undo-desk-requires-clause-room : goal.undo-desk-requires-clause-room
 undo-desk-requires-clause-room g c =

@@ -90,7 +90,7 @@ invariant_of-desk g c =
       rests = published_rests (cells_with last y.turn) d last c.make_round.new.seat.passes c.publish-version.result (kept_versions c.make_round.new.usage) z.seen (entry_of p.1.number p.2) c.known.ensures c.requires.works usage free.agrees
           (ap (λ (s : Seen (List Entry) (List Operation)). s.opening) seen ∙ round.goes_on.opening ∙ ap (λ (k : Known). k.seen.opening) p.6)
           (ap (λ (s : Seen (List Entry) (List Operation)). s.history) seen ∙ round.goes_on.history ∙ ap (λ (k : Known). k.seen.history) p.6)
-          (cc) c.requires.rows c.requires.thin;
+          (cc) c.requires.rows c.requires.thin c.requires.small;
     }
 
 pub returns-clause-receipt : goal.returns-clause-receipt

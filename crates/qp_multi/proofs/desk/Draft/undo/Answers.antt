@@ -45,5 +45,5 @@ invariant_of-desk g c =
       };
       root_is = d.base_is ∙ sym (ap current_root kept_last);
       rests = undone_rests (cells_with last y.turn) d.usage last d.seat.passes v.seen z.seen usage free.agrees
-          (ap (λ (s : Seen (List Entry) (List Operation)). s.opening) seen) (ap (λ (s : Seen (List Entry) (List Operation)). s.history) seen) c.requires.room.rows;
+          (ap (λ (s : Seen (List Entry) (List Operation)). s.opening) seen) (ap (λ (s : Seen (List Entry) (List Operation)). s.history) seen) c.requires.room.rows c.requires.room.rests;
     }

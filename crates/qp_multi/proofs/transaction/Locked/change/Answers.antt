@@ -17,3 +17,8 @@ pub returns-clause-cramped : goal.returns-clause-cramped
 returns-clause-cramped g c f e =
     let is : c.args.self.now.draft ≡ Some c.in-Some.draft = sym c.take.ensures.value ∙ c.in-Some.is in
     subst (λ (o : Option Draft). IsSomeAnd o IsCramped) (sym is) (c.change-draft.ensures.cramped (c.args.self.now.room c.in-Some.draft is) f e)
+
+pub returns-clause-crowded : goal.returns-clause-crowded
+returns-clause-crowded g c f kept e same =
+    let is : c.args.self.now.draft ≡ Some c.in-Some.draft = sym c.take.ensures.value ∙ c.in-Some.is in
+    c.change-draft.ensures.crowded (c.args.self.now.room c.in-Some.draft is) f kept e same

@@ -1,4 +1,4 @@
-use Rattle.chunk_usage.proofs.SpaceLaws.{Hands, handed, wanted, opens, spares}
+use Rattle.chunk_usage.proofs.SpaceLaws.{Hands, handed, wanted, meets, opens, spares}
 use Rattle.chunk_usage.proofs.usage.as_space.UsageSpace.alloc.Goals as goal
 
 hands : (c : goal.After-alloc) → Hands c.args.self.now c.alloc.new.self c.args.n c.alloc.result
@@ -24,3 +24,6 @@ returns-clause-opens c = opens c.args.self.now c.args.n c.alloc.new.self c.alloc
 
 pub returns-clause-spares : goal.returns-clause-spares
 returns-clause-spares c = spares c.args.self.now c.args.n c.alloc.new.self c.alloc.ensures.after
+
+pub returns-clause-meets : goal.returns-clause-meets
+returns-clause-meets c = meets c.args.self.now c.args.n c.alloc.new.self c.alloc.ensures.after
