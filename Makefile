@@ -4,7 +4,7 @@ PREFIX ?= /usr/local
 root = $(DESTDIR)$(PREFIX)
 
 install:
-	@program=$$(./qpzone --where) && test -n "$$program" && \
+	@program=$$(./qpzone --where) && { test -n "$$program" || { echo 'no program can be built'; exit 1; }; } && \
 	install -d "$(root)/libexec/qpzone" && rm -f "$(root)/libexec/qpzone"/* && \
 	install -m 755 "$$program" "$(root)/libexec/qpzone/$$(./qpzone --version | sed 's/.*, //')"
 	install -D -m 755 qpzone "$(root)/bin/qpzone"

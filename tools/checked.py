@@ -32,8 +32,8 @@ def run(crate, *flags, given=()):
 
 def try_tests(crate):
     ended = run(crate, "--test")
-    print(ended.stderr)
-    counts = re.search(r"^test result: .* (\d+) passed; (\d+) failed", ended.stderr, re.M)
+    print(ended.stdout, ended.stderr)
+    counts = re.search(r"^test result: .* (\d+) passed; (\d+) failed", ended.stdout, re.M)
     return [int(it) for it in counts.groups()] if counts else sys.exit("no test was run")
 
 
