@@ -1,5 +1,5 @@
 -- What a transaction's call makes of a working set that is a version.
-use Rattle.std.proofs.Common.{◌≡◌, ◌∙◌, ℕ, ◌+◌, ◌-◌, ◌*◌, ◌/◌, ◌≤◌, List, [], ◌∷◌, ◌++◌, length, Option, Some, None, Ok, Err, refl, sym, ap, subst, arith, append-nil, append_assoc, length-append}
+use Rattle.std.proofs.Common.{◌≡◌, ◌∙◌, ℕ, ◌+◌, ◌-◌, ◌/◌, ◌≤◌, List, [], ◌∷◌, ◌++◌, length, Option, Some, None, Ok, Err, refl, sym, ap, subst, arith, append-nil, append_assoc, length-append}
 use Rattle.std.specs.Prelude.{Contains, IsSome, IsSomeAnd, IfSome, unwrap_or}
 use Rattle.std.specs.BTreeMap.{insert_entry}
 use Rattle.zone_model.specs.Names.{Name, IsName, name_cmp}
