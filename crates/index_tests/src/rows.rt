@@ -1,5 +1,5 @@
 //! What passes of one index do in turn: snapshots, notes, full tables, rollbacks.
-ghost use Rattle.std.specs.Prelude.{IsSomeAnd};
+ghost use Rattle.std.specs.Prelude.{◌≤◌, IsSomeAnd};
 ghost use Rattle.qp_multi.specs.Drafts.{Works};
 
 use crate::buffer::Buffer;
