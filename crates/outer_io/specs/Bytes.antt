@@ -1,33 +1,46 @@
 -- What a sink holds, and what a write does to that.
 use Rattle.std.specs.Prelude.{◌≡◌, ℕ, ◌≤◌, List, ◌++◌, length, take, ⊤, Option, None, Some}
 
--- The bytes that a sink holds. One that has never told them may begin to. One that told them may spill over, and then tells
--- them no more.
-pub data Held : Type 0 where
-  Holds : (bytes : List ℕ) → Held
-  Untold : Held
-  Spilt : Held
+-- What a sink tells. One that has never told its bytes may begin to. One that told them may spill over, and then tells them no more.
+pub data Told : Type 0 where
+  Holds : (bytes : List ℕ) → Told
+  Untold : Told
+  Spilt : Told
 
--- what a writer of std holds, where that is known
-abbrev pub held_by : Option (List ℕ) → Held
-held_by (Some bytes) = Holds bytes
-held_by None = Untold
+-- what a writer of std tells, where it does
+abbrev pub told_by : Option (List ℕ) → Told
+told_by (Some bytes) = Holds bytes
+told_by None = Untold
 
 -- what lies in a room, where it fits
-abbrev pub held_in : Option (List ℕ) → Held
-held_in (Some bytes) = Holds bytes
-held_in None = Spilt
+abbrev pub told_in : Option (List ℕ) → Told
+told_in (Some bytes) = Holds bytes
+told_in None = Spilt
 
--- The bytes held grow by bs. Of a sink that hasn't told them nothing is said.
-abbrev pub Grows : Held → Held → List ℕ → Type 0
-Grows (Holds xs) (Holds ys) bs = ys ≡ xs ++ bs
-Grows (Holds xs) Spilt bs = ⊤
-Grows (Holds xs) Untold bs = ⊥
-Grows Spilt Spilt bs = ⊤
-Grows Spilt Untold bs = ⊥
-Grows Spilt (Holds ys) bs = ⊥
-Grows Untold new bs = ⊤
+-- What a sink holds: all bytes that it took since it was made, and what it tells of those that lie in it.
+pub record Held : Type 0 where
+  pub taken : List ℕ
+  pub told : Told
 
--- they grow by a prefix of bs
+-- what a room in memory holds
+abbrev pub held_of : List ℕ → Option (List ℕ) → Held
+held_of taken bytes = record { taken = taken; told = told_in bytes }
+
+-- The bytes told grow by bs. Of a sink that hasn't told them nothing is said.
+abbrev pub TellsMore : Told → Told → List ℕ → Type 0
+TellsMore (Holds xs) (Holds ys) bs = ys ≡ xs ++ bs
+TellsMore (Holds xs) Spilt bs = ⊤
+TellsMore (Holds xs) Untold bs = ⊥
+TellsMore Spilt Spilt bs = ⊤
+TellsMore Spilt Untold bs = ⊥
+TellsMore Spilt (Holds ys) bs = ⊥
+TellsMore Untold new bs = ⊤
+
+-- What is held grows by bs: these were taken, and are told if any are.
+pub record Grows (old new : Held) (bs : List ℕ) : Type 0 where
+  pub taken : new.taken ≡ old.taken ++ bs
+  pub told : TellsMore old.told new.told bs
+
+-- it grows by a prefix of bs
 abbrev pub GrowsByFront : Held → Held → List ℕ → Type 0
 GrowsByFront old new bs = (n : ℕ) × (n ≤ length bs) × Grows old new (take n bs)

@@ -4,30 +4,35 @@ use Rattle.outer_io.specs.Calls.{Calls}
 
 -- bytes that are given out
 pub record Pieces : Type 0 where
-  -- those still to come
+  -- those that were, and those still to come
+  pub given : List ℕ
   pub left : List ℕ
   -- how many one call gives at most
   pub most : ℕ
 
 pub record SourceState : Type 0 where
+  pub given : List ℕ
   pub left : List ℕ
   pub most : ℕ
   pub calls : Calls
 
 -- bytes that were taken
 pub record Tray : Type 0 where
-  -- all of them, while they fit
+  -- all of them, and the same while they fit
+  pub taken : List ℕ
   pub held : Option (List ℕ)
   -- how many fit
   pub room : ℕ
 
 pub record QuietState : Type 0 where
+  pub taken : List ℕ
   pub held : Option (List ℕ)
   pub room : ℕ
   -- how many one call takes at most
   pub most : ℕ
 
 pub record SinkState : Type 0 where
+  pub taken : List ℕ
   pub held : Option (List ℕ)
   pub room : ℕ
   pub most : ℕ

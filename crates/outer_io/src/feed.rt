@@ -1,4 +1,4 @@
-ghost use Rattle.std.specs.Prelude.{◌≡◌, ◌<◌, ◌≤◌, length, min, take, drop};
+ghost use Rattle.std.specs.Prelude.{◌≡◌, ◌<◌, ◌≤◌, ◌++◌, [], length, min, take, drop};
 
 use std::marker::Model;
 
@@ -11,12 +11,12 @@ pub struct Feed {
 }
 
 impl Model for Feed {
-    ghost use Rattle.std.specs.Prelude.{◌<◌, ◌≤◌, drop, length};
+    ghost use Rattle.std.specs.Prelude.{◌<◌, ◌≤◌, drop, take, length};
     ghost use Rattle.outer_io.specs.Memory.{Pieces};
 
     ghost Value = { Pieces };
 
-    ghost view = { λ f. record { left = drop f.at f.bytes.items; most = f.most } };
+    ghost view = { λ f. record { given = take f.at f.bytes.items; left = drop f.at f.bytes.items; most = f.most } };
 
     ghost invariant = { λ f. (f.at ≤ length f.bytes.items) × (0 < f.most) };
 }
@@ -25,6 +25,7 @@ impl Feed {
     /// Nothing is given out yet.
     pub fn new(bytes: Vec<u8>, most: usize) -> Self
         requires { 0 < most }
+        ensures given { result.given ≡ [] }
         ensures left { result.left ≡ bytes.items }
         ensures most { result.most ≡ most }
     {
@@ -35,6 +36,7 @@ impl Feed {
     pub fn give(&mut self, piece: &mut [u8]) -> usize
         ensures count { result ≡ min self.old.most (min (length piece.old) (length self.old.left)) }
         ensures piece { take result piece.new ≡ take result self.old.left }
+        ensures given { self.new.given ≡ self.old.given ++ take result self.old.left }
         ensures left { self.new.left ≡ drop result self.old.left }
         ensures most { self.new.most ≡ self.old.most }
         ensures some { 0 < self.old.most }

@@ -3,6 +3,7 @@
 #![tactic(auto)]
 
 mod feed;
+mod noting;
 mod reading;
 mod room;
 mod schedule;
@@ -11,6 +12,7 @@ mod sources;
 mod standard;
 mod writing;
 
+pub use noting::Notes;
 pub use reading::{ReadRefusal, read_all};
 pub use schedule::Failed;
 pub use sinks::{MemSink, QuietSink, Sink};

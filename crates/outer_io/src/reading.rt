@@ -1,4 +1,4 @@
-ghost use Rattle.std.specs.Prelude.{◌≡◌, ◌+◌, ◌≤◌, ◌^◌, ◌<◌, ℕ, List, length, vec_len, OnOk, IfOk, IsErrOf};
+ghost use Rattle.std.specs.Prelude.{◌≡◌, ◌+◌, ◌≤◌, ◌^◌, ◌<◌, ◌++◌, ℕ, List, length, vec_len, IsTrue, OnOk, IfOk, IsErrOf};
 ghost use Rattle.outer_io.specs.Prelude.{Consumes, IsAtEnd, Rose, Memory, Fault};
 
 use crate::schedule::Failed;
@@ -46,12 +46,14 @@ pub fn read_all<S: Source>(
     limit: u32,
 ) -> Result<Vec<u8>, ReadRefusal>
     ensures ok { IfOk result (λ v. Consumes (S.left source.old) (S.left source.new) v.items) }
+    ensures gave { IfOk result (λ v. S.given source.new ≡ S.given source.old ++ v.items) }
     ensures end { OnOk result (IsAtEnd (S.left source.new)) }
+    ensures ended { OnOk result (IsTrue (S.ended source.new)) }
     ensures within { IfOk result (λ v. vec_len v ≤ limit) }
 
     ensures fault { IsErrOf result ReadRefusal.Fault → Rose (S.faults source.old) (S.faults source.new) }
     ensures too_long { IsErrOf result (ReadRefusal.TooLong limit)
-        → (bytes : List ℕ) × Consumes (S.left source.old) (S.left source.new) bytes × (length bytes ≡ limit + 1) }
+        → (bytes : List ℕ) × Consumes (S.left source.old) (S.left source.new) bytes × (S.given source.new ≡ S.given source.old ++ bytes) × (length bytes ≡ limit + 1) }
     ensures told_limit { (n : ℕ) → IsErrOf result (ReadRefusal.TooLong n) → n ≡ limit }
     ensures quiet { (IsErrOf result ReadRefusal.Fault → ⊥) → S.faults source.new ≡ S.faults source.old }
     ensures later { S.faults source.old ≤ S.faults source.new }

@@ -1,6 +1,7 @@
-ghost use Rattle.std.specs.Prelude.{◌≡◌, [], None, Some, IfOk, MatchOption};
+ghost use Rattle.std.specs.Prelude.{◌≡◌, ◌++◌, [], None, Some, IfOk, MatchOption};
 ghost use Rattle.outer_io.specs.Memory.{told};
 
+use crate::noting::{Event, Notes};
 use std::alloc::{AllocError, Global};
 use std::marker::Model;
 
@@ -10,6 +11,7 @@ pub struct Room {
     bytes: Vec<u8>,
     room: usize,
     over: bool,
+    notes: Notes,
 }
 
 impl Model for Room {
@@ -19,7 +21,7 @@ impl Model for Room {
 
     ghost Value = { Tray };
 
-    ghost view = { λ r. record { held = if r.over then None else Some r.bytes.items; room = r.room } };
+    ghost view = { λ r. record { taken = r.notes.bytes; held = if r.over then None else Some r.bytes.items; room = r.room } };
 
     ghost invariant = { λ r. (r.room ≤ vec_capacity r.bytes) × (vec_len r.bytes ≤ r.room) };
 }
@@ -27,6 +29,7 @@ impl Model for Room {
 impl Room {
     /// All memory is taken here.
     pub fn new(alloc: Global, room: usize) -> Result<Self, AllocError>
+        ensures taken { IfOk result (λ r. r.taken ≡ []) }
         ensures held { IfOk result (λ r. r.held ≡ Some []) }
         ensures room { IfOk result (λ r. r.room ≡ room) }
     {
@@ -34,6 +37,7 @@ impl Room {
             bytes: Vec::with_capacity(alloc, room)?,
             room,
             over: false,
+            notes: Notes::new(),
         })
     }
 
@@ -49,9 +53,11 @@ impl Room {
 
     /// Takes the whole piece.
     pub fn take(&mut self, piece: &[u8])
+        ensures taken { self.new.taken ≡ self.old.taken ++ piece.now }
         ensures held { self.new.held ≡ told self.old.room self.old.held piece.now }
         ensures room { self.new.room ≡ self.old.room }
     {
+        self.notes = self.notes.then(&Event::Moved(piece));
         if self.over {
             return;
         }

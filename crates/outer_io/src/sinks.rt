@@ -1,6 +1,6 @@
-ghost use Rattle.std.specs.Prelude.{◌≡◌, ◌<◌, ◌≤◌, ◌↔◌, []};
+ghost use Rattle.std.specs.Prelude.{◌≡◌, ◌<◌, ◌≤◌, ◌↔◌, ◌++◌, []};
 ghost use Rattle.std.specs.Prelude.{ℕ, List, Option, None, Some, MatchOption, take, length, min, IsErr, IfOk, OnOk, OnErr, IsOkAnd, Contains};
-ghost use Rattle.outer_io.specs.Prelude.{Rose, Held, held_in, Grows, GrowsByFront, next_count, told};
+ghost use Rattle.outer_io.specs.Prelude.{Rose, Held, held_of, Grows, GrowsByFront, next_count, told};
 
 use crate::room::Room;
 use crate::schedule::{Failed, Schedule};
@@ -9,7 +9,7 @@ use std::marker::Model;
 
 /// Where bytes go.
 pub trait Sink {
-    /// The bytes written, where the sink tells them.
+    /// All bytes that were written since the sink was made, and what it tells of them.
     ghost held: { Self → Held };
 
     /// How many calls have failed.
@@ -41,7 +41,7 @@ impl Model for MemSink {
 
     ghost Value = { SinkState };
 
-    ghost view = { λ s. record { held = s.room.held; room = s.room.room; most = s.most; calls = s.schedule } };
+    ghost view = { λ s. record { taken = s.room.taken; held = s.room.held; room = s.room.room; most = s.most; calls = s.schedule } };
 
     ghost invariant = { λ s. 0 < s.most };
 }
@@ -51,6 +51,7 @@ impl MemSink {
     /// sink tells its bytes while they are at most `room`.
     pub fn new(alloc: Global, room: usize, most: usize, fails: Vec<u64>) -> Result<Self, AllocError>
         requires { 0 < most }
+        ensures taken { IfOk result (λ s. s.taken ≡ []) }
         ensures held { IfOk result (λ s. s.held ≡ Some []) }
         ensures room { IfOk result (λ s. s.room ≡ room) }
         ensures most { IfOk result (λ s. s.most ≡ most) }
@@ -74,23 +75,24 @@ impl MemSink {
 }
 
 impl Sink for MemSink {
-    ghost held = { λ s. held_in s.held };
+    ghost held = { λ s. held_of s.taken s.held };
 
     ghost faults = { λ s. s.calls.faults };
 
     fn write(&mut self, piece: &[u8]) -> Result<usize, Failed>
         ensures bound { IfOk result (λ n. n ≤ length piece.now) }
         ensures some { IfOk result (λ n. 0 < length piece.now → 0 < n) }
-        ensures ok { IfOk result (λ n. Grows (held_in self.old.held) (held_in self.new.held) (take n piece.now)) }
-        ensures err { OnErr result (GrowsByFront (held_in self.old.held) (held_in self.new.held) piece.now) }
+        ensures ok { IfOk result (λ n. Grows (held_of self.old.taken self.old.held) (held_of self.new.taken self.new.held) (take n piece.now)) }
+        ensures err { OnErr result (GrowsByFront (held_of self.old.taken self.old.held) (held_of self.new.taken self.new.held) piece.now) }
         ensures quiet { OnOk result (self.new.calls.faults ≡ self.old.calls.faults) }
         ensures later { self.old.calls.faults ≤ self.new.calls.faults }
         ensures failed { OnErr result (Rose self.old.calls.faults self.new.calls.faults) }
 
         ensures fails { IsErr result ↔ Contains self.old.calls.fails (next_count self.old.calls.made) }
         ensures count { IfOk result (λ n. n ≡ min self.old.most (length piece.now)) }
+        ensures taken { IfOk result (λ n. self.new.taken ≡ self.old.taken ++ take n piece.now) }
         ensures told { IfOk result (λ n. self.new.held ≡ told self.old.room self.old.held (take n piece.now)) }
-        ensures unmoved { OnErr result (self.new.held ≡ self.old.held) }
+        ensures unmoved { OnErr result ((self.new.taken ≡ self.old.taken) × (self.new.held ≡ self.old.held)) }
         ensures made { self.new.calls.made ≡ next_count self.old.calls.made }
         ensures same { (self.new.room ≡ self.old.room) × (self.new.most ≡ self.old.most) × (self.new.calls.fails ≡ self.old.calls.fails) }
     {
@@ -114,7 +116,7 @@ impl Model for QuietSink {
 
     ghost Value = { QuietState };
 
-    ghost view = { λ s. record { held = s.room.held; room = s.room.room; most = s.most } };
+    ghost view = { λ s. record { taken = s.room.taken; held = s.room.held; room = s.room.room; most = s.most } };
 
     ghost invariant = { λ s. 0 < s.most };
 }
@@ -123,6 +125,7 @@ impl QuietSink {
     /// Each call takes at most `most` bytes. The sink tells its bytes while they are at most `room`.
     pub fn new(alloc: Global, room: usize, most: usize) -> Result<Self, AllocError>
         requires { 0 < most }
+        ensures taken { IfOk result (λ s. s.taken ≡ []) }
         ensures held { IfOk result (λ s. s.held ≡ Some []) }
         ensures room { IfOk result (λ s. s.room ≡ room) }
         ensures most { IfOk result (λ s. s.most ≡ most) }
@@ -142,20 +145,21 @@ impl QuietSink {
 }
 
 impl Sink for QuietSink {
-    ghost held = { λ s. held_in s.held };
+    ghost held = { λ s. held_of s.taken s.held };
 
     ghost faults = { λ _. 0 };
 
     fn write(&mut self, piece: &[u8]) -> Result<usize, Failed>
         ensures bound { IfOk result (λ n. n ≤ length piece.now) }
         ensures some { IfOk result (λ n. 0 < length piece.now → 0 < n) }
-        ensures ok { IfOk result (λ n. Grows (held_in self.old.held) (held_in self.new.held) (take n piece.now)) }
-        ensures err { OnErr result (GrowsByFront (held_in self.old.held) (held_in self.new.held) piece.now) }
+        ensures ok { IfOk result (λ n. Grows (held_of self.old.taken self.old.held) (held_of self.new.taken self.new.held) (take n piece.now)) }
+        ensures err { OnErr result (GrowsByFront (held_of self.old.taken self.old.held) (held_of self.new.taken self.new.held) piece.now) }
         ensures quiet { let none : ℕ = 0 in OnOk result (none ≡ 0) }
         ensures later { 0 ≤ 0 }
         ensures failed { OnErr result (Rose 0 0) }
 
         ensures count { IsOkAnd result (λ n. n ≡ min self.old.most (length piece.now)) }
+        ensures taken { IfOk result (λ n. self.new.taken ≡ self.old.taken ++ take n piece.now) }
         ensures told { IfOk result (λ n. self.new.held ≡ told self.old.room self.old.held (take n piece.now)) }
         ensures same { (self.new.room ≡ self.old.room) × (self.new.most ≡ self.old.most) }
     {

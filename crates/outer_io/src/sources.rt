@@ -1,4 +1,4 @@
-ghost use Rattle.std.specs.Prelude.{◌≡◌, ◌<◌, ◌≤◌, ◌↔◌, ℕ, List, [], ◌++◌, Option, Some, take, length, min, IsErr, IfOk, OnOk, IsOkAnd, OnErr, Contains};
+ghost use Rattle.std.specs.Prelude.{◌≡◌, ◌<◌, ◌≤◌, ◌↔◌, ℕ, List, [], ◌++◌, ◌==◌, Bool, IsTrue, Option, Some, take, length, min, IsErr, IfOk, OnOk, IsOkAnd, OnErr, Contains};
 ghost use Rattle.outer_io.specs.Prelude.{Consumes, IsAtEnd, Keeps, Rose, next_count};
 
 use crate::feed::Feed;
@@ -10,6 +10,12 @@ pub trait Source {
     /// The bytes that are still to come, where the source tells them.
     ghost left: { Self → Option (List ℕ) };
 
+    /// All bytes that were read since the source was made.
+    ghost given: { Self → List ℕ };
+
+    /// A read told the end of input.
+    ghost ended: { Self → Bool };
+
     /// How many calls have failed.
     ghost faults: { Self → ℕ };
 
@@ -18,8 +24,11 @@ pub trait Source {
     fn read(&mut self, piece: &mut [u8]) -> Result<usize, Failed>
         ensures bound { IfOk result (λ n. n ≤ length piece.new) }
         ensures ok { IfOk result (λ n. Consumes (left self.old) (left self.new) (take n piece.new)) }
+        ensures gave { IfOk result (λ n. given self.new ≡ given self.old ++ take n piece.new) }
         ensures end { IfOk result (λ n. n ≡ 0 → 0 < length piece.new → IsAtEnd (left self.new)) }
+        ensures ended { IfOk result (λ n. n ≡ 0 → 0 < length piece.new → IsTrue (ended self.new)) }
         ensures err { OnErr result (Keeps (left self.old) (left self.new)) }
+        ensures unmoved { OnErr result (given self.new ≡ given self.old) }
         ensures quiet { OnOk result (faults self.new ≡ faults self.old) }
         ensures later { faults self.old ≤ faults self.new }
         ensures failed { OnErr result (Rose (faults self.old) (faults self.new)) };
@@ -37,13 +46,14 @@ impl Model for MemSource {
 
     ghost Value = { SourceState };
 
-    ghost view = { λ s. record { left = s.feed.left; most = s.feed.most; calls = s.schedule } };
+    ghost view = { λ s. record { given = s.feed.given; left = s.feed.left; most = s.feed.most; calls = s.schedule } };
 }
 
 impl MemSource {
     /// The calls with the numbers of `fails`, from 1, fail. The others give at most `most` bytes.
     pub fn new(bytes: Vec<u8>, most: usize, fails: Vec<u64>) -> Self
         requires { 0 < most }
+        ensures given { result.given ≡ [] }
         ensures left { result.left ≡ bytes.items }
         ensures most { result.most ≡ most }
         ensures fails { result.calls.fails ≡ fails.items }
@@ -60,13 +70,20 @@ impl MemSource {
 impl Source for MemSource {
     ghost left = { λ s. Some s.left };
 
+    ghost given = { λ s. s.given };
+
+    ghost ended = { λ s. length s.left == 0 };
+
     ghost faults = { λ s. s.calls.faults };
 
     fn read(&mut self, piece: &mut [u8]) -> Result<usize, Failed>
         ensures bound { IfOk result (λ n. n ≤ length piece.new) }
         ensures ok { IfOk result (λ n. self.old.left ≡ take n piece.new ++ self.new.left) }
+        ensures gave { IfOk result (λ n. self.new.given ≡ self.old.given ++ take n piece.new) }
         ensures end { IfOk result (λ n. n ≡ 0 → 0 < length piece.new → self.new.left ≡ []) }
+        ensures ended { IfOk result (λ n. n ≡ 0 → 0 < length piece.new → IsTrue (length self.new.left == 0)) }
         ensures err { OnErr result (self.new.left ≡ self.old.left) }
+        ensures unmoved { OnErr result (self.new.given ≡ self.old.given) }
         ensures quiet { OnOk result (self.new.calls.faults ≡ self.old.calls.faults) }
         ensures later { self.old.calls.faults ≤ self.new.calls.faults }
         ensures failed { OnErr result (Rose self.old.calls.faults self.new.calls.faults) }
@@ -99,6 +116,7 @@ impl QuietSource {
     /// Each call gives at most `most` bytes.
     pub fn new(bytes: Vec<u8>, most: usize) -> Self
         requires { 0 < most }
+        ensures given { result.given ≡ [] }
         ensures left { result.left ≡ bytes.items }
         ensures most { result.most ≡ most }
     {
@@ -111,13 +129,20 @@ impl QuietSource {
 impl Source for QuietSource {
     ghost left = { λ s. Some s.left };
 
+    ghost given = { λ s. s.given };
+
+    ghost ended = { λ s. length s.left == 0 };
+
     ghost faults = { λ _. 0 };
 
     fn read(&mut self, piece: &mut [u8]) -> Result<usize, Failed>
         ensures bound { IfOk result (λ n. n ≤ length piece.new) }
         ensures ok { IfOk result (λ n. self.old.left ≡ take n piece.new ++ self.new.left) }
+        ensures gave { IfOk result (λ n. self.new.given ≡ self.old.given ++ take n piece.new) }
         ensures end { IfOk result (λ n. n ≡ 0 → 0 < length piece.new → self.new.left ≡ []) }
+        ensures ended { IfOk result (λ n. n ≡ 0 → 0 < length piece.new → IsTrue (length self.new.left == 0)) }
         ensures err { OnErr result (self.new.left ≡ self.old.left) }
+        ensures unmoved { OnErr result (self.new.given ≡ self.old.given) }
         ensures quiet { let none : ℕ = 0 in OnOk result (none ≡ 0) }
         ensures later { 0 ≤ 0 }
         ensures failed { OnErr result (Rose 0 0) }

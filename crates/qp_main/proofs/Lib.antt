@@ -1,4 +1,5 @@
 pub mod DueLemmas
+pub mod GivenLemmas
 pub mod StopLemmas
 pub mod ReadingLemmas
 pub mod ReportingLemmas

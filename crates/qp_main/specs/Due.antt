@@ -1,5 +1,5 @@
 -- What is due for words and bytes: a status, and the text to be written.
-use Rattle.std.specs.Prelude.{◌≡◌, ℕ, Bool, true, false, List, nat_le, ◌++◌, length, if◌then◌else◌, Option, Some, None, Result, Ok, Err, codes, map, Contains}
+use Rattle.std.specs.Prelude.{◌≡◌, ℕ, Bool, true, false, List, nat_le, ◌++◌, ◌≤◌, IsTrue, length, if◌then◌else◌, Option, Some, None, Result, Ok, Err, codes, map, Contains}
 use Rattle.std.specs.List.{list_all}
 use Rattle.std.specs.declared.cmp.Ordering.TheVariants.{Less}
 use Rattle.std.specs.Fmt.{decimal}
@@ -248,6 +248,18 @@ MakesInput _ = ⊥
 abbrev pub IsMade : Option Invocation → Type 0
 IsMade None = ⊥
 IsMade (Some invocation) = MakesInput invocation.verb
+
+-- these words have an input read
+abbrev pub ReadsInput : Option Invocation → Type 0
+ReadsInput None = ⊥
+ReadsInput (Some invocation) = MakesInput invocation.verb → ⊥
+
+-- Of the bytes that a source gave in this call, which are all up to the end of input where that is to be read and isn't too long.
+pub record GaveFor (i : Option Invocation) (before after : List ℕ) (ended : Bool) (holds : Option (List ℕ) → Type 0) : Type 0 where
+  pub bytes : List ℕ
+  pub gave : after ≡ before ++ bytes
+  pub whole : ReadsInput i → length bytes ≤ input_limit → IsTrue ended
+  pub holds : holds (Some bytes)
 
 -- The run of a load ends so: it reads nothing, and its text says a job.
 abbrev pub EndsLoad : Status → Type 0

@@ -25,7 +25,7 @@ pub use Rattle.trie_write.specs.Entries.{entries_of_items}
 pub use Rattle.trie_size.specs.Sizes.{IsSizeOf}
 pub use Rattle.job_commands.specs.Histories.{IsZone}
 pub use Rattle.zones_threads.specs.Sites.{IsSaid}
-pub use Rattle.qp_main.specs.Due.{Answers, Checks, CutShort, Due, DueUnder, Dumps, EndsLoad, FedAnswers, IsAnswerDue, IsMade, IsUnwritten}
+pub use Rattle.qp_main.specs.Due.{Answers, Checks, CutShort, Due, DueUnder, Dumps, EndsLoad, FedAnswers, GaveFor, IsAnswerDue, IsMade, IsUnwritten}
 pub use Rattle.qp_main.specs.Due.{IsWritten, MayBeShort, RefusesScript, Sized, Sizes, Written, ZonesAnswers, input_of}
 pub use Rattle.qp_main.specs.Due.{is_streamed, list_kind_text, refusal_text, script_kind_text, streams, zone_kind_text}
 pub use Rattle.qp_main.specs.Invocations.{DueFor, invocation_in}

@@ -1,7 +1,7 @@
 //! The program over any source and sink.
 ghost use Rattle.std.specs.Prelude.{◌≡◌, ◌<◌, ◌≤◌, ◌+◌, ◌^◌, ◌++◌, ◌∷◌, [], ℕ, List, length, IfOk, IfErr, OnOk, codes};
 ghost use Rattle.std.specs.Prelude.{Ok, Err, false, Option, Result, IfSome, MatchOption, IsSome, Some, None};
-ghost use Rattle.qp_main.specs.Prelude.{Due, DueFor, Consumes, zone_said, job_of, made_origin, Rose, Grows, GrowsByFront};
+ghost use Rattle.qp_main.specs.Prelude.{Due, DueFor, GaveFor, Consumes, zone_said, job_of, made_origin, Rose, Grows, GrowsByFront};
 ghost use Rattle.qp_main.specs.Prelude.{load_view, IsUnder, Make, invocation_in, invocation_view, verb_view, IsStop, Answers, Checks, CutShort};
 ghost use Rattle.qp_main.specs.Prelude.{DueUnder, EndsLoad, IsAnswerDue, IsMade, IsUnwritten, IsWritten, MayBeShort, Written, input_of, is_streamed, streams};
 
@@ -139,12 +139,18 @@ fn serve<R: Threads + Wait + Sync, S: Source, K: Sink, G: Gate>(
     ensures written { IsWritten result → Written (DueFor invocation.now (S.left source.old)) (K.held sink.old) (K.held sink.new) result }
     ensures cut_short { MayBeShort (is_streamed (verb_view invocation.now.verb)) result
         → CutShort (DueFor invocation.now (S.left source.old)) (K.held sink.old) (K.held sink.new) }
+    ensures given { IsWritten result → GaveFor (Some (invocation_view invocation.now)) (S.given source.old) (S.given source.new) (S.ended source.new)
+        (λ left. Written (DueFor invocation.now left) (K.held sink.old) (K.held sink.new) result) }
+    ensures given_short { MayBeShort (is_streamed (verb_view invocation.now.verb)) result → (K.held sink.new ≡ K.held sink.old → ⊥)
+        → GaveFor (Some (invocation_view invocation.now)) (S.given source.old) (S.given source.new) (S.ended source.new)
+        (λ left. CutShort (DueFor invocation.now left) (K.held sink.old) (K.held sink.new)) }
     ensures sink_fault { result ≡ Status.SinkFault → Rose (K.faults sink.old) (K.faults sink.new) }
     ensures quiet_sink { (result ≡ Status.SinkFault → ⊥) → K.faults sink.new ≡ K.faults sink.old }
     ensures source_fault { result ≡ Status.SourceFault → Rose (S.faults source.old) (S.faults source.new) }
     ensures quiet_source { (result ≡ Status.SourceFault → ⊥) → S.faults source.new ≡ S.faults source.old }
     ensures unwritten { IsUnwritten (is_streamed (verb_view invocation.now.verb)) result → K.held sink.new ≡ K.held sink.old }
-    ensures taken { result ≡ Status.TooLong → (bytes : List ℕ) × Consumes (S.left source.old) (S.left source.new) bytes × (length bytes ≡ 16777217) }
+    ensures taken { result ≡ Status.TooLong → (bytes : List ℕ) × Consumes (S.left source.old) (S.left source.new) bytes
+        × (S.given source.new ≡ S.given source.old ++ bytes) × (length bytes ≡ 16777217) }
     ensures words { result ≡ Status.WordsRefused → ⊥ }
 {
     let bytes = match read_all(alloc, source, INPUT_LIMIT) {
@@ -171,12 +177,18 @@ fn serve_invocation<R: Threads + Wait + Sync, S: Source, K: Sink, G: Gate>(
     ensures written { IsWritten result → Written (DueFor invocation.now (S.left source.old)) (K.held sink.old) (K.held sink.new) result }
     ensures cut_short { MayBeShort (is_streamed (verb_view invocation.now.verb)) result
         → CutShort (DueFor invocation.now (S.left source.old)) (K.held sink.old) (K.held sink.new) }
+    ensures given { IsWritten result → GaveFor (Some (invocation_view invocation.now)) (S.given source.old) (S.given source.new) (S.ended source.new)
+        (λ left. Written (DueFor invocation.now left) (K.held sink.old) (K.held sink.new) result) }
+    ensures given_short { MayBeShort (is_streamed (verb_view invocation.now.verb)) result → (K.held sink.new ≡ K.held sink.old → ⊥)
+        → GaveFor (Some (invocation_view invocation.now)) (S.given source.old) (S.given source.new) (S.ended source.new)
+        (λ left. CutShort (DueFor invocation.now left) (K.held sink.old) (K.held sink.new)) }
     ensures sink_fault { result ≡ Status.SinkFault → Rose (K.faults sink.old) (K.faults sink.new) }
     ensures quiet_sink { (result ≡ Status.SinkFault → ⊥) → K.faults sink.new ≡ K.faults sink.old }
     ensures source_fault { result ≡ Status.SourceFault → Rose (S.faults source.old) (S.faults source.new) }
     ensures quiet_source { (result ≡ Status.SourceFault → ⊥) → S.faults source.new ≡ S.faults source.old }
     ensures unwritten { IsUnwritten (is_streamed (verb_view invocation.now.verb)) result → K.held sink.new ≡ K.held sink.old }
-    ensures taken { result ≡ Status.TooLong → (bytes : List ℕ) × Consumes (S.left source.old) (S.left source.new) bytes × (length bytes ≡ 16777217) }
+    ensures taken { result ≡ Status.TooLong → (bytes : List ℕ) × Consumes (S.left source.old) (S.left source.new) bytes
+        × (S.given source.new ≡ S.given source.old ++ bytes) × (length bytes ≡ 16777217) }
     ensures words { result ≡ Status.WordsRefused → ⊥ }
     ensures made { IsMade (Some (invocation_view invocation.now)) → source.new ≡ source.old }
     ensures load { IsMade (Some (invocation_view invocation.now)) → EndsLoad result }
@@ -204,8 +216,11 @@ pub fn run<R: Threads + Wait + Sync, S: Source, K: Sink, G: Gate>(
     sink: &mut K,
     gate: &G,
 ) -> Status
-    // The answers of committed versions: what is written whole is due for the words and the bytes.
+    // The answers of committed versions: what is written whole is due for the words and the bytes that the source tells beforehand; and for those
+    // that it gave in this call, which are all up to its end, whether or not it tells any.
     ensures written { IsWritten result → Written (Due (invocation_in words.now) (S.left source.old)) (K.held sink.old) (K.held sink.new) result }
+    ensures given { IsWritten result → GaveFor (invocation_in words.now) (S.given source.old) (S.given source.new) (S.ended source.new)
+        (λ left. Written (Due (invocation_in words.now) left) (K.held sink.old) (K.held sink.new) result) }
 
     // The sink failed, and has a prefix of what was due; so it has where memory ran out under a dump, which is written while it is
     // made. Under any status but the sink's no call on it failed.
@@ -213,6 +228,9 @@ pub fn run<R: Threads + Wait + Sync, S: Source, K: Sink, G: Gate>(
     ensures quiet_sink { (result ≡ Status.SinkFault → ⊥) → K.faults sink.new ≡ K.faults sink.old }
     ensures cut_short { MayBeShort (streams (invocation_in words.now)) result
         → CutShort (Due (invocation_in words.now) (S.left source.old)) (K.held sink.old) (K.held sink.new) }
+    ensures given_short { MayBeShort (streams (invocation_in words.now)) result → (K.held sink.new ≡ K.held sink.old → ⊥)
+        → GaveFor (invocation_in words.now) (S.given source.old) (S.given source.new) (S.ended source.new)
+        (λ left. CutShort (Due (invocation_in words.now) left) (K.held sink.old) (K.held sink.new)) }
 
     // The source failed, or memory ran out, but not under a dump: nothing was written. Under any status but the source's no call on
     // it failed.
@@ -226,7 +244,8 @@ pub fn run<R: Threads + Wait + Sync, S: Source, K: Sink, G: Gate>(
     ensures words { result ≡ Status.WordsRefused → invocation_in words.now ≡ None }
     ensures made { IsMade (invocation_in words.now) → source.new ≡ source.old }
     ensures load { IsMade (invocation_in words.now) → EndsLoad result }
-    ensures taken { result ≡ Status.TooLong → (bytes : List ℕ) × Consumes (S.left source.old) (S.left source.new) bytes × (length bytes ≡ 16777217) }
+    ensures taken { result ≡ Status.TooLong → (bytes : List ℕ) × Consumes (S.left source.old) (S.left source.new) bytes
+        × (S.given source.new ≡ S.given source.old ++ bytes) × (length bytes ≡ 16777217) }
 {
     match invocation_of(alloc, words) {
         Ok(Some(invocation)) => serve_invocation(rt, alloc, &invocation, source, sink, gate),

@@ -1,5 +1,6 @@
 //! Text in memory as a sink.
-ghost use Rattle.outer_io.specs.Bytes.{Holds};
+ghost use Rattle.outer_io.specs.Bytes.{held_of};
+ghost use Rattle.std.specs.Prelude.{Some};
 
 use outer_io::{Failed, Sink};
 
@@ -12,7 +13,7 @@ pub struct TextSink {
 }
 
 impl Sink for TextSink {
-    ghost held = { λ s. Holds s.text.items };
+    ghost held = { λ s. held_of s.text.items (Some s.text.items) };
 
     ghost faults = { λ s. s.faults };
 

@@ -1,21 +1,22 @@
-use Rattle.std.proofs.Common.{rules, ◌≡◌, ℕ, List, Some, length, codes, subst, sym}
+use Rattle.std.proofs.Common.{rules, ◌≡◌, ℕ, List, [], ◌++◌, Option, Some, length, codes, subst, sym, append-nil, refl}
 use Rattle.std.specs.Io.KnownBytes.{Consumes}
 use Rattle.command_line.specs.Views.{invocation_view}
 use Rattle.qp_main.specs.declared.status.Status.TheVariants as status
-use Rattle.qp_main.specs.Due.{Due, DueInput, IsWritten, is_streamed}
+use Rattle.qp_main.specs.Due.{CutShort, Due, DueInput, IsWritten, Written, is_streamed}
 use Rattle.qp_main.specs.declared.status.Status.{Status}
 use Rattle.qp_main.proofs.DueLemmas.{IsAnswer, cut_as, given_due, nothing_yet, short_is, some_words, source_due, too_long, written_answers, written_as}
+use Rattle.qp_main.proofs.GivenLemmas.{all_due, all_too_long, given_too_long}
 use Rattle.qp_main.proofs.program.serve.Goals as goal
 
 pub returns-in-Err-TooLong-clause-cut_short : goal.returns-in-Err-TooLong-clause-cut_short
 returns-in-Err-TooLong-clause-cut_short g c = λ short.
     let i = invocation_view c.args.invocation.now in
     let left = g.S.Source.left c.args.source.now in
-    let taken : (bytes : List ℕ) × Consumes (g.S.Source.left c.args.source.now) (g.S.Source.left c.read_all.new.source) bytes × (length bytes ≡ 16777217) = search rules in
+    let taken : (bytes : List ℕ) × Consumes (g.S.Source.left c.args.source.now) (g.S.Source.left c.read_all.new.source) bytes × (g.S.Source.given c.read_all.new.source ≡ g.S.Source.given c.args.source.now ++ bytes) × (length bytes ≡ 16777217) = search rules in
     record {
       status = status.TooLong;
       text = codes "input over 16777216 bytes\n";
-      is_due = given_due i left status.TooLong (codes "input over 16777216 bytes\n") (c.requires left) (too_long i left (g.S.Source.left c.read_all.new.source) taken.0 taken.1 taken.2);
+      is_due = given_due i left status.TooLong (codes "input over 16777216 bytes\n") (c.requires left) (too_long i left (g.S.Source.left c.read_all.new.source) taken.0 taken.1 taken.3);
       grew = search (rules, c.write_due.ensures.front (short_is (is_streamed i.verb) c.write_due.result short c.write_due.ensures.only.1));
     }
 
@@ -23,12 +24,12 @@ pub returns-in-Err-TooLong-clause-written : goal.returns-in-Err-TooLong-clause-w
 returns-in-Err-TooLong-clause-written g c = λ w.
     let i = invocation_view c.args.invocation.now in
     let left = g.S.Source.left c.args.source.now in
-    let taken : (bytes : List ℕ) × Consumes (g.S.Source.left c.args.source.now) (g.S.Source.left c.read_all.new.source) bytes × (length bytes ≡ 16777217) = search rules in
+    let taken : (bytes : List ℕ) × Consumes (g.S.Source.left c.args.source.now) (g.S.Source.left c.read_all.new.source) bytes × (g.S.Source.given c.read_all.new.source ≡ g.S.Source.given c.args.source.now ++ bytes) × (length bytes ≡ 16777217) = search rules in
     let whole = c.write_due.ensures.whole w in
     record {
       text = codes "input over 16777216 bytes\n";
       is_due = subst (λ (s : Status). Due (Some (invocation_view c.args.invocation.now)) (g.S.Source.left c.args.source.now) s (codes "input over 16777216 bytes\n")) (sym whole.0)
-          (given_due i left status.TooLong (codes "input over 16777216 bytes\n") (c.requires left) (too_long i left (g.S.Source.left c.read_all.new.source) taken.0 taken.1 taken.2));
+          (given_due i left status.TooLong (codes "input over 16777216 bytes\n") (c.requires left) (too_long i left (g.S.Source.left c.read_all.new.source) taken.0 taken.1 taken.3));
       grew = search (rules, whole.1);
     }
 
@@ -61,3 +62,49 @@ pub returns-clause-words : goal.returns-clause-words
 returns-clause-words g c = λ e.
     let i = invocation_view c.args.invocation.now in
     subst IsAnswer e (written_answers i.verb i.chunks i.origin c.in-Ok.bytes.items _ _ c.serve_input.result c.serve_input.ensures.written (subst IsWritten (sym e) tt))
+
+-- ---- of the bytes that the source gave
+
+pub returns-in-Err-TooLong-clause-given : goal.returns-in-Err-TooLong-clause-given
+returns-in-Err-TooLong-clause-given g c = λ w.
+    let i = invocation_view c.args.invocation.now in
+    let taken : (bytes : List ℕ) × Consumes (g.S.Source.left c.args.source.now) (g.S.Source.left c.read_all.new.source) bytes × (g.S.Source.given c.read_all.new.source ≡ g.S.Source.given c.args.source.now ++ bytes) × (length bytes ≡ 16777217) = search rules in
+    let whole = c.write_due.ensures.whole w in
+    given_too_long i _ _ _ taken.0 (λ left. Written (Due (Some i) left) _ _ c.write_due.result) taken.2 taken.3 (record {
+      text = codes "input over 16777216 bytes\n";
+      is_due = subst (λ (s : Status). Due (Some i) (Some taken.0) s (codes "input over 16777216 bytes\n")) (sym whole.0) (all_too_long i taken.0 (c.requires (Some taken.0)) taken.3);
+      grew = search (rules, whole.1);
+    })
+
+pub returns-in-Err-TooLong-clause-given_short : goal.returns-in-Err-TooLong-clause-given_short
+returns-in-Err-TooLong-clause-given_short g c = λ short some.
+    let i = invocation_view c.args.invocation.now in
+    let taken : (bytes : List ℕ) × Consumes (g.S.Source.left c.args.source.now) (g.S.Source.left c.read_all.new.source) bytes × (g.S.Source.given c.read_all.new.source ≡ g.S.Source.given c.args.source.now ++ bytes) × (length bytes ≡ 16777217) = search rules in
+    given_too_long i _ _ _ taken.0 (λ left. CutShort (Due (Some i) left) _ _) taken.2 taken.3 (record {
+      status = status.TooLong;
+      text = codes "input over 16777216 bytes\n";
+      is_due = all_too_long i taken.0 (c.requires (Some taken.0)) taken.3;
+      grew = search (rules, c.write_due.ensures.front (short_is (is_streamed i.verb) c.write_due.result short c.write_due.ensures.only.1));
+    })
+
+pub returns-clause-given : goal.returns-clause-given
+returns-clause-given g c = λ w.
+    let i = invocation_view c.args.invocation.now in
+    let bytes = c.in-Ok.bytes.items in
+    record {
+      bytes = bytes;
+      gave = search rules;
+      whole = λ reads within. search rules;
+      holds = written_as (DueInput i.verb i.chunks i.origin bytes) (Due (Some i) (Some bytes)) _ _ c.serve_input.result (all_due i bytes (c.requires (Some bytes)) (search rules)) (c.serve_input.ensures.written w);
+    }
+
+pub returns-clause-given_short : goal.returns-clause-given_short
+returns-clause-given_short g c = λ short some.
+    let i = invocation_view c.args.invocation.now in
+    let bytes = c.in-Ok.bytes.items in
+    record {
+      bytes = bytes;
+      gave = search rules;
+      whole = λ reads within. search rules;
+      holds = cut_as (DueInput i.verb i.chunks i.origin bytes) (Due (Some i) (Some bytes)) _ _ (all_due i bytes (c.requires (Some bytes)) (search rules)) (c.serve_input.ensures.cut_short short);
+    }
