@@ -1,11 +1,13 @@
 -- Scripts as the definitions see them.
-use Rattle.std.specs.Prelude.{◌≡◌, ℕ, Bool, true, false, if◌then◌else◌, List, ◌∷◌, map, drop, Some, None, Result, Ok, Err}
+use Rattle.std.specs.Prelude.{◌≡◌, ◌≢◌, ℕ, Bool, true, false, if◌then◌else◌, List, ◌∷◌, map, drop, Some, None, Result, Ok, Err}
 use Rattle.std.specs.Option.{option_map}
 use Rattle.zone_model.specs.Names.{Name}
 use Rattle.zone_model.specs.Refusals.{Refused, ◌>>=◌}
 use Rattle.zone_model.specs.Lines.{lines_of}
+use Rattle.zone_model.specs.declared.ZoneKind.TheVariants.{Memory}
 use Rattle.zone_text.specs.Places.{first_line}
 use Rattle.zone_text.specs.Tokens.{token_view}
+use Rattle.zone_text.specs.declared.refusal.ZoneRefusal.{ZoneRefusal}
 use Rattle.zone_text.specs.declared.single_lines.LexedLine.{LexedLine}
 use Rattle.job_model.specs.Arguments.{at_line}
 use Rattle.job_model.specs.Jobs as jobs
@@ -62,6 +64,11 @@ ScriptReads result new wanted = Says result (λ r. new) wanted
 abbrev pub Passes : Result (Unit {0}) JobRefusal → Bool → ℕ → ScriptKind → Type 0
 Passes (Ok r) test line kind = test ≡ true
 Passes (Err refusal) test line kind = (test ≡ false) × (refusal ≡ stops.Refused line kind)
+
+-- a line whose tokens were refused is no command, but where memory was wanting for them
+abbrev pub IsNoCommand : ZoneRefusal → ℕ → JobRefusal → Type 0
+IsNoCommand e line stops.Memory = e.kind ≡ Memory
+IsNoCommand e line (stops.Refused n kind) = (e.kind ≢ Memory) × (n ≡ line) × (kind ≡ BadCommand)
 
 -- a line was cut into tokens, and the others begin at a place; or it is refused
 abbrev pub LineReads : Result LexedLine JobRefusal → List ℕ → ℕ → ℕ → Type 0
