@@ -1,5 +1,5 @@
 -- Scripts as the definitions see them.
-use Rattle.std.specs.Prelude.{◌≡◌, ◌≢◌, ℕ, Bool, true, false, if◌then◌else◌, List, ◌∷◌, map, drop, Some, None, Result, Ok, Err}
+use Rattle.std.specs.Prelude.{◌≡◌, ◌≢◌, ◌≤◌, ℕ, Bool, true, false, if◌then◌else◌, List, ◌∷◌, length, map, drop, Some, None, Result, Ok, Err}
 use Rattle.std.specs.Option.{option_map}
 use Rattle.zone_model.specs.Names.{Name}
 use Rattle.zone_model.specs.Refusals.{Refused, ◌>>=◌}
@@ -19,6 +19,8 @@ use Rattle.job_model.specs.declared.ScriptKind.{ScriptKind}
 use Rattle.job_model.specs.declared.ScriptKind.TheVariants.{BadCommand}
 use Rattle.job_script.specs.Views.{command_view, workers_view}
 use Rattle.zone_change.specs.Views.{operation_view, prerequisite_view}
+use Rattle.job_script.specs.declared.phrases.Phrase.{Phrase}
+use Rattle.job_script.specs.declared.phrases.Phrase.TheVariants as phrase
 use Rattle.job_script.specs.declared.script.Script.{Script}
 use Rattle.job_script.specs.declared.script.Unfinished.{Unfinished}
 use Rattle.job_script.specs.declared.refusal.JobRefusal.{JobRefusal}
@@ -59,6 +61,19 @@ Says (Err (stops.Refused line kind)) view wanted = wanted ≡ Err (record { line
 -- a script has come as far as is wanted
 abbrev pub ScriptReads : {R S : Type 0} → Result R JobRefusal → S → Result S (Refused ScriptKind) → Type 0
 ScriptReads result new wanted = Says result (λ r. new) wanted
+
+-- it isn't told as want of memory
+abbrev pub IsTold : {R : Type 0} → Result R JobRefusal → Type 0
+IsTold (Ok r) = Unit {0}
+IsTold (Err stops.Memory) = ⊥
+IsTold (Err (stops.Refused line kind)) = Unit {0}
+
+-- A block has as many prerequisites, or operations, as it may have, and the line says one more.
+abbrev pub IsOneTooMany : Unfinished → Phrase → Type 0
+IsOneTooMany block (phrase.Needs wanted owner rtype) = jobs.need_limit ≤ length block.needs.items
+IsOneTooMany block (phrase.Adds owner ttl rtype rest) = jobs.operation_limit ≤ length block.operations.items
+IsOneTooMany block (phrase.Deletes owner rest) = jobs.operation_limit ≤ length block.operations.items
+IsOneTooMany block _ = ⊥
 
 -- a test lets a line pass, or the line is refused
 abbrev pub Passes : Result (Unit {0}) JobRefusal → Bool → ℕ → ScriptKind → Type 0

@@ -1,7 +1,7 @@
 //! Lines inside a block.
 ghost use Rattle.std.specs.Prelude.{◌≡◌, ◌<◌, ◌≤◌, ◌+◌, ◌∷◌, ◌++◌, [], ℕ, List, length, map, Some, None, Option, Ok, Err, Result, IfSome};
 ghost use Rattle.job_script.specs.Prelude.{option_map, operation_said, prerequisite_of, IsPlaced, token_view, phrase_view, PhrasePlaced};
-ghost use Rattle.job_script.specs.Prelude.{unfinished_view, script_view, ScriptReads, prerequisite_view};
+ghost use Rattle.job_script.specs.Prelude.{unfinished_view, script_view, ScriptReads, prerequisite_view, IsOneTooMany, IsTold};
 ghost use Rattle.job_model.specs.Jobs as jobs;
 
 use crate::changes::{operation_of, prerequisite_of};
@@ -25,6 +25,7 @@ pub fn inside(
     ensures { ScriptReads result (script_view script.new)
         (jobs.inside line.entry.origin.now line.entry.number (unfinished_view block)
         (phrase_view line.entry.origin.now line.entry.bytes.now phrase.now) (script_view script.old)) }
+    ensures told { IsOneTooMany block phrase.now → IsTold result }
 {
     match phrase {
         Phrase::Worker => Err(refused(block.start, ScriptKind::OpenBlock)),
@@ -59,6 +60,7 @@ fn need(
     ensures { ScriptReads result (script_view script.new) (jobs.needed_first line.entry.number (unfinished_view block) (script_view script.old)
         (prerequisite_of line.entry.origin.now line.entry.number wanted (token_view line.entry.bytes.now owner)
         (option_map (token_view line.entry.bytes.now) rtype))) }
+    ensures told { jobs.need_limit ≤ length block.needs.items → IsTold result }
 {
     if !block.operations.is_empty() {
         return Err(refused(line.number, ScriptKind::BadCommand));

@@ -1,11 +1,16 @@
 -- What the readers of parts give.
-use Rattle.std.specs.Prelude.{◌≡◌, ℕ, ◌+◌, ◌<◌, ◌≤◌, true, List, length, take, drop, Result, Ok, Err}
+use Rattle.std.specs.Prelude.{◌≡◌, ◌≢◌, ℕ, ◌+◌, ◌<◌, ◌≤◌, true, List, length, take, drop, Result, Ok, Err}
 use Rattle.zone_model.specs.Lines.{lines_of}
 use Rattle.zone_model.specs.MasterFile.{Zone}
+use Rattle.zone_model.specs.declared.ZoneKind.TheVariants.{Memory}
 use Rattle.zone_list.specs.Lists.{cut_from, begins_part, zones_from}
 use Rattle.zone_list.specs.declared.parts.Front.{Front}
 use Rattle.zone_text.specs.declared.refusal.ZoneRefusal.{ZoneRefusal}
 use Rattle.zone_text.specs.Views.{IsRefused}
+
+-- it isn't told as want of memory
+abbrev pub IsTold : ZoneRefusal → Type 0
+IsTold e = e.kind ≢ Memory
 
 -- a part begins at a place, or the text ends there
 abbrev pub IsAtPart : List ℕ → ℕ → Type 0

@@ -1,6 +1,6 @@
 //! The first line of a part.
-ghost use Rattle.std.specs.Prelude.{◌≡◌, ◌≤◌, ◌<◌, ◌∷◌, [], ◌^◌, length, map};
-ghost use Rattle.zone_list.specs.Prelude.{All, lines_of, first_line, IsPlaced, token_view, Reads, is_head, origin_word, head_says};
+ghost use Rattle.std.specs.Prelude.{◌≡◌, ◌≤◌, ◌<◌, ◌∷◌, [], ◌^◌, length, map, IfErr};
+ghost use Rattle.zone_list.specs.Prelude.{All, lines_of, first_line, IsPlaced, token_view, Reads, IsTold, is_head, origin_word, head_says};
 
 use dns_name::Name;
 use master_file::name_word;
@@ -21,7 +21,8 @@ pub fn is_head(line: &[u8]) -> bool
 // The origin that the tokens of a first line say, which has this number.
 fn origin_word(number: u32, bytes: &[u8], tokens: &[Token]) -> Result<Name, ZoneRefusal>
     requires { All (IsPlaced bytes.now) tokens.now }
-    ensures { Reads result (λ n. n) (origin_word number (map (token_view bytes.now) tokens.now)) }
+    ensures says { Reads result (λ n. n) (origin_word number (map (token_view bytes.now) tokens.now)) }
+    ensures told { IfErr result IsTold }
 {
     if tokens.len() != 2 {
         return Err(refuse(number, ZoneKind::BadToken));

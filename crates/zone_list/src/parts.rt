@@ -1,7 +1,7 @@
 //! Where parts begin, and what they say.
-ghost use Rattle.std.specs.Prelude.{◌≡◌, ◌≤◌, ◌<◌, ◌+◌, ◌∷◌, [], ◌^◌, true, length, IfOk};
+ghost use Rattle.std.specs.Prelude.{◌≡◌, ◌≤◌, ◌<◌, ◌+◌, ◌∷◌, [], ◌^◌, true, length, IfOk, IfErr};
 ghost use Rattle.zone_list.specs.Prelude.{list_any, same_name, lines_of, first_line, begins_part};
-ghost use Rattle.zone_list.specs.Prelude.{new_origin, part_says, Reads, IsFront, IsAtPart, ReadsPart};
+ghost use Rattle.zone_list.specs.Prelude.{new_origin, part_says, Reads, IsTold, IsFront, IsAtPart, ReadsPart};
 
 use crate::heads::{head_says, is_head};
 use dns_name::Name;
@@ -52,7 +52,8 @@ fn is_repeated(earlier: &[Zone], origin: &Name) -> bool
 
 // The origin of a part that begins at a line, if it is new and there is room for it.
 fn new_origin(number: u32, earlier: &[Zone], origin: Name) -> Result<Name, ZoneRefusal>
-    ensures { Reads result (λ n. n) (new_origin number earlier.now origin) }
+    ensures says { Reads result (λ n. n) (new_origin number earlier.now origin) }
+    ensures told { IfErr result IsTold }
 {
     if is_repeated(earlier, &origin) {
         return Err(refuse(number, ZoneKind::Repeated));
