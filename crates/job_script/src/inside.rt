@@ -22,7 +22,7 @@ pub fn inside(
 ) -> Result<(), JobRefusal>
     requires none { script.old.block ≡ None }
     requires placed { PhrasePlaced line.bytes.now phrase.now }
-    ensures { ScriptReads result (script_view script.new)
+    ensures reads { ScriptReads result (script_view script.new)
         (jobs.inside line.entry.origin.now line.entry.number (unfinished_view block)
         (phrase_view line.entry.origin.now line.entry.bytes.now phrase.now) (script_view script.old)) }
     ensures told { IsOneTooMany block phrase.now → IsTold result }
@@ -57,7 +57,7 @@ fn need(
     requires none { script.old.block ≡ None }
     requires owner { IsPlaced line.bytes.now owner }
     requires rtype { IfSome rtype (IsPlaced line.bytes.now) }
-    ensures { ScriptReads result (script_view script.new) (jobs.needed_first line.entry.number (unfinished_view block) (script_view script.old)
+    ensures reads { ScriptReads result (script_view script.new) (jobs.needed_first line.entry.number (unfinished_view block) (script_view script.old)
         (prerequisite_of line.entry.origin.now line.entry.number wanted (token_view line.entry.bytes.now owner)
         (option_map (token_view line.entry.bytes.now) rtype))) }
     ensures told { jobs.need_limit ≤ length block.needs.items → IsTold result }
