@@ -47,9 +47,9 @@ refused app words e is other h =
 -- what is told of words that clap doesn't take
 pub told : (words : List (List ℕ)) (e : Error) (r : Result (Option Invocation) AllocError) → ((kind_of e ≡ kind.OutOfMemory → ⊥) → r ≡ Ok None) → (kind_of e ≡ kind.OutOfMemory → IsErr r)
     → ((kind_of e ≡ kind.OutOfMemory → ⊥) → parsed_of words ≡ None) → IfOk r (λ i. option_map invocation_view i ≡ parsed_of words)
-told words e (Ok i) no memory f =
+told words e (Ok i) refuses memory f =
     let other : kind_of e ≡ kind.OutOfMemory → ⊥ = memory in
-    let same : ◌≡◌ {A = Result (Option Invocation) AllocError} (Ok i) (Ok None) = no other in
+    let same : ◌≡◌ {A = Result (Option Invocation) AllocError} (Ok i) (Ok None) = refuses other in
     let none : i ≡ None = cc in
     ap (option_map invocation_view) none ∙ sym (f other)
-told words e (Err x) no memory f = tt
+told words e (Err x) refuses memory f = tt
