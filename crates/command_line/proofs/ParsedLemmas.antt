@@ -48,7 +48,7 @@ refused app words e is other h =
 pub told : (words : List (List ℕ)) (e : Error) (r : Result (Option Invocation) AllocError) → ((kind_of e ≡ kind.OutOfMemory → ⊥) → r ≡ Ok None) → (kind_of e ≡ kind.OutOfMemory → IsErr r)
     → ((kind_of e ≡ kind.OutOfMemory → ⊥) → parsed_of words ≡ None) → IfOk r (λ i. option_map invocation_view i ≡ parsed_of words)
 told words e (Ok i) refuses memory f =
-    let other : kind_of e ≡ kind.OutOfMemory → ⊥ = memory in
+    let other : kind_of e ≡ kind.OutOfMemory → ⊥ = λ k. let bad : false ≡ true = memory k in absurd cc in
     let same : ◌≡◌ {A = Result (Option Invocation) AllocError} (Ok i) (Ok None) = refuses other in
     let none : i ≡ None = cc in
     ap (option_map invocation_view) none ∙ sym (f other)
