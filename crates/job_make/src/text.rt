@@ -80,8 +80,8 @@ fn push_workers(out: &mut Vec<u8>, load: &Load) -> Result<(), AllocError>
     Ok(())
 }
 
-/// The text of a load, as `run` takes it for the origin `example.`.
-pub fn make_text(alloc: Global, load: &Load) -> Result<Vec<u8>, AllocError>
+// The text of a load.
+fn load_text(alloc: Global, load: &Load) -> Result<Vec<u8>, AllocError>
     ensures text { IfOk result (λ v. v.items ≡ made_text (load_view load.now)) }
     ensures short { IfOk result (λ v. length v.items ≤ 16777216) }
     ensures job { IfOk result (λ v. (job : Job) × (job_of made_origin v.items ≡ Ok job) × (length job.workers ≡ load.now.workers)) }
@@ -92,4 +92,29 @@ pub fn make_text(alloc: Global, load: &Load) -> Result<Vec<u8>, AllocError>
     out.extend_from_slice(b"%%\n")?;
     push_workers(&mut out, load)?;
     Ok(out)
+}
+
+/// The text of a load of these numbers, as `run` takes it for the origin `example.`.
+pub fn make_text(
+    alloc: Global,
+    seed: u64,
+    names: u32,
+    turns: u32,
+    workers: u32,
+) -> Result<Vec<u8>, AllocError>
+    requires few_names { names ≤ 20000 }
+    requires few_turns { turns ≤ 10000 }
+    requires some_workers { 0 < workers }
+    requires few_workers { workers ≤ 16 }
+    ensures text { IfOk result (λ v. v.items ≡ made_text (record { seed = seed; names = names; turns = turns; workers = workers })) }
+    ensures short { IfOk result (λ v. length v.items ≤ 16777216) }
+    ensures job { IfOk result (λ v. (job : Job) × (job_of made_origin v.items ≡ Ok job) × (length job.workers ≡ workers)) }
+{
+    let load = Load {
+        seed,
+        names,
+        turns,
+        workers,
+    };
+    load_text(alloc, &load)
 }

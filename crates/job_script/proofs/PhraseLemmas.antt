@@ -1,17 +1,22 @@
 -- Tokens that lie inside the bytes, taken from the front of a list; the line that a script's refusal is of; a word alone.
-use Rattle.std.proofs.Common.{◌≡◌, ◌∙◌, ℕ, suc, ◌+◌, ◌<◌, ◌≤◌, List, [], ◌∷◌, length, drop, slice_index_or, sym, ap, subst, arith, Option, None, Result}
+use Rattle.std.proofs.Common.{◌≡◌, ◌∙◌, ℕ, suc, ◌+◌, ◌<◌, ◌≤◌, List, [], ◌∷◌, length, drop, slice_index_or, sym, ap, subst, arith, Option, None, Result, Err, length-drop}
 use Rattle.std.specs.List.{All}
 use Rattle.std.specs.Option.{option_map, option_or}
 use Rattle.zone_model.specs.Names.{Name}
-use Rattle.zone_model.specs.Tokens.{Token as Word}
+use Rattle.zone_model.specs.Tokens.{Token as Word, single_line}
 use Rattle.job_model.specs.declared.Question.{Question}
 use Rattle.job_model.specs.declared.ScriptKind.{ScriptKind}
-use Rattle.job_model.specs.Phrases.{Phrase, Asks, lone_word, phrase_of}
+use Rattle.job_model.specs.Phrases.{Phrase, Asks, lone_word, phrase_of, without_parens}
 use Rattle.job_model.specs.Questions.{asked_of}
 use Rattle.zone_model.specs.Lines.{lines_of}
 use Rattle.zone_text.specs.Tokens.{IsPlaced}
 use Rattle.zone_text.specs.declared.token.Token.{Token}
 use Rattle.zone_text.specs.Places.{first_line}
+use Rattle.zone_text.specs.Views.{Reads, line_view}
+use Rattle.zone_text.specs.declared.refusal.ZoneRefusal.{ZoneRefusal}
+use Rattle.job_script.specs.Scripts.{IsNoCommand, LineReads}
+use Rattle.job_script.specs.declared.refusal.JobRefusal.{JobRefusal}
+use Rattle.job_script.specs.declared.refusal.JobRefusal.TheVariants as stops
 use Rattle.zone_text.proofs.LineLemmas.{first_blank}
 
 pub first_placed : (bytes : List ℕ) (tokens : List Token) (t : Token) (rest : List Token) → tokens ≡ t ∷ rest → All (IsPlaced bytes) tokens → IsPlaced bytes t
@@ -34,6 +39,13 @@ has_first text some =
     let f = first_blank text some in
     let head : first_line text ≡ f.line = ap (λ (l : List (List ℕ)). slice_index_or l 0 []) f.lines in
     record { rest = f.rest; lines = f.lines ∙ ap (λ (l : List ℕ). l ∷ f.rest) (sym head) }
+
+-- a line whose tokens were refused
+pub line_refused : (bytes : List ℕ) (at line : ℕ) (e : ZoneRefusal) (r : JobRefusal) → at < length bytes → Reads (Err e) (line_view bytes) (single_line line (first_line (drop at bytes))) → IsNoCommand e line r → LineReads (Err r) bytes at line
+line_refused bytes at line e stops.Memory h g n = tt
+line_refused bytes at line e (stops.Refused k kind) h g n =
+    let first = has_first (drop at bytes) (omega (arith, length-drop at bytes)) in
+    (first.rest, first.lines, ap (λ t. without_parens t) (g n.0), n.1, n.2)
 
 -- the line that begins at a place has this number, where the first one has another
 abbrev pub IsNumbered : List ℕ → ℕ → ℕ → ℕ → Type 0

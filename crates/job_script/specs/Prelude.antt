@@ -21,7 +21,7 @@ pub use Rattle.job_script.specs.Outcomes.{cause_view, ended_view, outcome_text, 
 pub use Rattle.job_script.specs.Parts.{IsCutAt}
 pub use Rattle.job_script.specs.Phrases.{PhrasePlaced, operation_said, phrase_view}
 pub use Rattle.job_script.specs.Printed.{HasPrinted}
-pub use Rattle.job_script.specs.Scripts.{LineReads, Passes, Says, ScriptReads, ScriptSteps, first_script, script_view, unfinished_view, with_asked}
+pub use Rattle.job_script.specs.Scripts.{IsNoCommand, IsOneTooMany, IsTold, LineReads, Passes, Says, ScriptReads, ScriptSteps, first_script, script_view, unfinished_view, with_asked}
 pub use Rattle.job_script.specs.Spelled.{SaysJob}
 pub use Rattle.job_script.specs.Summaries.{AllTallied, Tallied, all_refused_lines, refused_lines, summary_text}
 pub use Rattle.job_script.specs.Views.{command_view, job_view, list_view, worker_view, workers_view}

@@ -1,11 +1,13 @@
 -- Scripts as the definitions see them.
-use Rattle.std.specs.Prelude.{◌≡◌, ℕ, Bool, true, false, if◌then◌else◌, List, ◌∷◌, map, drop, Some, None, Result, Ok, Err}
+use Rattle.std.specs.Prelude.{◌≡◌, ◌≢◌, ◌≤◌, ℕ, Bool, true, false, if◌then◌else◌, List, ◌∷◌, length, map, drop, Some, None, Result, Ok, Err}
 use Rattle.std.specs.Option.{option_map}
 use Rattle.zone_model.specs.Names.{Name}
 use Rattle.zone_model.specs.Refusals.{Refused, ◌>>=◌}
 use Rattle.zone_model.specs.Lines.{lines_of}
+use Rattle.zone_model.specs.declared.ZoneKind.TheVariants.{Memory}
 use Rattle.zone_text.specs.Places.{first_line}
 use Rattle.zone_text.specs.Tokens.{token_view}
+use Rattle.zone_text.specs.declared.refusal.ZoneRefusal.{ZoneRefusal}
 use Rattle.zone_text.specs.declared.single_lines.LexedLine.{LexedLine}
 use Rattle.job_model.specs.Arguments.{at_line}
 use Rattle.job_model.specs.Jobs as jobs
@@ -17,6 +19,8 @@ use Rattle.job_model.specs.declared.ScriptKind.{ScriptKind}
 use Rattle.job_model.specs.declared.ScriptKind.TheVariants.{BadCommand}
 use Rattle.job_script.specs.Views.{command_view, workers_view}
 use Rattle.zone_change.specs.Views.{operation_view, prerequisite_view}
+use Rattle.job_script.specs.declared.phrases.Phrase.{Phrase}
+use Rattle.job_script.specs.declared.phrases.Phrase.TheVariants as phrase
 use Rattle.job_script.specs.declared.script.Script.{Script}
 use Rattle.job_script.specs.declared.script.Unfinished.{Unfinished}
 use Rattle.job_script.specs.declared.refusal.JobRefusal.{JobRefusal}
@@ -58,10 +62,28 @@ Says (Err (stops.Refused line kind)) view wanted = wanted ≡ Err (record { line
 abbrev pub ScriptReads : {R S : Type 0} → Result R JobRefusal → S → Result S (Refused ScriptKind) → Type 0
 ScriptReads result new wanted = Says result (λ r. new) wanted
 
+-- it isn't told as want of memory
+abbrev pub IsTold : {R : Type 0} → Result R JobRefusal → Type 0
+IsTold (Ok r) = Unit {0}
+IsTold (Err stops.Memory) = ⊥
+IsTold (Err (stops.Refused line kind)) = Unit {0}
+
+-- A block has as many prerequisites, or operations, as it may have, and the line says one more.
+abbrev pub IsOneTooMany : Unfinished → Phrase → Type 0
+IsOneTooMany block (phrase.Needs wanted owner rtype) = jobs.need_limit ≤ length block.needs.items
+IsOneTooMany block (phrase.Adds owner ttl rtype rest) = jobs.operation_limit ≤ length block.operations.items
+IsOneTooMany block (phrase.Deletes owner rest) = jobs.operation_limit ≤ length block.operations.items
+IsOneTooMany block _ = ⊥
+
 -- a test lets a line pass, or the line is refused
 abbrev pub Passes : Result (Unit {0}) JobRefusal → Bool → ℕ → ScriptKind → Type 0
 Passes (Ok r) test line kind = test ≡ true
 Passes (Err refusal) test line kind = (test ≡ false) × (refusal ≡ stops.Refused line kind)
+
+-- a line whose tokens were refused is no command, but where memory was wanting for them
+abbrev pub IsNoCommand : ZoneRefusal → ℕ → JobRefusal → Type 0
+IsNoCommand e line stops.Memory = e.kind ≡ Memory
+IsNoCommand e line (stops.Refused n kind) = (e.kind ≢ Memory) × (n ≡ line) × (kind ≡ BadCommand)
 
 -- a line was cut into tokens, and the others begin at a place; or it is refused
 abbrev pub LineReads : Result LexedLine JobRefusal → List ℕ → ℕ → ℕ → Type 0

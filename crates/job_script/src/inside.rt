@@ -1,7 +1,7 @@
 //! Lines inside a block.
 ghost use Rattle.std.specs.Prelude.{◌≡◌, ◌<◌, ◌≤◌, ◌+◌, ◌∷◌, ◌++◌, [], ℕ, List, length, map, Some, None, Option, Ok, Err, Result, IfSome};
 ghost use Rattle.job_script.specs.Prelude.{option_map, operation_said, prerequisite_of, IsPlaced, token_view, phrase_view, PhrasePlaced};
-ghost use Rattle.job_script.specs.Prelude.{unfinished_view, script_view, ScriptReads, prerequisite_view};
+ghost use Rattle.job_script.specs.Prelude.{unfinished_view, script_view, ScriptReads, prerequisite_view, IsOneTooMany, IsTold};
 ghost use Rattle.job_model.specs.Jobs as jobs;
 
 use crate::changes::{operation_of, prerequisite_of};
@@ -22,9 +22,10 @@ pub fn inside(
 ) -> Result<(), JobRefusal>
     requires none { script.old.block ≡ None }
     requires placed { PhrasePlaced line.bytes.now phrase.now }
-    ensures { ScriptReads result (script_view script.new)
+    ensures reads { ScriptReads result (script_view script.new)
         (jobs.inside line.entry.origin.now line.entry.number (unfinished_view block)
         (phrase_view line.entry.origin.now line.entry.bytes.now phrase.now) (script_view script.old)) }
+    ensures told { IsOneTooMany block phrase.now → IsTold result }
 {
     match phrase {
         Phrase::Worker => Err(refused(block.start, ScriptKind::OpenBlock)),
@@ -56,9 +57,10 @@ fn need(
     requires none { script.old.block ≡ None }
     requires owner { IsPlaced line.bytes.now owner }
     requires rtype { IfSome rtype (IsPlaced line.bytes.now) }
-    ensures { ScriptReads result (script_view script.new) (jobs.needed_first line.entry.number (unfinished_view block) (script_view script.old)
+    ensures reads { ScriptReads result (script_view script.new) (jobs.needed_first line.entry.number (unfinished_view block) (script_view script.old)
         (prerequisite_of line.entry.origin.now line.entry.number wanted (token_view line.entry.bytes.now owner)
         (option_map (token_view line.entry.bytes.now) rtype))) }
+    ensures told { jobs.need_limit ≤ length block.needs.items → IsTold result }
 {
     if !block.operations.is_empty() {
         return Err(refused(line.number, ScriptKind::BadCommand));

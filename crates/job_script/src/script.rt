@@ -2,7 +2,7 @@
 ghost use Rattle.std.specs.Prelude.{◌≡◌, ◌<◌, ◌≤◌, ◌+◌, ◌^◌, ◌∷◌, ◌++◌, [], ℕ, List, length, IfOk, OnOk, map, vec_len, Some, None, Option, drop, Ok, Err, Result, false};
 ghost use Rattle.job_script.specs.Prelude.{option_map, All, AllByRecursion, Labels, InTurn, NeedsNoSnapshot, lines_of};
 ghost use Rattle.job_script.specs.Prelude.{IsPlaced, token_view, phrase_view, PhrasePlaced, first_script, unfinished_view};
-ghost use Rattle.job_script.specs.Prelude.{script_view, LineReads, ScriptReads, ScriptSteps, Says, job_view, list_view};
+ghost use Rattle.job_script.specs.Prelude.{script_view, IsNoCommand, LineReads, ScriptReads, ScriptSteps, Says, job_view, list_view};
 ghost use Rattle.job_model.specs.Jobs as jobs;
 
 use crate::commands::{Command, Job, Worker};
@@ -16,6 +16,7 @@ use job_model::{Listing, ScriptKind, Weight};
 use std::alloc::Global;
 use std::mem::replace;
 use zone_change::{Operation, Prerequisite};
+use zone_model::ZoneKind;
 use zone_text::{LexedLine, Token, ZoneRefusal, line_tokens};
 
 /// A block that has not ended, with the line of its first word.
@@ -82,6 +83,16 @@ fn take_tokens(script: &mut Script, line: Line, tokens: &[Token]) -> Result<(), 
     }
 }
 
+// A line without tokens is no command, but where memory was wanting for them.
+fn no_tokens(refusal: ZoneRefusal, line: u32) -> JobRefusal
+    ensures { IsNoCommand refusal line result }
+{
+    match refusal.kind {
+        ZoneKind::Memory => JobRefusal::Memory,
+        _ => refused(line, ScriptKind::BadCommand),
+    }
+}
+
 /// The tokens of the line that begins at a place, which lie in memory that is lent, and where the next one begins.
 pub fn read_line(
     alloc: Global,
@@ -99,8 +110,7 @@ pub fn read_line(
     match line_tokens(replace(lent, Vec::new(alloc)), bytes, at, line) {
         Ok(lexed) if lexed.parens => Err(refused(line, ScriptKind::BadCommand)),
         Ok(lexed) => Ok(lexed),
-        Err(ZoneRefusal::Memory) => Err(JobRefusal::Memory),
-        Err(ZoneRefusal::Refused { .. }) => Err(refused(line, ScriptKind::BadCommand)),
+        Err(refusal) => Err(no_tokens(refusal, line)),
     }
 }
 

@@ -21,7 +21,6 @@ use Rattle.dns_name.specs.declared.sort_key.SortKey.{SortKey}
 use Rattle.dns_name.specs.SortKeys.{KeyBelow, key_cmp}
 use Rattle.dns_name.proofs.SortKeyLemmas.{key_cmp-name}
 use Rattle.zone_text.specs.declared.refusal.ZoneRefusal.{ZoneRefusal}
-use Rattle.zone_text.specs.declared.refusal.ZoneRefusal.TheVariants as refusal
 use Rattle.zone_text.specs.Views.{Gives}
 use Rattle.master_file.specs.Owners.{Held, version_of, owned_at, placed_at, CanBeItem, IsHeld, AllHeld}
 
@@ -128,16 +127,17 @@ joins apex last key owner rtype time octets held new result below name all gives
               ∙ ap (λ (v : Version). Ok v) (sym (insert_same apex key owner entry held k all) ∙ ap version_of made);
           keeps = subst (AllHeld apex) made (held_inserted apex key owner entry held k (record { some = some_record rtype time octets (unwrap_or (entry_of owner (version_of held)) []); short = faultless owner entry e }) all);
         }
-    by_fault None e (Err refusal.Memory) g = record { gives = tt; keeps = tt }
-    by_fault None e (Err (refusal.Refused line kind)) g =
-        let bad : ◌≡◌ {A = Result Held (Refused ZoneKind)} (Ok (insert_entry key_cmp held key (owner, entry))) (Err (record { line = line; kind = kind })) = sym (ap (λ (x : Option ZoneKind). unless_fault last x (insert_entry key_cmp held key (owner, entry))) e) ∙ g in absurd cc
+    by_fault None e (Err r) g = record {
+      gives = λ told.
+          let bad : ◌≡◌ {A = Result Held (Refused ZoneKind)} (Ok (insert_entry key_cmp held key (owner, entry))) (Err (record { line = r.line; kind = r.kind })) = sym (ap (λ (x : Option ZoneKind). unless_fault last x (insert_entry key_cmp held key (owner, entry))) e) ∙ g told in absurd cc;
+      keeps = tt;
+    }
     by_fault (Some fault) e (Ok u) g =
         let bad : ◌≡◌ {A = Result Held (Refused ZoneKind)} (Err (record { line = last; kind = fault })) (Ok new) = sym (ap (λ (x : Option ZoneKind). unless_fault last x (insert_entry key_cmp held key (owner, entry))) e) ∙ g in absurd cc
-    by_fault (Some fault) e (Err refusal.Memory) g = record { gives = tt; keeps = tt }
-    by_fault (Some fault) e (Err (refusal.Refused line kind)) g = record {
-      gives =
+    by_fault (Some fault) e (Err r) g = record {
+      gives = λ told.
           ap (λ (x : Option ZoneKind). unless_fault last x (insert_entry name_cmp (version_of held) owner entry)) e
-          ∙ refused_same (record { line = last; kind = fault }) (record { line = line; kind = kind }) (sym (ap (λ (x : Option ZoneKind). unless_fault last x (insert_entry key_cmp held key (owner, entry))) e) ∙ g);
+          ∙ refused_same (record { line = last; kind = fault }) (record { line = r.line; kind = r.kind }) (sym (ap (λ (x : Option ZoneKind). unless_fault last x (insert_entry key_cmp held key (owner, entry))) e) ∙ g told);
       keeps = tt;
     }
 

@@ -10,7 +10,6 @@ use Rattle.zone_text.specs.Views.{lexed_view, Reads, Gives}
 use Rattle.master_file.specs.Zones.{ReadsNext}
 use Rattle.zone_text.specs.declared.entry_tokens.Lexed.{Lexed}
 use Rattle.zone_text.specs.declared.refusal.ZoneRefusal.{ZoneRefusal}
-use Rattle.zone_text.specs.declared.refusal.ZoneRefusal.TheVariants as refusal
 use Rattle.zone_model.specs.declared.ZoneKind.{ZoneKind}
 use Rattle.zone_model.specs.declared.ZoneKind.TheVariants.{OpenParen}
 use Rattle.zone_model.specs.Tokens.{Scan, EntryTokens, fresh, entry_from, entry_of, refused, line_tokens, begins_blank}
@@ -75,14 +74,13 @@ zone_lexed bytes apex at n r h =
     ∙ ap (λ (b : Bool). entry_from n (f.line ∷ f.rest) fresh >>= after_entry apex n b r) f.blank
     ∙ ap (λ (l : List (List ℕ)). entry_from n l fresh >>= after_entry apex n (begins_blank (drop at bytes)) r) (sym f.lines)
 
-pub lex_refused : (bytes : List ℕ) (apex : List (List ℕ)) (at n : ℕ) (old new : Reader) (e : ZoneRefusal) → at < length bytes → Reads (Err e) (lexed_view bytes) (entry_from n (lines_of (drop at bytes)) fresh) → ReadsNext bytes apex at n old new (Err e)
-lex_refused bytes apex at n old new refusal.Memory h g = tt
-lex_refused bytes apex at n old new (refusal.Refused line kind) h g = zone_lexed bytes apex at n old h ∙ ap (λ (x : Result EntryTokens (Refused ZoneKind)). x >>= after_entry apex n (begins_blank (drop at bytes)) old) g
+pub lex_refused : (bytes : List ℕ) (apex : List (List ℕ)) (at n line : ℕ) (kind : ZoneKind) (old : Reader) → at < length bytes → entry_from n (lines_of (drop at bytes)) fresh ≡ Err (record { line = line; kind = kind })
+    → zone_from apex n (lines_of (drop at bytes)) None old ≡ Err (record { line = line; kind = kind })
+lex_refused bytes apex at n line kind old h g = zone_lexed bytes apex at n old h ∙ ap (λ (x : Result EntryTokens (Refused ZoneKind)). x >>= after_entry apex n (begins_blank (drop at bytes)) old) g
 
-pub entry_refused : (bytes : List ℕ) (apex : List (List ℕ)) (at n : ℕ) (old new : Reader) (l : Lexed) (e : ZoneRefusal) → at < length bytes → entry_from n (lines_of (drop at bytes)) fresh ≡ Ok (lexed_view bytes l) → l.blank ≡ begins_blank (drop at bytes)
-    → Gives (Err e) new (entry_says apex n l.blank (map (token_view bytes) l.tokens.items) old) → ReadsNext bytes apex at n old new (Err e)
-entry_refused bytes apex at n old new l refusal.Memory h g b k = tt
-entry_refused bytes apex at n old new l (refusal.Refused line kind) h g b k =
+pub entry_refused : (bytes : List ℕ) (apex : List (List ℕ)) (at n line : ℕ) (kind : ZoneKind) (old : Reader) (l : Lexed) → at < length bytes → entry_from n (lines_of (drop at bytes)) fresh ≡ Ok (lexed_view bytes l) → l.blank ≡ begins_blank (drop at bytes)
+    → entry_says apex n l.blank (map (token_view bytes) l.tokens.items) old ≡ Err (record { line = line; kind = kind }) → zone_from apex n (lines_of (drop at bytes)) None old ≡ Err (record { line = line; kind = kind })
+entry_refused bytes apex at n line kind old l h g b k =
     zone_lexed bytes apex at n old h ∙ ap (λ (x : Result EntryTokens (Refused ZoneKind)). x >>= after_entry apex n (begins_blank (drop at bytes)) old) g
     ∙ ap (λ (x : Bool). after_entry apex n x old (lexed_view bytes l)) (sym b) ∙ ap (λ x. x >>= zone_from apex l.next_line (lines_of (drop l.next bytes)) None) k
 
@@ -102,6 +100,6 @@ zone_end bytes apex at n r h = ap (λ (l : List ℕ). zone_from apex n (lines_of
 pub no_lines_left : (bytes : List ℕ) (at : ℕ) → length bytes ≤ at → length (lines_of (drop at bytes)) ≡ 0
 no_lines_left bytes at h = ap (λ (l : List ℕ). length (lines_of l)) (drop_all at bytes h)
 
-pub ruleset zone_rules = (lex_refused, entry_refused, entry_read, entry_counted)
+pub ruleset zone_rules = (entry_read, entry_counted)
 
 pub ruleset end_rules = (zone_end, no_lines_left)

@@ -7,7 +7,7 @@ pub use Rattle.zone_model.specs.Dumps.{dump}
 pub use Rattle.zone_model.specs.Lines.{lines_of}
 pub use Rattle.zone_model.specs.MasterFile.{Reader, added, at_first, class_word, directive, entry_says, front_of, is_directive, is_time}
 pub use Rattle.zone_model.specs.MasterFile.{last_line, line_of, minimum_of, name_word, one_argument, placed, record_says}
-pub use Rattle.zone_model.specs.MasterFile.{set_origin_word, set_time_word, soa_count, time_for, time_word, type_word, zone_from, zone_of}
+pub use Rattle.zone_model.specs.MasterFile.{set_origin_word, set_time_word, soa_count, time_for, time_word, type_word, zone_at, zone_from, zone_of}
 pub use Rattle.zone_model.specs.Names.{Name, Name as Labels, name_cmp, same_name}
 pub use Rattle.zone_model.specs.Records.{Entry as Records, IsItem, item_limit, rrset_of, with_rr}
 pub use Rattle.zone_model.specs.Rows.{Directives, Row, line_text, row_text}

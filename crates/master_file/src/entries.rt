@@ -28,7 +28,7 @@ fn read_data(
     let rest = &words[front.len..];
     match rdata.read_again(alloc, front.rtype, bytes, rest, origin) {
         Ok(()) => Ok(()),
-        Err(RdataRefusal::Memory) => Err(ZoneRefusal::Memory),
+        Err(RdataRefusal::Memory) => Err(refuse(0, ZoneKind::Memory)),
         Err(RdataRefusal::BadRdata { at }) | Err(RdataRefusal::LongString { at }) => {
             Err(refuse(line_of(last, rest, at), ZoneKind::BadRdata))
         }

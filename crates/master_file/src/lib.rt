@@ -13,4 +13,4 @@ mod zones;
 
 pub use front::{name_word, time_word, type_word};
 pub use items::ZoneItems;
-pub use zones::{Zone, read_zone};
+pub use zones::{Zone, read_zone, read_zone_at};

@@ -1,7 +1,7 @@
 //! The zone that bytes say.
 ghost use Rattle.std.specs.Prelude.{◌≡◌, ◌<◌, ◌≤◌, ◌+◌, ◌-◌, [], ◌^◌, length, drop, None, Ok, Err, Result, IfOk, IsTrue, ◌↔◌};
 ghost use Rattle.master_file.specs.Prelude.{IsStrictlySortedBy, keys_of, name_cmp, lines_of, zone_of, zone_from};
-ghost use Rattle.master_file.specs.Prelude.{at_first, Reads, reader_view, ReadsAll, ReadsNext, AllHeld};
+ghost use Rattle.master_file.specs.Prelude.{at_first, Reads, zone_at, reader_view, ReadsAll, ReadsNext, AllHeld};
 
 use crate::entries::read_entry;
 use crate::items::ZoneItems;
@@ -45,11 +45,11 @@ fn read_next(
 ) -> Result<(u32, u32), ZoneRefusal>
     requires inside { at < length bytes.now }
     requires short { length bytes.now ≤ 2 ^ 24 }
-    requires below { line ≤ at + 1 }
+    requires early { line ≤ 2 ^ 26 }
     requires held { AllHeld apex.now reader.old.owners.owned.entries }
     ensures held { IfOk result (λ _. AllHeld apex.now reader.new.owners.owned.entries) }
     ensures reads { ReadsNext bytes.now apex.now at line (reader_view reader.old) (reader_view reader.new) result }
-    ensures places { IfOk result (λ x. (at < x.0) × (x.0 ≤ length bytes.now) × (x.1 ≤ x.0 + 1)
+    ensures places { IfOk result (λ x. (at < x.0) × (x.0 ≤ length bytes.now) × (x.1 + at ≤ line + x.0)
         × (x.1 + length (lines_of (drop x.0 bytes.now)) ≡ line + length (lines_of (drop at bytes.now)))) }
 {
     let lexed = scan_entry(replace(lent, Vec::new(alloc)), bytes, at, line)?;
@@ -59,23 +59,25 @@ fn read_next(
     Ok(behind)
 }
 
-// All entries, and the number of the line behind them.
+// All entries, the first of which begins on a line of this number, and the number of the line behind them.
 #[tactic(auto, using(crate::proofs::ZoneLemmas::end_rules))]
 fn read_entries(
     alloc: Global,
     bytes: &[u8],
+    first_line: u32,
     apex: &Name,
     reader: &mut Reader,
 ) -> Result<u32, ZoneRefusal>
     requires short { length bytes.now ≤ 2 ^ 24 }
+    requires early { first_line ≤ 2 ^ 25 }
     requires held { AllHeld apex.now reader.old.owners.owned.entries }
     ensures held { IfOk result (λ _. AllHeld apex.now reader.new.owners.owned.entries) }
-    ensures zone { ReadsAll result (reader_view reader.new) (zone_from apex.now 1 (lines_of bytes.now) None (reader_view reader.old)) }
-    ensures lines { IfOk result (λ n. n ≡ length (lines_of bytes.now) + 1) }
+    ensures zone { ReadsAll result (reader_view reader.new) (zone_from apex.now first_line (lines_of bytes.now) None (reader_view reader.old)) }
+    ensures lines { IfOk result (λ n. n ≡ length (lines_of bytes.now) + first_line) }
 {
     let mut lent = Vec::new(alloc);
     let mut at = 0;
-    let mut line = 1;
+    let mut line = first_line;
     while (at as usize) < bytes.len() {
         let (next, next_line) = read_next(alloc, bytes, at, line, apex, reader, &mut lent)?;
         at = next;
@@ -132,16 +134,20 @@ impl Zone {
     }
 }
 
-/// The zone of an origin that bytes say, from the first line to the last, or the first entry from the top that is
-/// refused. Names that don't end with a dot are relative to the origin until a directive sets another.
-#[tactic(auto, unfolding(zone_model::specs::MasterFile::zone_of))]
-pub fn read_zone(alloc: Global, bytes: &[u8], origin: &Name) -> Result<Zone, ZoneRefusal>
+/// The same as `read_zone` where the first line has another number.
+pub fn read_zone_at(
+    alloc: Global,
+    bytes: &[u8],
+    first_line: u32,
+    origin: &Name,
+) -> Result<Zone, ZoneRefusal>
     requires short { length bytes.now ≤ 2 ^ 24 }
-    ensures zone { Reads result (λ z. z.pairs) (zone_of origin.now (lines_of bytes.now)) }
+    requires early { first_line ≤ 2 ^ 25 }
+    ensures zone { Reads result (λ z. z.pairs) (zone_at first_line origin.now (lines_of bytes.now)) }
     ensures origin { IfOk result (λ z. z.origin ≡ origin.now) }
 {
     let mut reader = new_reader(alloc, origin);
-    let line = read_entries(alloc, bytes, origin, &mut reader)?;
+    let line = read_entries(alloc, bytes, first_line, origin, &mut reader)?;
     let Reader { mut owners, .. } = reader;
     if !owners.has_soa(alloc, origin)? {
         return Err(refuse(line, ZoneKind::SoaRule));
@@ -151,4 +157,15 @@ pub fn read_zone(alloc: Global, bytes: &[u8], origin: &Name) -> Result<Zone, Zon
         origin: *origin,
         owned,
     })
+}
+
+/// The zone of an origin that bytes say, from the first line to the last, or the first entry from the top that is
+/// refused. Names that don't end with a dot are relative to the origin until a directive sets another.
+#[tactic(auto, unfolding(zone_model::specs::MasterFile::zone_of))]
+pub fn read_zone(alloc: Global, bytes: &[u8], origin: &Name) -> Result<Zone, ZoneRefusal>
+    requires short { length bytes.now ≤ 2 ^ 24 }
+    ensures zone { Reads result (λ z. z.pairs) (zone_of origin.now (lines_of bytes.now)) }
+    ensures origin { IfOk result (λ z. z.origin ≡ origin.now) }
+{
+    read_zone_at(alloc, bytes, 1, origin)
 }

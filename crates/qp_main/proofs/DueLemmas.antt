@@ -28,7 +28,6 @@ use Rattle.zones_script.specs.Jobs.{ZonesRefusal, zones_job_of}
 use Rattle.zones_script.specs.Jobs as of_zones
 use Rattle.zone_text.specs.Views.{Reads}
 use Rattle.zone_text.specs.declared.refusal.ZoneRefusal.{ZoneRefusal}
-use Rattle.zone_text.specs.declared.refusal.ZoneRefusal.TheVariants as refusal
 use Rattle.job_model.specs.Sizes.{cell_count}
 use Rattle.qp_multi.specs.Openings.{room_in}
 use Rattle.job_threads.specs.Dumps.{StopsOn}
@@ -181,8 +180,7 @@ job_sizes origin bytes zone workers z w s text h = sizes_as (job_of origin bytes
 -- what was refused of a zone is told, whatever is refused of the script
 pub zone_told_first : (origin : Name) (bytes : List ℕ) (lines : List (List ℕ)) (r : ZoneRefusal) (e : Refused ScriptKind) (s : Status) (text : List ℕ) → lines ≡ zone_lines bytes → Reads {R = Zone} (Err r) (λ z. z.pairs) (zone_of origin lines) → Refuses r s text
     → RefusesScript (zone_of origin (zone_lines bytes)) e s text
-zone_told_first origin bytes lines (refusal.Refused line kind) e s text same z h = subst (λ (x : Result Version (Refused ZoneKind)). RefusesScript x e s text) (sym (ap (zone_of origin) (sym same) ∙ z)) h
-zone_told_first origin bytes lines refusal.Memory e s text same z h = absurd h
+zone_told_first origin bytes lines r e s text same z h = subst (λ (x : Result Version (Refused ZoneKind)). RefusesScript x e s text) (sym (ap (zone_of origin) (sym same) ∙ z h.0)) h.1
 
 pub script_told : (origin : Name) (bytes : List ℕ) (zone : Version) (e : Refused ScriptKind) (s : Status) (text : List ℕ) → zone_of origin (zone_lines bytes) ≡ Ok zone → RefusesScript (Ok zone) e s text → RefusesScript (zone_of origin (zone_lines bytes)) e s text
 script_told origin bytes zone e s text z h = subst (λ (x : Result Version (Refused ZoneKind)). RefusesScript x e s text) (sym z) h
@@ -195,10 +193,8 @@ stop_as P Q stops.Memory f h = tt
 
 -- a zone that its reader refused, or that memory was wanting for
 pub zone_stopped : (due : Status → List ℕ → Type 0) (r : ZoneRefusal) (s : Stop) → ((status : Status) (text : List ℕ) → Refuses r status text → due status text) → ZoneStopsFor r s → IsStop due s
-zone_stopped due (refusal.Refused line kind) (stops.Refused status text) f h = f status text h
-zone_stopped due (refusal.Refused line kind) stops.Memory f h = absurd h
-zone_stopped due refusal.Memory (stops.Refused status text) f h = absurd h
-zone_stopped due refusal.Memory stops.Memory f h = tt
+zone_stopped due r (stops.Refused status text) f h = f status text h
+zone_stopped due r stops.Memory f h = tt
 
 -- a script that was refused, behind what was read of its zone
 pub script_stopped : (origin : Name) (bytes : List ℕ) (lines : List (List ℕ)) (r : Result Zone ZoneRefusal) (e : Refused ScriptKind) (s : Stop) → lines ≡ zone_lines bytes → Reads r (λ z. z.pairs) (zone_of origin lines) → ScriptStopsFor r e s → IsStop (RefusesScript (zone_of origin (zone_lines bytes)) e) s

@@ -5,19 +5,18 @@ use Rattle.zone_model.specs.Names.{Name, IsName, same_name}
 use Rattle.zone_model.specs.Lines.{lines_of}
 use Rattle.zone_model.specs.Refusals.{Refused}
 use Rattle.zone_model.specs.Tokens.{EntryTokens, Scan, Token, entry_from, entry_of, fresh, line_tokens, refused}
-use Rattle.zone_model.specs.MasterFile.{Zone, zone_of, name_word, required}
+use Rattle.zone_model.specs.MasterFile.{Zone, zone_at, name_word, required}
 use Rattle.zone_model.specs.declared.ZoneKind.{ZoneKind}
-use Rattle.zone_model.specs.declared.ZoneKind.TheVariants.{BadName, BadToken, OpenParen}
+use Rattle.zone_model.specs.declared.ZoneKind.TheVariants.{BadName, BadToken, OpenParen, Repeated, TooManyZones}
 use Rattle.dns_name.proofs.BodyLemmas.{all_push}
 use Rattle.report_laws.specs.Octets.{AllOctets}
 use Rattle.report_laws.proofs.DataLemmas.{AllTexts, bound}
-use Rattle.report_laws.proofs.ReaderLemmas.{name_said, zone_dumped}
+use Rattle.report_laws.proofs.ReaderLemmas.{name_said, zone_dumped_at}
 use Rattle.report_laws.proofs.TokenLemmas.{fresh_is, line_is}
 use Rattle.report_laws.proofs.VersionLemmas.{lines_are}
-use Rattle.zone_list.specs.Lists.{Cut, Part, begins_part, cut_from, head_says, in_part, is_head, new_origin, origin_word, part_says, refuse, with_line, zone_limit, zones_from, zones_of}
-use Rattle.zone_list.specs.Views.{Says}
-use Rattle.zone_list.specs.declared.refusal.ListKind.TheVariants as kinds
-use Rattle.zone_list.specs.declared.refusal.ListRefusal.{ListRefusal}
+use Rattle.zone_list.specs.Lists.{Cut, Part, begins_part, cut_from, head_says, is_head, new_origin, origin_word, part_says, with_line, zone_limit, zones_from, zones_of}
+use Rattle.zone_text.specs.Views.{Reads}
+use Rattle.zone_text.specs.declared.refusal.ZoneRefusal.{ZoneRefusal}
 use Rattle.qp_main.specs.Saids.{IsRead}
 
 ok_same : {A E : Type 0} (x y : A) → ◌≡◌ {A = Result A E} (Ok x) (Ok y) → x ≡ y
@@ -56,42 +55,38 @@ ended s n e h k = by_depth (eqb s.depth 0) k
     by_depth true k = subst (λ (x : EntryTokens). AllTexts x.tokens) (ok_same (entry_of s n []) e k) h
     by_depth false k = absurd cc
 
-one_line : (line : List ℕ) (e : EntryTokens) → AllOctets line → entry_from 0 (line ∷ []) fresh ≡ Ok e → AllTexts e.tokens
+one_line : (n : ℕ) (line : List ℕ) (e : EntryTokens) → AllOctets line → entry_from n (line ∷ []) fresh ≡ Ok e → AllTexts e.tokens
 unfolding entry_from
-one_line line e l k =
-    let b = bound (line_tokens 0 line fresh) _ e k in
-    by_depth b.0 ((line_is 0 line fresh b.0 l fresh_is b.1).tokens) (eqb b.0.depth 0) b.2
+one_line n line e l k =
+    let b = bound (line_tokens n line fresh) _ e k in
+    by_depth b.0 ((line_is n line fresh b.0 l fresh_is b.1).tokens) (eqb b.0.depth 0) b.2
   where
-    by_depth : (s : Scan) → AllTexts s.tokens → (b : Bool) → cond b (Ok (entry_of s (0 + 1) [])) (entry_from (0 + 1) [] s) ≡ Ok e → AllTexts e.tokens
-    by_depth s h true k = subst (λ (x : EntryTokens). AllTexts x.tokens) (ok_same (entry_of s (0 + 1) []) e k) h
-    by_depth s h false k = ended s (0 + 1) e h k
+    by_depth : (s : Scan) → AllTexts s.tokens → (b : Bool) → cond b (Ok (entry_of s (n + 1) [])) (entry_from (n + 1) [] s) ≡ Ok e → AllTexts e.tokens
+    by_depth s h true k = subst (λ (x : EntryTokens). AllTexts x.tokens) (ok_same (entry_of s (n + 1) []) e k) h
+    by_depth s h false k = ended s (n + 1) e h k
 
-origin_named : (tokens : List Token) (name : Name) → AllTexts tokens → origin_word tokens ≡ Ok name → IsName name
-origin_named [] name h k = absurd cc
-origin_named (word ∷ []) name h k = absurd cc
-origin_named (word ∷ origin ∷ []) name h k = by_word (name_word [] origin) refl k
+origin_named : (n : ℕ) (tokens : List Token) (name : Name) → AllTexts tokens → origin_word n tokens ≡ Ok name → IsName name
+origin_named n [] name h k = absurd cc
+origin_named n (word ∷ []) name h k = absurd cc
+origin_named n (word ∷ origin ∷ []) name h k = by_word (name_word [] origin) refl k
   where
-    by_word : (o : Option Name) → name_word [] origin ≡ o → required 0 BadName o ≡ Ok name → IsName name
+    by_word : (o : Option Name) → name_word [] origin ≡ o → required n BadName o ≡ Ok name → IsName name
     by_word (Some x) e k = subst IsName (ok_same x name k) (name_said [] origin x h.1.0 root_is e)
     by_word None e k = absurd cc
-origin_named (word ∷ origin ∷ other ∷ words) name h k = absurd cc
+origin_named n (word ∷ origin ∷ other ∷ words) name h k = absurd cc
 
-head_named : (line : List ℕ) (name : Name) → AllOctets line → head_says line ≡ Ok name → IsName name
+head_named : (n : ℕ) (line : List ℕ) (name : Name) → AllOctets line → head_says n line ≡ Ok name → IsName name
 unfolding head_says
-head_named line name l k =
-    let b = bound (entry_from 0 (line ∷ []) fresh) (λ entry. origin_word entry.tokens) name k in
-    origin_named b.0.tokens name (one_line line b.0 l b.1) b.2
+head_named n line name l k =
+    let b = bound (entry_from n (line ∷ []) fresh) (λ entry. origin_word n entry.tokens) name k in
+    origin_named n b.0.tokens name (one_line n line b.0 l b.1) b.2
 
 -- ---- zones
-
-in_part_ok : {A : Type 0} (n : ℕ) (r : Result A (Refused ZoneKind)) (x : A) → in_part n r ≡ Ok x → r ≡ Ok x
-in_part_ok n (Ok y) x k = ap (λ a. Ok a) (ok_same y x k)
-in_part_ok n (Err e) x k = absurd cc
 
 new_same : (n : ℕ) (earlier : List Zone) (origin name : Name) → new_origin n earlier origin ≡ Ok name → origin ≡ name
 new_same n earlier origin name k = by_tests (list_any (λ zone. same_name zone.origin origin) earlier) (ltb (length earlier) zone_limit) k
   where
-    by_tests : (b c : Bool) → cond b (refuse n kinds.Repeated) (cond c (Ok origin) (refuse n kinds.TooManyZones)) ≡ Ok name → origin ≡ name
+    by_tests : (b c : Bool) → cond b (refused n Repeated) (cond c (Ok origin) (refused n TooManyZones)) ≡ Ok name → origin ≡ name
     by_tests true c k = absurd cc
     by_tests false true k = ok_same origin name k
     by_tests false false k = absurd cc
@@ -99,11 +94,11 @@ new_same n earlier origin name k = by_tests (list_any (λ zone. same_name zone.o
 part_read : (earlier : List Zone) (part : Part) (z : Zone) → IsOfOctets part → part_says earlier part ≡ Ok z → IsRead z
 unfolding part_says
 part_read earlier part z h k =
-    let a = bound (in_part part.number (head_says part.head)) _ z k in
+    let a = bound (head_says part.number part.head) _ z k in
     let b = bound (new_origin part.number earlier a.0) _ z a.2 in
-    let c = bound (in_part part.number (zone_of b.0 part.lines)) _ z b.2 in
-    let name : IsName b.0 = subst IsName (new_same part.number earlier a.0 b.0 b.1) (head_named part.head a.0 h.0 (in_part_ok part.number (head_says part.head) a.0 a.1)) in
-    subst IsRead (ok_same (record { origin = b.0; pairs = c.0 }) z c.2) (name, zone_dumped b.0 part.lines c.0 h.1 name (in_part_ok part.number (zone_of b.0 part.lines) c.0 c.1))
+    let c = bound (zone_at (part.number + 1) b.0 part.lines) _ z b.2 in
+    let name : IsName b.0 = subst IsName (new_same part.number earlier a.0 b.0 b.1) (head_named part.number part.head a.0 h.0 a.1) in
+    subst IsRead (ok_same (record { origin = b.0; pairs = c.0 }) z c.2) (name, zone_dumped_at (part.number + 1) b.0 part.lines c.0 h.1 name c.1)
 
 zones_read : (earlier : List Zone) (parts : List Part) (zones : List Zone) → AllByRecursion IsRead earlier → AllByRecursion IsOfOctets parts → zones_from earlier parts ≡ Ok zones → AllByRecursion IsRead zones
 unfolding zones_from
@@ -116,10 +111,10 @@ list_read : (lines : List (List ℕ)) (zones : List Zone) → AllByRecursion All
 unfolding zones_of
 list_read lines zones l k = by_first (begins_part lines) k
   where
-    by_first : (b : Bool) → cond b (zones_from [] (cut_from 1 lines).parts) (refuse 1 (kinds.Zone BadToken)) ≡ Ok zones → AllByRecursion IsRead zones
+    by_first : (b : Bool) → cond b (zones_from [] (cut_from 1 lines).parts) (refused 1 BadToken) ≡ Ok zones → AllByRecursion IsRead zones
     by_first true k = zones_read [] (cut_from 1 lines).parts zones tt (cut_octets 1 lines l).1 k
     by_first false k = absurd cc
 
-pub zones_said : {R : Type 0} (view : R → List Zone) (bytes : List ℕ) → AllOctets bytes → (r : Result R ListRefusal) → Says r view (zones_of (lines_of bytes)) → IfOk r (λ v. AllByRecursion IsRead (view v))
+pub zones_said : {R : Type 0} (view : R → List Zone) (bytes : List ℕ) → AllOctets bytes → (r : Result R ZoneRefusal) → Reads r view (zones_of (lines_of bytes)) → IfOk r (λ v. AllByRecursion IsRead (view v))
 zones_said view bytes octets (Ok v) read = list_read (lines_of bytes) (view v) (lines_are bytes octets) read
 zones_said view bytes octets (Err refusal) read = tt

@@ -8,17 +8,16 @@ use Rattle.std.specs.List.{AllByRecursion, list_any}
 use Rattle.job_model.specs.Jobs.{is_cut, zone_lines, script_lines, script_start}
 use Rattle.job_model.specs.declared.ScriptKind.{ScriptKind}
 use Rattle.zone_list.specs.Lists.{zones_of}
-use Rattle.zone_list.specs.Views.{Says}
-use Rattle.zone_list.specs.declared.refusal.ListKind.{ListKind}
-use Rattle.zone_list.specs.declared.refusal.ListRefusal.{ListRefusal}
-use Rattle.zone_list.specs.declared.refusal.ListRefusal.TheVariants as list
+use Rattle.zone_model.specs.declared.ZoneKind.{ZoneKind}
+use Rattle.zone_text.specs.Views.{Reads}
+use Rattle.zone_text.specs.declared.refusal.ZoneRefusal.{ZoneRefusal}
 use Rattle.zones_model.specs.Commands.{Command, Job, origins_of}
 use Rattle.zones_script.specs.Jobs.{ZonesRefusal, ListRefused, ScriptRefused, list_refused, script_refused, zones_job_of_lines, zones_job_of}
 use Rattle.zones_script.specs.Scripts.{script_of}
 use Rattle.qp_main.specs.Due.{ZonesAnswers}
 use Rattle.qp_main.specs.Saids.{IsRead}
 use Rattle.zones_threads.specs.Sites.{IsSaid}
-use Rattle.qp_main.specs.Stops.{IsStop, ListStops, ListStopsFor, ScriptStops}
+use Rattle.qp_main.specs.Stops.{IsStop, ListStops, ScriptStops, ZoneStopsFor}
 use Rattle.qp_main.specs.declared.refusing.Stop.{Stop}
 use Rattle.qp_main.specs.declared.refusing.Stop.TheVariants as stops
 use Rattle.qp_main.specs.declared.status.Status.{Status}
@@ -29,7 +28,7 @@ use Rattle.qp_main.proofs.DueLemmas.{stop_as}
 abbrev over : List ℕ → List Zone → Result Job ZonesRefusal
 over bytes zones = script_refused (script_of (origins_of zones) (script_start bytes) (script_lines bytes)) >>= (λ ws. Ok (record { zones = zones; workers = ws }))
 
-by_zones : (bytes : List ℕ) (r : Result (List Zone) (Refused ListKind)) → zones_of (zone_lines bytes) ≡ r → zones_job_of bytes ≡ (list_refused r >>= over bytes)
+by_zones : (bytes : List ℕ) (r : Result (List Zone) (Refused ZoneKind)) → zones_of (zone_lines bytes) ≡ r → zones_job_of bytes ≡ (list_refused r >>= over bytes)
 unfolding zones_job_of_lines
 by_zones bytes r z = ap (λ x. list_refused x >>= over bytes) z
 
@@ -57,16 +56,14 @@ script_stops chunks bytes zones z s h = stop_as (ScriptStops (script_of (origins
 pub list_stops : (chunks : ℕ) (bytes : List ℕ) (s : Stop) → IsStop (ListStops (zones_of (zone_lines bytes))) s → IsStop (ZonesAnswers chunks (zones_job_of bytes)) s
 list_stops chunks bytes s h = stop_as (ListStops (zones_of (zone_lines bytes))) (ZonesAnswers chunks (zones_job_of bytes)) s (λ status text. by_read (zones_of (zone_lines bytes)) status text refl) h
   where
-    by_read : (r : Result (List Zone) (Refused ListKind)) (status : Status) (text : List ℕ) → zones_of (zone_lines bytes) ≡ r → ListStops r status text → ZonesAnswers chunks (zones_job_of bytes) status text
+    by_read : (r : Result (List Zone) (Refused ZoneKind)) (status : Status) (text : List ℕ) → zones_of (zone_lines bytes) ≡ r → ListStops r status text → ZonesAnswers chunks (zones_job_of bytes) status text
     by_read (Ok zones) status text z h = absurd h
     by_read (Err e) status text z h = answers_as chunks (zones_job_of bytes) (Err (ListRefused e)) status text (by_zones bytes (Err e) z) h
 
 -- zones that their reader refused, or that memory was wanting for
-pub list_is_refused : {R : Type 0} (view : R → List Zone) (lines wanted : List (List ℕ)) (r : ListRefusal) (s : Stop) → lines ≡ wanted → Says (Err r) view (zones_of lines) → ListStopsFor r s → IsStop (ListStops (zones_of wanted)) s
-list_is_refused view lines wanted (list.Refused line kind) (stops.Refused status text) same says h = subst (λ (x : Result (List Zone) (Refused ListKind)). ListStops x status text) (sym (ap zones_of (sym same) ∙ says)) h
-list_is_refused view lines wanted (list.Refused line kind) stops.Memory same says h = absurd h
-list_is_refused view lines wanted list.Memory (stops.Refused status text) same says h = absurd h
-list_is_refused view lines wanted list.Memory stops.Memory same says h = tt
+pub list_is_refused : {R : Type 0} (view : R → List Zone) (lines wanted : List (List ℕ)) (r : ZoneRefusal) (s : Stop) → lines ≡ wanted → Reads (Err r) view (zones_of lines) → ZoneStopsFor r s → IsStop (ListStops (zones_of wanted)) s
+list_is_refused view lines wanted r (stops.Refused status text) same says h = subst (λ (x : Result (List Zone) (Refused ZoneKind)). ListStops x status text) (sym (ap zones_of (sym same) ∙ says h.0)) h.1
+list_is_refused view lines wanted r stops.Memory same says h = tt
 
 -- ---- what is so of an input
 

@@ -11,7 +11,6 @@ use Rattle.job_model.specs.Jobs.{JobRefusal, zone_lines, script_lines, script_st
 use Rattle.job_model.specs.declared.ScriptKind.{ScriptKind}
 use Rattle.zone_text.specs.Views.{Reads}
 use Rattle.zone_text.specs.declared.refusal.ZoneRefusal.{ZoneRefusal}
-use Rattle.zone_text.specs.declared.refusal.ZoneRefusal.TheVariants as refusal
 use Rattle.qp_main.specs.Due.{Answers, Checks, Dumps, FedAnswers, RefusesScript, Sizes}
 use Rattle.qp_main.specs.Stops.{IsStop, JobStops, ZoneStops, ZoneStopsFor}
 use Rattle.qp_main.specs.declared.refusing.Stop.{Stop}
@@ -22,10 +21,8 @@ use Rattle.qp_main.proofs.DueLemmas.{stop_as}
 
 -- a zone that its reader refused, whose lines are those of some bytes
 pub zone_is_refused : (origin : Name) (lines wanted : List (List ℕ)) (r : ZoneRefusal) (s : Stop) → lines ≡ wanted → Reads {R = Zone} (Err r) (λ z. z.pairs) (zone_of origin lines) → ZoneStopsFor r s → IsStop (ZoneStops (zone_of origin wanted)) s
-zone_is_refused origin lines wanted (refusal.Refused line kind) (stops.Refused status text) same z h = subst (λ (x : Result Version (Refused ZoneKind)). ZoneStops x status text) (sym (ap (zone_of origin) (sym same) ∙ z)) h
-zone_is_refused origin lines wanted (refusal.Refused line kind) stops.Memory same z h = absurd h
-zone_is_refused origin lines wanted refusal.Memory (stops.Refused status text) same z h = absurd h
-zone_is_refused origin lines wanted refusal.Memory stops.Memory same z h = tt
+zone_is_refused origin lines wanted r (stops.Refused status text) same z h = subst (λ (x : Result Version (Refused ZoneKind)). ZoneStops x status text) (sym (ap (zone_of origin) (sym same) ∙ z h.0)) h.1
+zone_is_refused origin lines wanted r stops.Memory same z h = tt
 
 -- ---- a zone that is only read
 

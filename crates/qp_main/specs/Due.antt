@@ -1,5 +1,5 @@
 -- What is due for words and bytes: a status, and the text to be written.
-use Rattle.std.specs.Prelude.{◌≡◌, ℕ, Bool, true, false, List, nat_le, ◌++◌, ◌≤◌, IsTrue, length, if◌then◌else◌, Option, Some, None, Result, Ok, Err, codes, map, Contains}
+use Rattle.std.specs.Prelude.{◌≡◌, ◌≢◌, ℕ, Bool, true, false, List, nat_le, ◌++◌, ◌≤◌, IsTrue, length, if◌then◌else◌, Option, Some, None, Result, Ok, Err, codes, map, Contains}
 use Rattle.std.specs.List.{list_all}
 use Rattle.std.specs.declared.cmp.Ordering.TheVariants.{Less}
 use Rattle.std.specs.Fmt.{decimal}
@@ -19,15 +19,12 @@ use Rattle.job_model.specs.declared.ScriptKind.{ScriptKind}
 use Rattle.job_model.specs.declared.ScriptKind.TheVariants.{NoWorker, BadCommand, BadName, BadType, BadRdata, BadNumber, OpenBlock, NotHeld, AlreadyHeld, TooMany}
 use Rattle.job_model.specs.Loads.{made_text}
 use Rattle.need_laws.specs.Bounds.{AllFedFindRoom, AllFindRoom, IsSized, IsSizedList}
-use Rattle.zone_list.specs.declared.refusal.ListKind.{ListKind}
-use Rattle.zone_list.specs.declared.refusal.ListKind.TheVariants as list_kind
 use Rattle.zones_model.specs.Commands.{Job as ZonesJob}
 use Rattle.zones_model.specs.Outcomes.{Done, Last, ZonesLawful, command_of}
 use Rattle.zones_model.specs.Reports as several
 use Rattle.zones_script.specs.Jobs.{ZonesRefusal, zones_job_of}
 use Rattle.zones_script.specs.Jobs as of_zones
 use Rattle.zone_text.specs.declared.refusal.ZoneRefusal.{ZoneRefusal}
-use Rattle.zone_text.specs.declared.refusal.ZoneRefusal.TheVariants as refusal
 use Rattle.job_report.specs.Pieces.{pieces_text}
 use Rattle.job_report.specs.declared.pieces.Pieces.{Pieces}
 use Rattle.outer_io.specs.Bytes.{Held, Grows, GrowsByFront}
@@ -59,11 +56,9 @@ zone_kind_text zone_kind.OutsideZone = codes "OutsideZone"
 zone_kind_text zone_kind.CnameAndOther = codes "CnameAndOther"
 zone_kind_text zone_kind.SoaRule = codes "SoaRule"
 zone_kind_text zone_kind.LongEntry = codes "LongEntry"
-
-abbrev pub list_kind_text : ListKind → List ℕ
-list_kind_text (list_kind.Zone kind) = zone_kind_text kind
-list_kind_text list_kind.Repeated = codes "Repeated"
-list_kind_text list_kind.TooManyZones = codes "TooManyZones"
+zone_kind_text zone_kind.Memory = codes "Memory"
+zone_kind_text zone_kind.Repeated = codes "Repeated"
+zone_kind_text zone_kind.TooManyZones = codes "TooManyZones"
 
 abbrev pub script_kind_text : ScriptKind → List ℕ
 script_kind_text NoWorker = codes "NoWorker"
@@ -139,10 +134,9 @@ abbrev pub JobRefuses : JobRefusal → Status → List ℕ → Type 0
 JobRefuses (ZoneRefused e) = ZoneRefuses e
 JobRefuses (ScriptRefused e) = ScriptRefuses e
 
--- a zone's reader refused it
+-- a zone's reader refused it, and not for want of memory
 abbrev pub Refuses : ZoneRefusal → Status → List ℕ → Type 0
-Refuses (refusal.Refused line kind) s text = ZoneRefuses (record { line = line; kind = kind }) s text
-Refuses refusal.Memory s text = ⊥
+Refuses e s text = (e.kind ≢ zone_kind.Memory) × ZoneRefuses (record { line = e.line; kind = e.kind }) s text
 
 -- a zone that doesn't fit into the chunks is refused, by whether it does
 abbrev pub IfFits : Bool → ℕ → Version → (Status → List ℕ → Type 0) → Status → List ℕ → Type 0
@@ -174,13 +168,10 @@ abbrev pub FedAnswers : ℕ → ℕ → Result FedJob JobRefusal → Status → 
 FedAnswers workers chunks (Ok job) = IfFits (fits chunks job.zone) chunks job.zone (FedReported workers chunks job)
 FedAnswers workers chunks (Err e) = JobRefuses e
 
-abbrev pub ListRefuses : Refused ListKind → Status → List ℕ → Type 0
-ListRefuses e = Ends status.ZoneRefused (refusal_text (codes "zone") e.line (list_kind_text e.kind))
-
 -- the same of the job over several zones that bytes say
 abbrev pub ZonesAnswers : ℕ → Result ZonesJob ZonesRefusal → Status → List ℕ → Type 0
 ZonesAnswers chunks (Ok job) = IfAllFit (all_fit chunks job.zones) chunks job.zones (ZonesReported chunks job)
-ZonesAnswers chunks (Err (of_zones.ListRefused e)) = ListRefuses e
+ZonesAnswers chunks (Err (of_zones.ListRefused e)) = ZoneRefuses e
 ZonesAnswers chunks (Err (of_zones.ScriptRefused e)) = ScriptRefuses e
 
 -- the status and the text for the job that bytes say: what it needs, whether or not its zone fits into some chunks

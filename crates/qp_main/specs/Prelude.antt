@@ -27,7 +27,7 @@ pub use Rattle.job_commands.specs.Histories.{IsZone}
 pub use Rattle.zones_threads.specs.Sites.{IsSaid}
 pub use Rattle.qp_main.specs.Due.{Answers, Checks, CutShort, Due, DueUnder, Dumps, EndsLoad, FedAnswers, GaveFor, IsAnswerDue, IsMade, IsUnwritten}
 pub use Rattle.qp_main.specs.Due.{IsWritten, MayBeShort, RefusesScript, Sized, Sizes, Written, ZonesAnswers, input_of}
-pub use Rattle.qp_main.specs.Due.{is_streamed, list_kind_text, refusal_text, script_kind_text, streams, zone_kind_text}
+pub use Rattle.qp_main.specs.Due.{is_streamed, refusal_text, script_kind_text, streams, zone_kind_text}
 pub use Rattle.qp_main.specs.Invocations.{DueFor, invocation_in}
 pub use Rattle.qp_main.specs.Jobs.{fed_job_on, job_on, zones_job_on}
 pub use Rattle.qp_main.specs.Needs.{AreNeedsOf, chunks_text, needs_text}

@@ -1,34 +1,22 @@
 -- Why an input has no answer of its own.
-use Rattle.std.specs.Prelude.{ℕ, List, Result, Ok, Err}
+use Rattle.std.specs.Prelude.{◌≡◌, ℕ, List, Result, Ok, Err}
 use Rattle.zone_model.specs.Refusals.{Refused}
 use Rattle.zone_model.specs.MasterFile.{Zone}
 use Rattle.zone_model.specs.Versions.{Version}
 use Rattle.zone_model.specs.declared.ZoneKind.{ZoneKind}
 use Rattle.job_model.specs.Jobs.{JobRefusal}
-use Rattle.zone_list.specs.declared.refusal.ListKind.{ListKind}
 use Rattle.zone_text.specs.declared.refusal.ZoneRefusal.{ZoneRefusal}
-use Rattle.zone_text.specs.declared.refusal.ZoneRefusal.TheVariants as refusal
+use Rattle.zone_model.specs.declared.ZoneKind.TheVariants.{Memory}
 use Rattle.job_model.specs.declared.ScriptKind.{ScriptKind}
-use Rattle.zone_list.specs.declared.refusal.ListRefusal.{ListRefusal}
-use Rattle.zone_list.specs.declared.refusal.ListRefusal.TheVariants as list
-use Rattle.qp_main.specs.Due.{JobRefuses, ListRefuses, ScriptRefuses, ZoneRefuses}
+use Rattle.qp_main.specs.Due.{JobRefuses, Refuses, ScriptRefuses, ZoneRefuses}
 use Rattle.qp_main.specs.declared.status.Status.{Status}
 use Rattle.qp_main.specs.declared.refusing.Stop.{Stop}
 use Rattle.qp_main.specs.declared.refusing.Stop.TheVariants as stop
 
 -- A zone that its reader refused is told with its line. Memory is wanting just where the reader wanted it.
 abbrev pub ZoneStopsFor : ZoneRefusal → Stop → Type 0
-ZoneStopsFor (refusal.Refused line kind) (stop.Refused s text) = ZoneRefuses (record { line = line; kind = kind }) s text
-ZoneStopsFor (refusal.Refused line kind) stop.Memory = ⊥
-ZoneStopsFor refusal.Memory (stop.Refused s text) = ⊥
-ZoneStopsFor refusal.Memory stop.Memory = Unit {0}
-
--- the same of a list of zones
-abbrev pub ListStopsFor : ListRefusal → Stop → Type 0
-ListStopsFor (list.Refused line kind) (stop.Refused s text) = ListRefuses (record { line = line; kind = kind }) s text
-ListStopsFor (list.Refused line kind) stop.Memory = ⊥
-ListStopsFor list.Memory (stop.Refused s text) = ⊥
-ListStopsFor list.Memory stop.Memory = Unit {0}
+ZoneStopsFor e (stop.Refused s text) = Refuses e s text
+ZoneStopsFor e stop.Memory = e.kind ≡ Memory
 
 -- the same of a script's refusal, behind what was read of the zone
 abbrev pub ScriptStopsFor : Result Zone ZoneRefusal → Refused ScriptKind → Stop → Type 0
@@ -49,9 +37,9 @@ JobStops (Ok job) s text = ⊥
 JobStops (Err e) s text = JobRefuses e s text
 
 -- one of several zones is
-abbrev pub ListStops : Result (List Zone) (Refused ListKind) → Status → List ℕ → Type 0
+abbrev pub ListStops : Result (List Zone) (Refused ZoneKind) → Status → List ℕ → Type 0
 ListStops (Ok zones) s text = ⊥
-ListStops (Err e) s text = ListRefuses e s text
+ListStops (Err e) s text = ZoneRefuses e s text
 
 -- its script over several zones is
 abbrev pub ScriptStops : {W : Type 0} → Result W (Refused ScriptKind) → Status → List ℕ → Type 0

@@ -7,7 +7,7 @@ ghost use Rattle.zones_script.specs.Scripts as over_zones;
 
 use crate::reading::{job_in, list_in, zone_in, zones_in, zones_script_in};
 use crate::refusal_lines::script_refused;
-use crate::refusing::{Stop, list_stop, script_stop, zone_stop};
+use crate::refusing::{Stop, script_stop, zone_stop};
 use crate::status::Status;
 use dns_name::Name;
 use job_model::ScriptKind;
@@ -128,7 +128,7 @@ impl Input {
     {
         match zones_in(alloc, self.zone_bytes()) {
             Ok(zones) => Ok(zones),
-            Err(refusal) => Err(list_stop(refusal)),
+            Err(refusal) => Err(zone_stop(refusal)),
         }
     }
 

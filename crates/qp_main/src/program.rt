@@ -120,7 +120,7 @@ fn serve_made<R: Threads + Wait + Sync, K: Sink, G: Gate>(
     ensures unwritten { result ≡ Status.NoMemory → K.held sink.new ≡ K.held sink.old }
     ensures load { EndsLoad result }
 {
-    let Ok(bytes) = make_text(alloc, load) else {
+    let Ok(bytes) = make_text(alloc, load.seed, load.names, load.turns, load.workers) else {
         return Status::NoMemory;
     };
     serve_input(rt, alloc, invocation, bytes, sink, gate)

@@ -3,13 +3,12 @@ ghost use Rattle.std.specs.Prelude.{◌≡◌, ◌<◌, ◌≤◌, ◌+◌, ◌^
 ghost use Rattle.qp_main.specs.Prelude.{AllByRecursion, lines_of, zone_of, Reads, CanBeDumped, InTurn, NeedsNoSnapshot, list_of, script_of};
 ghost use Rattle.qp_main.specs.Prelude.{Says, job_view, list_view, AllAsked, IsName, workers_view, zones_of, AreListed, IsRead, IsSaid};
 ghost use Rattle.zones_script.specs.Scripts as over_zones;
-ghost use Rattle.zone_list.specs.Views as lists;
 
 use dns_name::Name;
 use job_script::{Command, Job, JobRefusal, read_job, read_list};
 use master_file::{Zone, read_zone};
 use std::alloc::Global;
-use zone_list::{ListRefusal, read_zones};
+use zone_list::read_zones;
 use zone_text::ZoneRefusal;
 use zones_script::{ZonesScript, read_script};
 
@@ -60,9 +59,9 @@ pub fn list_in(
 }
 
 /// The zones that octets say, each of its own origin.
-pub fn zones_in(alloc: Global, bytes: &[u8]) -> Result<Vec<Zone>, ListRefusal>
+pub fn zones_in(alloc: Global, bytes: &[u8]) -> Result<Vec<Zone>, ZoneRefusal>
     requires short { length bytes.now ≤ 2 ^ 24 }
-    ensures zones { lists.Says result (λ v. v.items) (zones_of (lines_of bytes.now)) }
+    ensures zones { Reads result (λ v. v.items) (zones_of (lines_of bytes.now)) }
     ensures listed { IfOk result (λ v. AreListed v.items) }
     ensures said { IfOk result (λ v. AllByRecursion IsRead v.items) }
 {

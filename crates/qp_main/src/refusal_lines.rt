@@ -1,13 +1,12 @@
 //! The line of a refusal.
 ghost use Rattle.std.specs.Prelude.{◌≡◌, ◌≤◌, ◌++◌, ℕ, List, IfOk, length, codes, decimal};
-ghost use Rattle.qp_main.specs.Prelude.{pieces_text, list_kind_text, zone_kind_text, script_kind_text, refusal_text};
+ghost use Rattle.qp_main.specs.Prelude.{pieces_text, zone_kind_text, script_kind_text, refusal_text};
 
 use crate::line::{Line, refusal_line};
 use job_model::ScriptKind;
 use job_report::Pieces;
 use job_script::push_pair;
 use std::alloc::{AllocError, Global};
-use zone_list::ListKind;
 use zone_model::ZoneKind;
 
 fn zone_kind_name(kind: ZoneKind) -> &'static [u8]
@@ -30,17 +29,9 @@ fn zone_kind_name(kind: ZoneKind) -> &'static [u8]
         ZoneKind::CnameAndOther => b"CnameAndOther",
         ZoneKind::SoaRule => b"SoaRule",
         ZoneKind::LongEntry => b"LongEntry",
-    }
-}
-
-fn list_kind_name(kind: ListKind) -> &'static [u8]
-    ensures text { result.now ≡ list_kind_text kind }
-    ensures short { length result.now ≤ 13 }
-{
-    match kind {
-        ListKind::Zone(kind) => zone_kind_name(kind),
-        ListKind::Repeated => b"Repeated",
-        ListKind::TooManyZones => b"TooManyZones",
+        ZoneKind::Memory => b"Memory",
+        ZoneKind::Repeated => b"Repeated",
+        ZoneKind::TooManyZones => b"TooManyZones",
     }
 }
 
@@ -62,18 +53,11 @@ fn script_kind_name(kind: ScriptKind) -> &'static [u8]
     }
 }
 
-/// The line of a zone's refusal.
+/// The line of a refusal of a zone, or of several.
 pub fn zone_refused(line: u32, kind: ZoneKind) -> Line
     ensures { result ≡ refusal_text (codes "zone") line (zone_kind_text kind) }
 {
     refusal_line(b"zone", u64::from(line), zone_kind_name(kind))
-}
-
-/// The line of a refusal of several zones.
-pub fn list_refused(line: u64, kind: ListKind) -> Line
-    ensures { result ≡ refusal_text (codes "zone") line (list_kind_text kind) }
-{
-    refusal_line(b"zone", line, list_kind_name(kind))
 }
 
 /// The line of a script's refusal.

@@ -1,14 +1,14 @@
 //! What is told of a zone or a script that is refused.
 ghost use Rattle.std.specs.Prelude.{◌≡◌};
-ghost use Rattle.qp_main.specs.Stops.{ListStopsFor, ScriptStopsFor, ZoneStopsFor};
+ghost use Rattle.qp_main.specs.Stops.{ScriptStopsFor, ZoneStopsFor};
 
 use crate::line::Line;
-use crate::refusal_lines::{list_refused, script_refused, zone_refused};
+use crate::refusal_lines::{script_refused, zone_refused};
 use crate::status::Status;
 use job_model::ScriptKind;
 use master_file::Zone;
 use std::alloc::AllocError;
-use zone_list::ListRefusal;
+use zone_model::ZoneKind;
 use zone_text::ZoneRefusal;
 
 /// Why an input has no answer of its own.
@@ -29,27 +29,16 @@ impl From<AllocError> for Stop {
     }
 }
 
-/// What is told of a zone that its reader refused. Memory is wanting only where the reader wanted it.
+/// What is told of a zone that its reader refused, or of several. Memory is wanting only where the reader wanted it.
 pub fn zone_stop(refusal: ZoneRefusal) -> Stop
     ensures { ZoneStopsFor refusal result }
 {
-    match refusal {
-        ZoneRefusal::Refused { line, kind } => {
-            Stop::Refused(Status::ZoneRefused, zone_refused(line, kind))
-        }
-        ZoneRefusal::Memory => Stop::Memory,
-    }
-}
-
-/// What is told of several zones that their reader refused.
-pub fn list_stop(refusal: ListRefusal) -> Stop
-    ensures { ListStopsFor refusal result }
-{
-    match refusal {
-        ListRefusal::Refused { line, kind } => {
-            Stop::Refused(Status::ZoneRefused, list_refused(line, kind))
-        }
-        ListRefusal::Memory => Stop::Memory,
+    match refusal.kind {
+        ZoneKind::Memory => Stop::Memory,
+        _ => Stop::Refused(
+            Status::ZoneRefused,
+            zone_refused(refusal.line, refusal.kind),
+        ),
     }
 }
 

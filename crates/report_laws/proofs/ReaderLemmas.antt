@@ -16,7 +16,7 @@ use Rattle.zone_model.specs.Versions.{Version, owned, has_soa, is_lone, soa_type
 use Rattle.zone_model.specs.Tokens.{Token, refused, line_tokens}
 use Rattle.zone_model.specs.DataWords.{most_time, is_word}
 use Rattle.zone_model.specs.Data.{data_of}
-use Rattle.zone_model.specs.MasterFile.{Reader, required, name_word, time_word, type_word, class_word, is_time, is_directive, one_argument, set_time_word, set_origin_word, directive, Front, front_of, placed, minimum_of, or_else, time_for, soa_count, entry_fault, unless_fault, placed_in, added, after_record, record_says, last_line, entry_says, Pending, goes_on, zone_from, at_first, with_soa, zone_of}
+use Rattle.zone_model.specs.MasterFile.{Reader, required, name_word, time_word, type_word, class_word, is_time, is_directive, one_argument, set_time_word, set_origin_word, directive, Front, front_of, placed, minimum_of, or_else, time_for, soa_count, entry_fault, unless_fault, placed_in, added, after_record, record_says, last_line, entry_says, Pending, goes_on, zone_from, at_first, with_soa, zone_at, zone_of}
 use Rattle.master_file.specs.Rows.{CanBeDumped}
 use Rattle.zone_model.proofs.EntryLaws.{entry_with}
 use Rattle.report_laws.specs.Octets.{AllOctets}
@@ -281,13 +281,16 @@ no_names = tt
 empty_is : (apex : Name) → IsName apex → IsReader apex (at_first apex)
 empty_is apex name = record { origin = name; set_time = tt; last_time = tt; minimum = tt; owner = tt; well_formed = record { each = tt; rising = no_names } }
 
-pub zone_dumped : (origin : Name) (lines : List (List ℕ)) (zone : Version) → AllByRecursion AllOctets lines → IsName origin → zone_of origin lines ≡ Ok zone → CanBeDumped origin zone
-unfolding zone_of
-zone_dumped origin lines zone l name e =
-    let b = bound (zone_from origin 1 lines None (at_first origin)) (with_soa origin (length lines + 1)) zone e in
-    let r = zone_lines_are origin 1 lines None (at_first origin) b.0 l tt (empty_is origin name) b.1 in
+pub zone_dumped_at : (n : ℕ) (origin : Name) (lines : List (List ℕ)) (zone : Version) → AllByRecursion AllOctets lines → IsName origin → zone_at n origin lines ≡ Ok zone → CanBeDumped origin zone
+zone_dumped_at n origin lines zone l name e =
+    let b = bound (zone_from origin n lines None (at_first origin)) (with_soa origin (length lines + n)) zone e in
+    let r = zone_lines_are origin n lines None (at_first origin) b.0 l tt (empty_is origin name) b.1 in
     by_soa b.0 r (has_soa origin b.0.version) refl b.2
   where
-    by_soa : (r : Reader) → IsReader origin r → (soa : Bool) → has_soa origin r.version ≡ soa → cond soa (Ok r.version) (refused (length lines + 1) SoaRule) ≡ Ok zone → CanBeDumped origin zone
+    by_soa : (r : Reader) → IsReader origin r → (soa : Bool) → has_soa origin r.version ≡ soa → cond soa (Ok r.version) (refused (length lines + n) SoaRule) ≡ Ok zone → CanBeDumped origin zone
     by_soa r i true s k = let is : r.version ≡ zone = cc in subst (CanBeDumped origin) is (can_be_dumped origin r.version name i.well_formed s)
     by_soa r i false s k = absurd cc
+
+pub zone_dumped : (origin : Name) (lines : List (List ℕ)) (zone : Version) → AllByRecursion AllOctets lines → IsName origin → zone_of origin lines ≡ Ok zone → CanBeDumped origin zone
+unfolding zone_of
+zone_dumped origin lines zone l name e = zone_dumped_at 1 origin lines zone l name e

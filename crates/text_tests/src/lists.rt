@@ -2,14 +2,17 @@
 //! with a text that it sees, so texts are passed to functions.
 use std::alloc::Global;
 use std::test::Fail;
-use zone_list::ListKind::{Repeated, TooManyZones, Zone as OfZone};
-use zone_list::{ListKind, ListRefusal, read_zones};
-use zone_model::ZoneKind::{BadName, BadToken, SoaRule, UnknownType};
+use zone_list::read_zones;
+use zone_model::ZoneKind;
+use zone_model::ZoneKind::{
+    BadName, BadToken, Memory, Repeated, SoaRule, TooManyZones, UnknownType,
+};
+use zone_text::{ZoneRefusal, refuse};
 
 // How many labels the origin of each zone of a text has, and how many names own records.
-fn sizes(alloc: Global, text: &[u8]) -> Result<Vec<(u8, usize)>, ListRefusal> {
+fn sizes(alloc: Global, text: &[u8]) -> Result<Vec<(u8, usize)>, ZoneRefusal> {
     if text.len() > 10_000 {
-        return Err(ListRefusal::Memory);
+        return Err(refuse(0, Memory));
     }
     let zones = read_zones(alloc, text)?;
     Ok(
@@ -21,10 +24,10 @@ fn sizes(alloc: Global, text: &[u8]) -> Result<Vec<(u8, usize)>, ListRefusal> {
 }
 
 // Why it is refused, and at which line.
-fn refusal(alloc: Global, text: &[u8]) -> Option<(u64, ListKind)> {
+fn refusal(alloc: Global, text: &[u8]) -> Option<(u32, ZoneKind)> {
     match sizes(alloc, text) {
-        Err(ListRefusal::Refused { line, kind }) => Some((line, kind)),
-        _ => None,
+        Err(refusal) => Some((refusal.line, refusal.kind)),
+        Ok(_) => None,
     }
 }
 
@@ -57,8 +60,8 @@ fn sixteen_zones_are_taken(rt: HostRuntime) -> Result<(), Fail> {
     for (last, kind) in [
         ("%zone q.\n", TooManyZones),
         ("%zone a.\n", Repeated),
-        ("%zone a..\n", OfZone(BadName)),
-        ("x\n%zone a.\n", OfZone(UnknownType)),
+        ("%zone a..\n", BadName),
+        ("x\n%zone a.\n", UnknownType),
     ] {
         let text = format!(in rt.alloc(); "{zones}{last}")?;
         assert_eq!(rt; refusal(rt.alloc(), text.as_bytes()), Some((33, kind)));
@@ -67,16 +70,12 @@ fn sixteen_zones_are_taken(rt: HostRuntime) -> Result<(), Fail> {
 }
 
 // Texts with the line of what is refused, and why.
-const REFUSED: &[(&[u8], u64, ListKind)] = &[
-    (b"; \n%zone a.\n", 1, OfZone(BadToken)),
-    (b"%ZONE a.\n", 1, OfZone(BadToken)),
-    (b"%zone \"a.\"\n", 1, OfZone(BadName)),
-    (b"%zone a.", 2, OfZone(SoaRule)),
-    (
-        b"%zone a.\n@ 1 SOA . . 1 1 1 1 1\n%zone\n",
-        3,
-        OfZone(UnknownType),
-    ),
+const REFUSED: &[(&[u8], u32, ZoneKind)] = &[
+    (b"; \n%zone a.\n", 1, BadToken),
+    (b"%ZONE a.\n", 1, BadToken),
+    (b"%zone \"a.\"\n", 1, BadName),
+    (b"%zone a.", 2, SoaRule),
+    (b"%zone a.\n@ 1 SOA . . 1 1 1 1 1\n%zone\n", 3, UnknownType),
 ];
 
 #[test]

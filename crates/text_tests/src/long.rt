@@ -33,7 +33,7 @@ fn second_name(alloc: Global, octets: usize, behind: &str) -> Result<Result<usiz
     match read_zone(alloc, text.as_bytes(), &origin) {
         Ok(zone) => Ok(Ok(second_len(&mut zone.into_items(), &mut item).ok_or("no item")?)),
         Err(
-            ZoneRefusal::Refused {
+            ZoneRefusal {
                 line,
                 kind: ZoneKind::LongEntry,
             },

@@ -6,14 +6,14 @@ use Rattle.std.proofs.lemmas.Slice.{between_to_end}
 use Rattle.zone_model.specs.Lines.{lines_of}
 use Rattle.zone_model.specs.Refusals.{Refused, ◌>>=◌}
 use Rattle.zone_model.specs.MasterFile.{Zone}
+use Rattle.zone_model.specs.declared.ZoneKind.{ZoneKind}
 use Rattle.zone_model.specs.declared.ZoneKind.TheVariants.{BadToken}
+use Rattle.zone_model.specs.Tokens.{refused}
 use Rattle.zone_text.specs.Places.{FirstLine, first_line}
-use Rattle.zone_list.specs.Lists.{is_head, Part, Cut, cut_from, begins_part, part_says, zones_from, zones_of, refuse}
-use Rattle.zone_list.specs.Views.{Says, IsFront, IsAtPart, ReadsPart}
-use Rattle.zone_list.specs.declared.refusal.ListKind.{ListKind}
-use Rattle.zone_list.specs.declared.refusal.ListKind.TheVariants as kinds
-use Rattle.zone_list.specs.declared.refusal.ListRefusal.{ListRefusal}
-use Rattle.zone_list.specs.declared.refusal.ListRefusal.TheVariants as stops
+use Rattle.zone_list.specs.Lists.{is_head, Part, Cut, cut_from, begins_part, part_says, zones_from, zones_of}
+use Rattle.zone_list.specs.Views.{IsFront, IsAtPart, ReadsPart}
+use Rattle.zone_text.specs.Views.{Reads}
+use Rattle.zone_text.specs.declared.refusal.ZoneRefusal.{ZoneRefusal}
 use Rattle.zone_list.specs.declared.parts.Front.{Front}
 use Rattle.zone_text.proofs.CutLemmas.{Begins, at_start, behind_line, line_more}
 
@@ -125,16 +125,15 @@ part_first {text} {upto} {body} {f} n begins first searched =
 -- The part is read, or refused, and so are all zones from it on.
 pub zones_more : (earlier : List Zone) (parts rest : List Part) (part : Part) (z : Zone) → parts ≡ part ∷ rest → part_says earlier part ≡ Ok z → zones_from earlier parts ≡ zones_from (earlier ++ z ∷ []) rest
 unfolding zones_from
-zones_more earlier parts rest part z e said = ap (zones_from earlier) e ∙ ap (λ (r : Result Zone (Refused ListKind)). r >>= (λ (x : Zone). zones_from (earlier ++ x ∷ []) rest)) said
+zones_more earlier parts rest part z e said = ap (zones_from earlier) e ∙ ap (λ (r : Result Zone (Refused ZoneKind)). r >>= (λ (x : Zone). zones_from (earlier ++ x ∷ []) rest)) said
 
-pub zones_refused : (earlier : List Zone) (parts rest : List Part) (part : Part) (e : Refused ListKind) → parts ≡ part ∷ rest → part_says earlier part ≡ Err e → zones_from earlier parts ≡ Err e
+pub zones_refused : (earlier : List Zone) (parts rest : List Part) (part : Part) (e : Refused ZoneKind) → parts ≡ part ∷ rest → part_says earlier part ≡ Err e → zones_from earlier parts ≡ Err e
 unfolding zones_from
-zones_refused earlier parts rest part e is said = ap (zones_from earlier) is ∙ ap (λ (r : Result Zone (Refused ListKind)). r >>= (λ (x : Zone). zones_from (earlier ++ x ∷ []) rest)) said
+zones_refused earlier parts rest part e is said = ap (zones_from earlier) is ∙ ap (λ (r : Result Zone (Refused ZoneKind)). r >>= (λ (x : Zone). zones_from (earlier ++ x ∷ []) rest)) said
 
 -- a refusal of the part is one of the text
-pub part_stops : (text : List ℕ) (n : ℕ) (earlier new : List Zone) (rest : List Part) (part : Part) (e : ListRefusal) → (cut_from n (lines_of text)).parts ≡ part ∷ rest → Says {A = Zone} (Err e) (λ (z : Zone). z) (part_says earlier part) → ReadsPart text n earlier new (Err e)
-part_stops text n earlier new rest part stops.Memory is said = tt
-part_stops text n earlier new rest part (stops.Refused line kind) is said = zones_refused earlier (cut_from n (lines_of text)).parts rest part (record { line = line; kind = kind }) is said
+pub part_stops : (text : List ℕ) (n : ℕ) (earlier new : List Zone) (rest : List Part) (part : Part) (e : ZoneRefusal) → (cut_from n (lines_of text)).parts ≡ part ∷ rest → Reads {A = Zone} (Err e) (λ (z : Zone). z) (part_says earlier part) → ReadsPart text n earlier new (Err e)
+part_stops text n earlier new rest part e is said = λ told. zones_refused earlier (cut_from n (lines_of text)).parts rest part (record { line = e.line; kind = e.kind }) is (said told)
 
 -- ---- all parts
 
@@ -144,4 +143,4 @@ zones_end text at n zones past = ap (λ (l : List ℕ). zones_from zones (cut_fr
 
 pub zones_begin : (text : List ℕ) → begins_part (lines_of text) ≡ true → zones_of (lines_of text) ≡ zones_from [] (cut_from 1 (lines_of text)).parts
 unfolding zones_of
-zones_begin text e = ap (λ (b : Bool). cond b (zones_from [] (cut_from 1 (lines_of text)).parts) (refuse 1 (kinds.Zone BadToken))) e
+zones_begin text e = ap (λ (b : Bool). cond b (zones_from [] (cut_from 1 (lines_of text)).parts) (refused 1 BadToken)) e

@@ -8,16 +8,16 @@ use Rattle.std.proofs.lemmas.List.Quantifiers.{all_pairs_push}
 use Rattle.zone_model.specs.Names.{Name, same_name}
 use Rattle.zone_model.specs.NameOrder.{same_name_equiv}
 use Rattle.zone_model.specs.Refusals.{Refused, ◌>>=◌}
-use Rattle.zone_model.specs.MasterFile.{Zone, zone_of}
-use Rattle.zone_model.specs.declared.ZoneKind.TheVariants.{BadToken}
-use Rattle.zone_list.specs.Lists.{is_head, Part, Cut, head_says, refuse, in_part, zone_limit, new_origin, part_says, zones_from, cut_from, zones_of}
+use Rattle.zone_model.specs.MasterFile.{Zone, zone_at}
+use Rattle.zone_model.specs.Tokens.{refused}
+use Rattle.zone_model.specs.declared.ZoneKind.{ZoneKind}
+use Rattle.zone_model.specs.declared.ZoneKind.TheVariants.{BadToken, Repeated, TooManyZones}
+use Rattle.zone_list.specs.Lists.{is_head, Part, Cut, head_says, zone_limit, new_origin, part_says, zones_from, cut_from, zones_of}
 use Rattle.zone_list.specs.Parts.{AreListed}
-use Rattle.zone_list.specs.declared.refusal.ListKind.{ListKind}
-use Rattle.zone_list.specs.declared.refusal.ListKind.TheVariants as kinds
 use Rattle.zone_list.proofs.CutLemmas.{line_begins}
 
 abbrev Step : Type 0 → Type 0
-Step A = Result A (Refused ListKind)
+Step A = Result A (Refused ZoneKind)
 
 -- what comes of two steps comes of the first one's value
 bound : {A B : Type 0} (r : Step A) (f : A → Step B) (y : B) → (r >>= f) ≡ Ok y → (x : A) × (r ≡ Ok x) × (f x ≡ Ok y)
@@ -33,7 +33,7 @@ new_taken : (n : ℕ) (earlier : List Zone) (word origin : Name) → new_origin 
 new_taken n earlier word origin h = by_like (list_any (λ zone. same_name zone.origin word) earlier) (nat_lt (length earlier) zone_limit) refl refl h
   where
     by_like : (like room : Bool) → list_any (λ zone. same_name zone.origin word) earlier ≡ like → nat_lt (length earlier) zone_limit ≡ room
-        → cond like (refuse {A = Name} n kinds.Repeated) (cond room (Ok word) (refuse n kinds.TooManyZones)) ≡ Ok origin → IsNew earlier origin
+        → cond like (refused {A = Name} n Repeated) (cond room (Ok word) (refused n TooManyZones)) ≡ Ok origin → IsNew earlier origin
     by_like true room e r h = absurd cc
     by_like false false e r h = absurd cc
     by_like false true e r h =
@@ -43,9 +43,9 @@ new_taken n earlier word origin h = by_like (list_any (λ zone. same_name zone.o
 said_new : (earlier : List Zone) (part : Part) (z : Zone) → part_says earlier part ≡ Ok z → IsNew earlier z.origin
 unfolding part_says
 said_new earlier part z h =
-    let word = bound (in_part part.number (head_says part.head)) _ z h in
+    let word = bound (head_says part.number part.head) _ z h in
     let origin = bound (new_origin part.number earlier word.0) _ z word.2 in
-    let version = bound (in_part part.number (zone_of origin.0 part.lines)) _ z origin.2 in
+    let version = bound (zone_at (part.number + 1) origin.0 part.lines) _ z origin.2 in
     let same : origin.0 ≡ z.origin = cc in
     subst (IsNew earlier) same (new_taken part.number earlier word.0 origin.0 origin.1)
 
@@ -80,7 +80,7 @@ unfolding zones_of
 listed [] zones h = absurd cc
 listed (line ∷ lines) zones h = by_head (is_head line) refl h
   where
-    by_head : (t : Bool) → is_head line ≡ t → cond t (zones_from [] (cut_from 1 (line ∷ lines)).parts) (refuse 1 (kinds.Zone BadToken)) ≡ Ok zones → AreListed zones
+    by_head : (t : Bool) → is_head line ≡ t → cond t (zones_from [] (cut_from 1 (line ∷ lines)).parts) (refused 1 BadToken) ≡ Ok zones → AreListed zones
     by_head false e h = absurd cc
     by_head true e h =
         let s = sound_from [] (cut_from 1 (line ∷ lines)).parts zones h (record { few = omega arith; apart = λ i j d lt out. absurd (omega arith) }) in

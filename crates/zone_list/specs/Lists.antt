@@ -1,15 +1,13 @@
 -- Several zones in one input: each is a part, which begins with a line that names its origin.
-use Rattle.std.specs.Prelude.{ℕ, ◌+◌, Bool, false, ◌&&◌, List, [], ◌∷◌, ◌++◌, length, take, drop, nat_lt, if◌then◌else◌, Result, Ok, Err, codes}
+use Rattle.std.specs.Prelude.{ℕ, ◌+◌, Bool, false, ◌&&◌, List, [], ◌∷◌, ◌++◌, length, take, drop, nat_lt, if◌then◌else◌, Result, Ok, codes}
 use Rattle.std.specs.List.{list_any}
 use Rattle.std.specs.Str.{bytes_eq}
 use Rattle.zone_model.specs.Names.{Name, same_name}
 use Rattle.zone_model.specs.Refusals.{Refused, ◌>>=◌}
 use Rattle.zone_model.specs.Tokens.{Token, entry_from, fresh, refused, begins_blank}
-use Rattle.zone_model.specs.MasterFile.{Zone, zone_of, name_word, required}
+use Rattle.zone_model.specs.MasterFile.{Zone, zone_at, name_word, required}
 use Rattle.zone_model.specs.declared.ZoneKind.{ZoneKind}
-use Rattle.zone_model.specs.declared.ZoneKind.TheVariants.{BadName, BadToken}
-use Rattle.zone_list.specs.declared.refusal.ListKind.{ListKind}
-use Rattle.zone_list.specs.declared.refusal.ListKind.TheVariants as kinds
+use Rattle.zone_model.specs.declared.ZoneKind.TheVariants.{BadName, BadToken, Repeated, TooManyZones}
 
 -- ---- parts
 
@@ -41,48 +39,40 @@ cut_from n (line ∷ lines) = with_line n line (cut_from (n + 1) lines)
 
 -- ---- what a part says
 
--- The words of a part's first line, which is line 0 of its part: the one that it begins with, and the origin, read below the root.
-abbrev pub origin_word : List Token → Result Name (Refused ZoneKind)
-origin_word [] = refused 0 BadToken
-origin_word (word ∷ []) = refused 0 BadToken
-origin_word (word ∷ origin ∷ []) = required 0 BadName (name_word [] origin)
-origin_word (word ∷ origin ∷ other ∷ words) = refused 0 BadToken
+-- The words of a part's first line, which is line n: the one that it begins with, and the origin, read below the root.
+abbrev pub origin_word : ℕ → List Token → Result Name (Refused ZoneKind)
+origin_word n [] = refused n BadToken
+origin_word n (word ∷ []) = refused n BadToken
+origin_word n (word ∷ origin ∷ []) = required n BadName (name_word [] origin)
+origin_word n (word ∷ origin ∷ other ∷ words) = refused n BadToken
 
--- the origin that the first line of a part says
-unfoldable pub head_says : List ℕ → Result Name (Refused ZoneKind)
-head_says line = entry_from 0 (line ∷ []) fresh >>= (λ entry. origin_word entry.tokens)
-
-abbrev pub refuse : {A : Type 0} → ℕ → ListKind → Result A (Refused ListKind)
-refuse n kind = Err (record { line = n; kind = kind })
-
--- a refusal in the part that begins at line n, where its lines count from that one
-abbrev pub in_part : {A : Type 0} → ℕ → Result A (Refused ZoneKind) → Result A (Refused ListKind)
-in_part n (Ok x) = Ok x
-in_part n (Err e) = refuse (n + e.line) (kinds.Zone e.kind)
+-- the origin that the first line of a part says, which is line n
+unfoldable pub head_says : ℕ → List ℕ → Result Name (Refused ZoneKind)
+head_says n line = entry_from n (line ∷ []) fresh >>= (λ entry. origin_word n entry.tokens)
 
 -- the most zones
 abbrev pub zone_limit : ℕ
 zone_limit = 16
 
 -- an origin that no earlier zone has, while there is room for one zone more
-abbrev pub new_origin : ℕ → List Zone → Name → Result Name (Refused ListKind)
+abbrev pub new_origin : ℕ → List Zone → Name → Result Name (Refused ZoneKind)
 new_origin n earlier origin =
-    if list_any (λ zone. same_name zone.origin origin) earlier then refuse n kinds.Repeated
+    if list_any (λ zone. same_name zone.origin origin) earlier then refused n Repeated
     else if nat_lt (length earlier) zone_limit then Ok origin
-    else refuse n kinds.TooManyZones
+    else refused n TooManyZones
 
 -- the zone that a part says behind earlier ones
-unfoldable pub part_says : List Zone → Part → Result Zone (Refused ListKind)
+unfoldable pub part_says : List Zone → Part → Result Zone (Refused ZoneKind)
 part_says earlier part = do
-  word ← in_part part.number (head_says part.head)
+  word ← head_says part.number part.head
   origin ← new_origin part.number earlier word
-  version ← in_part part.number (zone_of origin part.lines)
+  version ← zone_at (part.number + 1) origin part.lines
   Ok (record { origin = origin; pairs = version })
 
 -- ---- all zones
 
 -- earlier zones and those that parts say
-unfoldable pub zones_from : List Zone → List Part → Result (List Zone) (Refused ListKind)
+unfoldable pub zones_from : List Zone → List Part → Result (List Zone) (Refused ZoneKind)
 zones_from earlier [] = Ok earlier
 zones_from earlier (part ∷ parts) = part_says earlier part >>= (λ zone. zones_from (earlier ++ zone ∷ []) parts)
 
@@ -92,5 +82,5 @@ begins_part [] = false
 begins_part (line ∷ lines) = is_head line
 
 -- the zones that lines say, in order, or the first refusal from the top
-unfoldable pub zones_of : List (List ℕ) → Result (List Zone) (Refused ListKind)
-zones_of lines = if begins_part lines then zones_from [] (cut_from 1 lines).parts else refuse 1 (kinds.Zone BadToken)
+unfoldable pub zones_of : List (List ℕ) → Result (List Zone) (Refused ZoneKind)
+zones_of lines = if begins_part lines then zones_from [] (cut_from 1 lines).parts else refused 1 BadToken

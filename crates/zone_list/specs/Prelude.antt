@@ -7,4 +7,4 @@ pub use Rattle.zone_text.specs.Tokens.{IsPlaced, token_view}
 pub use Rattle.zone_text.specs.Views.{Reads}
 pub use Rattle.zone_list.specs.Lists.{Part, begins_part, cut_from, head_says, is_head, new_origin, origin_word, part_says, zones_of}
 pub use Rattle.zone_list.specs.Parts.{AreListed, AreParts}
-pub use Rattle.zone_list.specs.Views.{IsAtPart, IsFront, ReadsPart, Says, moved}
+pub use Rattle.zone_list.specs.Views.{IsAtPart, IsFront, IsTold, ReadsPart}

@@ -1,27 +1,16 @@
 -- What the readers of parts give.
-use Rattle.std.specs.Prelude.{◌≡◌, ℕ, ◌+◌, ◌<◌, ◌≤◌, true, List, length, take, drop, Result, Ok, Err}
-use Rattle.zone_model.specs.Refusals.{Refused}
+use Rattle.std.specs.Prelude.{◌≡◌, ◌≢◌, ℕ, ◌+◌, ◌<◌, ◌≤◌, true, List, length, take, drop, Result, Ok, Err}
 use Rattle.zone_model.specs.Lines.{lines_of}
 use Rattle.zone_model.specs.MasterFile.{Zone}
+use Rattle.zone_model.specs.declared.ZoneKind.TheVariants.{Memory}
 use Rattle.zone_list.specs.Lists.{cut_from, begins_part, zones_from}
 use Rattle.zone_list.specs.declared.parts.Front.{Front}
 use Rattle.zone_text.specs.declared.refusal.ZoneRefusal.{ZoneRefusal}
-use Rattle.zone_text.specs.declared.refusal.ZoneRefusal.TheVariants as zone
-use Rattle.zone_list.specs.declared.refusal.ListKind.{ListKind}
-use Rattle.zone_list.specs.declared.refusal.ListKind.TheVariants as kinds
-use Rattle.zone_list.specs.declared.refusal.ListRefusal.{ListRefusal}
-use Rattle.zone_list.specs.declared.refusal.ListRefusal.TheVariants as stops
+use Rattle.zone_text.specs.Views.{IsRefused}
 
--- a value is the one wanted, or the refusal is; want of memory says nothing
-abbrev pub Says : {R A : Type 0} → Result R ListRefusal → (R → A) → Result A (Refused ListKind) → Type 0
-Says (Ok r) view wanted = wanted ≡ Ok (view r)
-Says (Err stops.Memory) view wanted = Unit {0}
-Says (Err (stops.Refused line kind)) view wanted = wanted ≡ Err (record { line = line; kind = kind })
-
--- a refusal in the part that begins at line n
-abbrev pub moved : ℕ → ZoneRefusal → ListRefusal
-moved n zone.Memory = stops.Memory
-moved n (zone.Refused line kind) = stops.Refused (n + line) (kinds.Zone kind)
+-- it isn't told as want of memory
+abbrev pub IsTold : ZoneRefusal → Type 0
+IsTold e = e.kind ≢ Memory
 
 -- a part begins at a place, or the text ends there
 abbrev pub IsAtPart : List ℕ → ℕ → Type 0
@@ -35,7 +24,6 @@ pub record IsFront (text : List ℕ) (front : Front) : Type 0 where
   pub few : front.lines ≤ front.upto
 
 -- The part that a text begins with, at line n, was read: other parts begin at a place, so many lines behind.
-abbrev pub ReadsPart : List ℕ → ℕ → List Zone → List Zone → Result (ℕ × ℕ) ListRefusal → Type 0
+abbrev pub ReadsPart : List ℕ → ℕ → List Zone → List Zone → Result (ℕ × ℕ) ZoneRefusal → Type 0
 ReadsPart text n old new (Ok x) = zones_from old (cut_from n (lines_of text)).parts ≡ zones_from new (cut_from (n + x.1) (lines_of (drop x.0 text))).parts
-ReadsPart text n old new (Err stops.Memory) = Unit {0}
-ReadsPart text n old new (Err (stops.Refused line kind)) = zones_from old (cut_from n (lines_of text)).parts ≡ Err (record { line = line; kind = kind })
+ReadsPart text n old new (Err e) = IsRefused e (zones_from old (cut_from n (lines_of text)).parts)

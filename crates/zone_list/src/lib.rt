@@ -5,7 +5,5 @@ mod heads;
 pub mod laws;
 mod lists;
 mod parts;
-mod refusal;
 
 pub use lists::read_zones;
-pub use refusal::{ListKind, ListRefusal};

@@ -1,14 +1,13 @@
 //! The zones of an input.
 ghost use Rattle.std.specs.Prelude.{◌≡◌, ◌≤◌, ◌^◌, length, IfOk};
-ghost use Rattle.zone_list.specs.Prelude.{lines_of, begins_part, zones_of, AreListed, Says};
+ghost use Rattle.zone_list.specs.Prelude.{lines_of, begins_part, zones_of, AreListed, Reads};
 
 use crate::heads::is_head;
 use crate::parts::read_part;
-use crate::refusal::{ListKind, ListRefusal, refuse};
 use master_file::Zone;
 use std::alloc::Global;
 use zone_model::ZoneKind;
-use zone_text::line_at;
+use zone_text::{ZoneRefusal, line_at, refuse};
 
 // Whether the first line begins a part.
 fn begins_part(text: &[u8]) -> bool
@@ -24,13 +23,13 @@ fn begins_part(text: &[u8]) -> bool
 
 /// The zones of the parts that bytes say, in order, or the first refusal from the top.
 #[tactic(auto, unfolding(crate::specs::Lists::zones_of))]
-pub fn read_zones(alloc: Global, bytes: &[u8]) -> Result<Vec<Zone>, ListRefusal>
+pub fn read_zones(alloc: Global, bytes: &[u8]) -> Result<Vec<Zone>, ZoneRefusal>
     requires short { length bytes.now ≤ 2 ^ 24 }
-    ensures zones { Says result (λ v. v.items) (zones_of (lines_of bytes.now)) }
+    ensures zones { Reads result (λ v. v.items) (zones_of (lines_of bytes.now)) }
     ensures listed { IfOk result (λ v. AreListed v.items) }
 {
     if !begins_part(bytes) {
-        return Err(refuse(1, 0, ListKind::Zone(ZoneKind::BadToken)));
+        return Err(refuse(1, ZoneKind::BadToken));
     }
     let mut zones = Vec::new(alloc);
     let mut at = 0u32;

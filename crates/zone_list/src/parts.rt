@@ -1,14 +1,14 @@
 //! Where parts begin, and what they say.
-ghost use Rattle.std.specs.Prelude.{◌≡◌, ◌≤◌, ◌<◌, ◌+◌, ◌∷◌, [], ◌^◌, true, length, IfOk};
+ghost use Rattle.std.specs.Prelude.{◌≡◌, ◌≤◌, ◌<◌, ◌+◌, ◌∷◌, [], ◌^◌, true, length, IfOk, IfErr};
 ghost use Rattle.zone_list.specs.Prelude.{list_any, same_name, lines_of, first_line, begins_part};
-ghost use Rattle.zone_list.specs.Prelude.{new_origin, part_says, Says, moved, IsFront, IsAtPart, ReadsPart};
+ghost use Rattle.zone_list.specs.Prelude.{new_origin, part_says, Reads, IsTold, IsFront, IsAtPart, ReadsPart};
 
 use crate::heads::{head_says, is_head};
-use crate::refusal::{ListKind, ListRefusal, refuse};
 use dns_name::Name;
-use master_file::{Zone, read_zone};
+use master_file::{Zone, read_zone_at};
 use std::alloc::Global;
-use zone_text::{ZoneRefusal, line_at};
+use zone_model::ZoneKind;
+use zone_text::{ZoneRefusal, line_at, refuse};
 
 // The most zones.
 const ZONE_LIMIT: usize = 16;
@@ -51,26 +51,17 @@ fn is_repeated(earlier: &[Zone], origin: &Name) -> bool
 }
 
 // The origin of a part that begins at a line, if it is new and there is room for it.
-fn new_origin(number: u32, earlier: &[Zone], origin: Name) -> Result<Name, ListRefusal>
-    ensures { Says result (λ n. n) (new_origin number earlier.now origin) }
+fn new_origin(number: u32, earlier: &[Zone], origin: Name) -> Result<Name, ZoneRefusal>
+    ensures says { Reads result (λ n. n) (new_origin number earlier.now origin) }
+    ensures told { IfErr result IsTold }
 {
     if is_repeated(earlier, &origin) {
-        return Err(refuse(number, 0, ListKind::Repeated));
+        return Err(refuse(number, ZoneKind::Repeated));
     }
     if earlier.len() >= ZONE_LIMIT {
-        return Err(refuse(number, 0, ListKind::TooManyZones));
+        return Err(refuse(number, ZoneKind::TooManyZones));
     }
     Ok(origin)
-}
-
-// A refusal in the part that begins at a line.
-fn moved(number: u32, refusal: ZoneRefusal) -> ListRefusal
-    ensures { result ≡ moved number refusal }
-{
-    match refusal {
-        ZoneRefusal::Memory => ListRefusal::Memory,
-        ZoneRefusal::Refused { line, kind } => refuse(number, line, ListKind::Zone(kind)),
-    }
 }
 
 // The zone of the part that begins at a line: its first line, and those behind it.
@@ -81,20 +72,18 @@ fn part_says(
     head: &[u8],
     lines: &[u8],
     earlier: &[Zone],
-) -> Result<Zone, ListRefusal>
+) -> Result<Zone, ZoneRefusal>
+    requires early { number ≤ 2 ^ 24 }
     requires short_head { length head.now ≤ 2 ^ 24 }
     requires short { length lines.now ≤ 2 ^ 24 }
     requires line { lines_of head.now ≡ first_line head.now ∷ [] }
-    ensures { Says result (λ z. z) (part_says earlier.now (record { number = number; head = first_line head.now; lines = lines_of lines.now })) }
+    ensures { Reads result (λ z. z) (part_says earlier.now (record { number = number; head = first_line head.now; lines = lines_of lines.now })) }
 {
-    let word = match head_says(alloc, head) {
-        Ok(word) => word,
-        Err(refusal) => return Err(moved(number, refusal)),
-    };
+    let word = head_says(alloc, number, head)?;
     let origin = new_origin(number, earlier, word)?;
-    match read_zone(alloc, lines, &origin) {
+    match read_zone_at(alloc, lines, number + 1, &origin) {
         Ok(zone) => Ok(zone),
-        Err(refusal) => Err(moved(number, refusal)),
+        Err(refused) => Err(refused),
     }
 }
 
@@ -104,9 +93,10 @@ pub fn read_part(
     text: &[u8],
     number: u32,
     zones: &mut Vec<Zone>,
-) -> Result<(u32, u32), ListRefusal>
+) -> Result<(u32, u32), ZoneRefusal>
     requires some { 0 < length text.now }
     requires short { length text.now ≤ 2 ^ 24 }
+    requires early { number ≤ 2 ^ 24 }
     requires begins { begins_part (lines_of text.now) ≡ true }
     ensures reads { ReadsPart text.now number zones.old.items zones.new.items result }
     ensures places { IfOk result (λ x. (0 < x.0) × (x.0 ≤ length text.now) × (x.1 ≤ x.0) × IsAtPart text.now x.0) }

@@ -221,6 +221,9 @@ pub record Zone : Type 0 where
   pub origin : Name
   pub pairs : Version
 
--- the zone of an origin that lines say
+-- the zone of an origin that lines say, the first of which has the number n
+abbrev pub zone_at : ℕ → Name → List (List ℕ) → Result Version (Refused ZoneKind)
+zone_at n apex lines = zone_from apex n lines None (at_first apex) >>= with_soa apex (length lines + n)
+
 unfoldable pub zone_of : Name → List (List ℕ) → Result Version (Refused ZoneKind)
-zone_of apex lines = zone_from apex 1 lines None (at_first apex) >>= with_soa apex (length lines + 1)
+zone_of apex lines = zone_at 1 apex lines

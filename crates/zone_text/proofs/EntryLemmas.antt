@@ -12,7 +12,6 @@ use Rattle.zone_model.specs.Tokens.{entry_from, line_tokens, after_line}
 use Rattle.zone_text.specs.Places.{FirstLine}
 use Rattle.zone_text.specs.Views.{scan_view, HasScanned, ReadsLine, Gives}
 use Rattle.zone_text.specs.declared.refusal.ZoneRefusal.{ZoneRefusal}
-use Rattle.zone_text.specs.declared.refusal.ZoneRefusal.TheVariants as refusal
 use Rattle.zone_text.specs.declared.lexer.Begun.TheVariants.{Apart}
 use Rattle.zone_text.specs.declared.lexer.Scan.{Scan}
 
@@ -36,10 +35,9 @@ line_read bytes at upto next n old new f a g =
     ∙ ap (λ (s : says.Scan). after_line n (lines_of (drop next bytes)) s) (sym (scan_later bytes upto next new a))
 
 pub line_refused : (bytes : List ℕ) (at upto next n : ℕ) (old new : Scan) (e : ZoneRefusal) → FirstLine bytes at upto next → Gives (Err e) (scan_view bytes upto new) (line_tokens n (slice_range bytes at upto) (scan_view bytes at old)) → ReadsLine bytes at n old new (Err e)
-line_refused bytes at upto next n old new refusal.Memory f g = tt
-line_refused bytes at upto next n old new (refusal.Refused line kind) f g =
+line_refused bytes at upto next n old new e f g = λ told.
     entry_more bytes at upto next n (scan_view bytes at old) f
-    ∙ ap (λ (r : Result says.Scan (Refused ZoneKind)). r >>= after_line n (lines_of (drop next bytes))) g
+    ∙ ap (λ (r : Result says.Scan (Refused ZoneKind)). r >>= after_line n (lines_of (drop next bytes))) (g told)
 
 no_lines : (bytes : List ℕ) (at : ℕ) → length bytes ≤ at → lines_of (drop at bytes) ≡ []
 no_lines bytes at h = ap lines_of (drop_all at bytes h)

@@ -10,7 +10,6 @@ use Rattle.zone_text.specs.declared.token.Token.{Token}
 use Rattle.zone_text.specs.Places.{FirstLine, first_line}
 use Rattle.zone_text.specs.Views.{scan_view, line_view, Gives, Reads}
 use Rattle.zone_text.specs.declared.refusal.ZoneRefusal.{ZoneRefusal}
-use Rattle.zone_text.specs.declared.refusal.ZoneRefusal.TheVariants as refusal
 use Rattle.zone_text.specs.declared.lexer.Scan.{Scan}
 use Rattle.zone_text.specs.declared.single_lines.LexedLine.{LexedLine}
 
@@ -34,9 +33,8 @@ single_read bytes at upto next n old new l f e g t p =
 
 pub single_refused : (bytes : List ℕ) (at upto next n : ℕ) (old new : Scan) (e : ZoneRefusal) → FirstLine bytes at upto next → scan_view bytes at old ≡ says.fresh → Gives (Err e) (scan_view bytes upto new) (says.line_tokens n (slice_range bytes at upto) (scan_view bytes at old))
     → Reads (Err e) (line_view bytes) (says.single_line n (first_line (drop at bytes)))
-single_refused bytes at upto next n old new refusal.Memory f e g = tt
-single_refused bytes at upto next n old new (refusal.Refused line kind) f e g =
-    single_is bytes at upto next n old f e ∙ ap (λ (r : Result says.Scan (Refused ZoneKind)). r >>= kept) g
+single_refused bytes at upto next n old new r f e g = λ told.
+    single_is bytes at upto next n old f e ∙ ap (λ (x : Result says.Scan (Refused ZoneKind)). x >>= kept) (g told)
 
 pub single_rest : (bytes : List ℕ) (at upto next to : ℕ) → FirstLine bytes at upto next → to ≡ next → lines_of (drop at bytes) ≡ first_line (drop at bytes) ∷ lines_of (drop to bytes)
 single_rest bytes at upto next to f e =

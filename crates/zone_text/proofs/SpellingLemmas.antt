@@ -10,12 +10,10 @@ use Rattle.zone_text.specs.Views.{Reads, lexed_view, line_view}
 use Rattle.zone_text.specs.declared.entry_tokens.Lexed.{Lexed}
 use Rattle.zone_text.specs.declared.single_lines.LexedLine.{LexedLine}
 use Rattle.zone_text.specs.declared.refusal.ZoneRefusal.{ZoneRefusal}
-use Rattle.zone_text.specs.declared.refusal.ZoneRefusal.TheVariants as refusal
 
 pub spelled_so : (bytes : List ℕ) (n : ℕ) (lines : List (List ℕ)) (r : Result Lexed ZoneRefusal) → Reads r (lexed_view bytes) (entry_from n lines fresh) → EntrySpelled bytes n lines r
 spelled_so bytes n lines (Ok l) g = subst (SpellsEntry n [] lines) g (entry_spelled n lines)
-spelled_so bytes n lines (Err (refusal.Refused line kind)) g = subst (SpellsEntry n [] lines) g (entry_spelled n lines)
-spelled_so bytes n lines (Err refusal.Memory) g = tt
+spelled_so bytes n lines (Err e) g = λ told. subst (SpellsEntry n [] lines) (g told) (entry_spelled n lines)
 
 pub spelled_only : (bytes : List ℕ) (n : ℕ) (lines : List (List ℕ)) (r : Result Lexed ZoneRefusal) (out : Result EntryTokens (Refused ZoneKind)) → Reads r (lexed_view bytes) (entry_from n lines fresh) → SpellsEntry n [] lines out → Reads r (lexed_view bytes) out
 spelled_only bytes n lines r out g h = subst (λ (o : Result EntryTokens (Refused ZoneKind)). Reads r (lexed_view bytes) o) (entry_is n lines out h) g

@@ -1,18 +1,17 @@
 -- What the readers of tokens give, in the words of the grammar.
-use Rattle.std.specs.Prelude.{ℕ, List, [], Result, Ok, Err}
+use Rattle.std.specs.Prelude.{◌≢◌, ℕ, List, [], Result, Ok, Err}
 use Rattle.zone_model.specs.Grammar.{Spelled, Spells, SpellsEntry, line_says}
 use Rattle.zone_model.specs.declared.ZoneKind.{ZoneKind}
+use Rattle.zone_model.specs.declared.ZoneKind.TheVariants.{Memory}
 use Rattle.zone_text.specs.Views.{Reads, lexed_view, line_view}
 use Rattle.zone_text.specs.declared.entry_tokens.Lexed.{Lexed}
 use Rattle.zone_text.specs.declared.single_lines.LexedLine.{LexedLine}
 use Rattle.zone_text.specs.declared.refusal.ZoneRefusal.{ZoneRefusal}
-use Rattle.zone_text.specs.declared.refusal.ZoneRefusal.TheVariants as refusal
 
 -- the lines from line n on are spelled by these tokens, or the spelling breaks where the refusal says
 abbrev pub EntrySpelled : List ℕ → ℕ → List (List ℕ) → Result Lexed ZoneRefusal → Type 0
 EntrySpelled bytes n lines (Ok l) = SpellsEntry n [] lines (Ok (lexed_view bytes l))
-EntrySpelled bytes n lines (Err (refusal.Refused line kind)) = SpellsEntry n [] lines (Err (record { line = line; kind = kind }))
-EntrySpelled bytes n lines (Err refusal.Memory) = Unit {0}
+EntrySpelled bytes n lines (Err e) = e.kind ≢ Memory → SpellsEntry n [] lines (Err (record { line = e.line; kind = e.kind }))
 
 -- the same for a line by itself
 abbrev pub LineSpelled : List ℕ → ℕ → List ℕ → Result LexedLine ZoneRefusal → Type 0

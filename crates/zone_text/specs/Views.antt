@@ -1,15 +1,15 @@
 -- What the reader's types say in the words of the definitions.
-use Rattle.std.specs.Prelude.{◌≡◌, ℕ, ◌≤◌, ◌<◌, ◌^◌, List, length, map, drop, Result, Ok, Err}
+use Rattle.std.specs.Prelude.{◌≡◌, ◌≢◌, ℕ, ◌≤◌, ◌<◌, ◌^◌, List, length, map, drop, Result, Ok, Err}
 use Rattle.std.specs.List.{slice_range, All}
 use Rattle.zone_model.specs.Refusals.{Refused}
 use Rattle.zone_model.specs.Lines.{lines_of}
 use Rattle.zone_model.specs.declared.ZoneKind.{ZoneKind}
+use Rattle.zone_model.specs.declared.ZoneKind.TheVariants.{Memory}
 use Rattle.zone_model.specs.Tokens as says
 use Rattle.zone_text.specs.Tokens.{token_view, IsPlaced}
 use Rattle.zone_text.specs.declared.entry_tokens.Lexed.{Lexed}
 use Rattle.zone_text.specs.declared.single_lines.LexedLine.{LexedLine}
 use Rattle.zone_text.specs.declared.refusal.ZoneRefusal.{ZoneRefusal}
-use Rattle.zone_text.specs.declared.refusal.ZoneRefusal.TheVariants as refusal
 use Rattle.zone_text.specs.declared.lexer.Begun.{Begun}
 use Rattle.zone_text.specs.declared.lexer.Begun.TheVariants as begun
 use Rattle.zone_text.specs.declared.lexer.Scan.{Scan}
@@ -45,23 +45,24 @@ pub record IsInside (bytes : List ℕ) (from at : ℕ) (s : Scan) : Type 0 where
   pub shallow : s.depth ≤ at
   pub placed : All (IsPlaced bytes) s.tokens.items
 
+-- What is wanted is refused as this call was. Want of memory says nothing.
+abbrev pub IsRefused : {A : Type 0} → ZoneRefusal → Result A (Refused ZoneKind) → Type 0
+IsRefused e wanted = e.kind ≢ Memory → wanted ≡ Err (record { line = e.line; kind = e.kind })
+
 -- A call changed a scan to what the definition wants, or stopped with the definition's refusal, or had no memory.
 abbrev pub Gives : {A : Type 0} → Result (Unit {0}) ZoneRefusal → A → Result A (Refused ZoneKind) → Type 0
 Gives (Ok u) new wanted = wanted ≡ Ok new
-Gives (Err refusal.Memory) new wanted = Unit {0}
-Gives (Err (refusal.Refused line kind)) new wanted = wanted ≡ Err (record { line = line; kind = kind })
+Gives (Err e) new wanted = IsRefused e wanted
 
 -- the same for a result
 abbrev pub Reads : {R A : Type 0} → Result R ZoneRefusal → (R → A) → Result A (Refused ZoneKind) → Type 0
 Reads (Ok r) view wanted = wanted ≡ Ok (view r)
-Reads (Err refusal.Memory) view wanted = Unit {0}
-Reads (Err (refusal.Refused line kind)) view wanted = wanted ≡ Err (record { line = line; kind = kind })
+Reads (Err e) view wanted = IsRefused e wanted
 
 -- a line of an entry was read, and the next one begins at the place that the call gave
 abbrev pub ReadsLine : List ℕ → ℕ → ℕ → Scan → Scan → Result ℕ ZoneRefusal → Type 0
 ReadsLine bytes at n old new (Ok next) = says.entry_from n (lines_of (drop at bytes)) (scan_view bytes at old) ≡ says.after_line n (lines_of (drop next bytes)) (scan_view bytes next new)
-ReadsLine bytes at n old new (Err refusal.Memory) = Unit {0}
-ReadsLine bytes at n old new (Err (refusal.Refused line kind)) = says.entry_from n (lines_of (drop at bytes)) (scan_view bytes at old) ≡ Err (record { line = line; kind = kind })
+ReadsLine bytes at n old new (Err e) = IsRefused e (says.entry_from n (lines_of (drop at bytes)) (scan_view bytes at old))
 
 abbrev pub lexed_view : List ℕ → Lexed → says.EntryTokens
 lexed_view bytes l = record { tokens = map (token_view bytes) l.tokens.items; parens = l.parens; next = l.next_line; rest = lines_of (drop l.next bytes) }

@@ -1,40 +1,39 @@
 //! Why a text is no zone.
 ghost use Rattle.std.specs.Prelude.{◌≡◌};
-ghost use Rattle.zone_text.specs.declared.refusal.ZoneRefusal.TheVariants.{Refused, Memory};
+ghost use Rattle.zone_model.specs.declared.ZoneKind.TheVariants.{Memory};
 
 use std::alloc::{AllocError, AllocFailed};
 use thiserror::Error;
 use zone_model::ZoneKind;
 
-/// Why bytes gave no tokens or no zone.
-#[derive(Clone, Copy, Debug, Error)]
-pub enum ZoneRefusal {
-    /// The first entry that is refused, from the top: the line of what is refused, from 1, and why.
-    #[error("line {line}: {kind}")]
-    Refused { line: u32, kind: ZoneKind },
-    /// Want of memory.
-    #[error("out of memory")]
-    Memory,
+/// Why bytes gave no tokens, no zone or no list of zones: the line of what is refused first from the top, from 1, and why.
+/// Want of memory has no line.
+#[derive(Clone, Copy, Debug, PartialEq, Eq, Error)]
+#[error("line {line}: {kind}")]
+pub struct ZoneRefusal {
+    pub line: u32,
+    pub kind: ZoneKind,
 }
 
 impl From<AllocError> for ZoneRefusal {
-    ghost from_gives = { λ _ e. e ≡ Memory };
+    ghost from_gives = { λ _ e. e.kind ≡ Memory };
 
     fn from(_: AllocError) -> Self {
-        ZoneRefusal::Memory
+        refuse(0, ZoneKind::Memory)
     }
 }
 
 impl<T: Drop> From<AllocFailed<T>> for ZoneRefusal {
-    ghost from_gives = { λ _ e. e ≡ Memory };
+    ghost from_gives = { λ _ e. e.kind ≡ Memory };
 
     fn from(_: AllocFailed<T>) -> Self {
-        ZoneRefusal::Memory
+        refuse(0, ZoneKind::Memory)
     }
 }
 
 pub fn refuse(line: u32, kind: ZoneKind) -> ZoneRefusal
-    ensures { result ≡ Refused line kind }
+    ensures line { result.line ≡ line }
+    ensures kind { result.kind ≡ kind }
 {
-    ZoneRefusal::Refused { line, kind }
+    ZoneRefusal { line, kind }
 }

@@ -1,19 +1,19 @@
 -- A job over several zones: the zones, and the commands of each worker.
 use Rattle.std.specs.Prelude.{ℕ, List, map, Result, Ok, Err}
 use Rattle.zone_model.specs.Refusals.{Refused, ◌>>=◌}
+use Rattle.zone_model.specs.declared.ZoneKind.{ZoneKind}
 use Rattle.job_model.specs.declared.ScriptKind.{ScriptKind}
 use Rattle.job_model.specs.Jobs.{zone_lines, script_lines, script_start}
-use Rattle.zone_list.specs.declared.refusal.ListKind.{ListKind}
 use Rattle.zone_list.specs.Lists.{zones_of}
 use Rattle.zones_model.specs.Commands.{Job}
 use Rattle.zones_script.specs.Scripts.{script_of}
 
 -- why bytes are no job over zones
 pub data ZonesRefusal : Type 0 where
-  ListRefused : (refused : Refused ListKind) → ZonesRefusal
+  ListRefused : (refused : Refused ZoneKind) → ZonesRefusal
   ScriptRefused : (refused : Refused ScriptKind) → ZonesRefusal
 
-abbrev pub list_refused : {A : Type 0} → Result A (Refused ListKind) → Result A ZonesRefusal
+abbrev pub list_refused : {A : Type 0} → Result A (Refused ZoneKind) → Result A ZonesRefusal
 list_refused (Ok x) = Ok x
 list_refused (Err e) = Err (ListRefused e)
 

@@ -14,7 +14,7 @@ returns c =
     let said : phrases.phrase_of c.args.line.origin.now (map (token_view c.args.line.bytes.now) c.args.tokens.now) ≡ Some (phrase_view c.args.line.origin.now c.args.line.bytes.now c.in-Some.phrase) = sym (c.in-Some.ensures.said c.args.line.origin.now) in
     let may : jobs.may_stand c.args.script.now.listing (phrase_view c.args.line.origin.now c.args.line.bytes.now c.in-Some.phrase) ≡ true = search (rules, c.may_stand.ensures c.args.line.origin.now c.args.line.bytes.now) in
     let here : (script_view c.args.script.now).block ≡ Some (unfinished_view c.in-Some-take.block) = search (rules, c.in-Some-take.is, c.in-Some-take.ensures.value) in
-    let inside : ScriptReads c.inside.result (script_view c.inside.new.script) (jobs.inside c.args.line.origin.now c.args.line.number (unfinished_view c.in-Some-take.block) (phrase_view c.args.line.origin.now c.args.line.bytes.now c.in-Some.phrase) (record (script_view c.args.script.now) { block = None })) = search (rules, c.inside.ensures, c.in-Some-take.ensures.after) in
+    let inside : ScriptReads c.inside.result (script_view c.inside.new.script) (jobs.inside c.args.line.origin.now c.args.line.number (unfinished_view c.in-Some-take.block) (phrase_view c.args.line.origin.now c.args.line.bytes.now c.in-Some.phrase) (record (script_view c.args.script.now) { block = None })) = search (rules, c.inside.ensures.reads, c.in-Some-take.ensures.after) in
     subst (λ (r : Result jobs.Script (Refused ScriptKind)). ScriptReads c.inside.result (script_view c.inside.new.script) r) (sym (tokens_inside c.args.line.origin.now c.args.line.number (script_view c.args.script.now) (map (token_view c.args.line.bytes.now) c.args.tokens.now) (phrase_view c.args.line.origin.now c.args.line.bytes.now c.in-Some.phrase) (unfinished_view c.in-Some-take.block) said may here)) inside
 
 pub returns-then-is_none : goal.returns-then-is_none

@@ -7,11 +7,11 @@ use Rattle.master_file.proofs.zones.read_entries.Given as goal
 
 abbrev pub invariant-loop-at : goal.invariant-loop-at
 invariant-loop-at l = record {
-  goes_on : zone_from l.apex 1 (lines_of l.bytes) None (reader_view l.fn.reader) ≡ zone_from l.apex l.line (lines_of (drop l.at l.bytes)) None (reader_view l.reader);
-  counted : l.line + length (lines_of (drop l.at l.bytes)) ≡ length (lines_of l.bytes) + 1;
+  goes_on : zone_from l.apex l.first_line (lines_of l.bytes) None (reader_view l.fn.reader) ≡ zone_from l.apex l.line (lines_of (drop l.at l.bytes)) None (reader_view l.reader);
+  counted : l.line + length (lines_of (drop l.at l.bytes)) ≡ length (lines_of l.bytes) + l.first_line;
   held : AllHeld l.apex l.reader.owners.owned.entries;
   inside : l.at ≤ length l.bytes;
-  below : l.line ≤ l.at + 1;
+  early : l.line ≤ l.first_line + l.at;
 }
 
 abbrev pub decreases-loop-at : goal.decreases-loop-at

@@ -4,7 +4,7 @@ use Rattle.zone_model.specs.Lines.{lines_of}
 use Rattle.zone_model.specs.MasterFile.{Zone}
 use Rattle.zone_text.specs.Places.{first_line}
 use Rattle.zone_list.specs.Lists.{Part, cut_from, zones_from, part_says}
-use Rattle.zone_list.specs.Views.{Says}
+use Rattle.zone_text.specs.Views.{Reads}
 use Rattle.zone_list.proofs.CutLemmas.{head_alone, part_first, zones_more, part_stops}
 use Rattle.zone_list.proofs.parts.read_part.Goals as goal
 
@@ -30,4 +30,4 @@ returns-in-Err-clause-reads c =
     let body = c.line_at-body.result.1 in
     let part : Part = record { number = c.args.number; head = first_line (take body text); lines = lines_of (slice_range text body (body + c.front_of-front.result.upto)) } in
     part_stops text c.args.number c.args.zones.now.items c.args.zones.now.items _ part c.in-Err.refusal (part_first c.args.number c.requires.begins c.line_at-body.ensures c.front_of-front.ensures)
-    (subst (λ (l : List Zone). Says {A = Zone} (Err c.in-Err.refusal) (λ (z : Zone). z) (part_says l part)) c.deref.ensures.value c.in-Err.ensures)
+    (subst (λ (l : List Zone). Reads {A = Zone} (Err c.in-Err.refusal) (λ (z : Zone). z) (part_says l part)) c.deref.ensures.value c.in-Err.ensures)

@@ -8,7 +8,7 @@ use Rattle.master_file.proofs.owners.Owners.add.Goals as goal
 pub returns-then-is_low_soa-clause-gives : goal.returns-then-is_low_soa-clause-gives
 returns-then-is_low_soa-clause-gives c =
     let below : KeyBelow c.args.owner.now c.args.apex.now c.in-Some.key = rw c.in-Some.is at c.in_ok-key.ensures in
-    rw c.refuse-then-is_low_soa.ensures (low_refused c.args.apex.now c.args.last c.args.owner.now c.args.rtype c.args.time c.args.rdata.now _ (under _ _ _ below) (sym c.is_low_soa.ensures ∙ c.if-is_low_soa.true))
+    λ told. rw c.refuse-then-is_low_soa.ensures.line (rw c.refuse-then-is_low_soa.ensures.kind (low_refused c.args.apex.now c.args.last c.args.owner.now c.args.rtype c.args.time c.args.rdata.now _ (under _ _ _ below) (sym c.is_low_soa.ensures ∙ c.if-is_low_soa.true)))
 
 pub returns-clause-gives : goal.returns-clause-gives
 returns-clause-gives c =

@@ -7,4 +7,4 @@ use Rattle.qp_main.proofs.input.Input.zones.Goals as goal
 
 pub returns-in-Err-clause-stops : goal.returns-in-Err-clause-stops
 returns-in-Err-clause-stops c =
-    list_is_refused {R = Vec Zone Global} (λ v. v.items) (lines_of c.zone_bytes.result.now) (zone_lines c.args.self.now) c.in-Err.refusal c.list_stop.result c.zone_bytes.ensures.lines c.in-Err.ensures.zones c.list_stop.ensures
+    list_is_refused {R = Vec Zone Global} (λ v. v.items) (lines_of c.zone_bytes.result.now) (zone_lines c.args.self.now) c.in-Err.refusal c.zone_stop.result c.zone_bytes.ensures.lines c.in-Err.ensures.zones c.zone_stop.ensures

@@ -5,7 +5,7 @@ use Rattle.job_make.specs.Views.{load_view}
 use Rattle.job_make.proofs.LoadLemmas.{text_pieces}
 use Rattle.job_make.proofs.SizeLemmas.{made_size}
 use Rattle.job_make.proofs.ZoneLines.{made_job}
-use Rattle.job_make.proofs.text.make_text.Goals as goal
+use Rattle.job_make.proofs.text.load_text.Goals as goal
 
 pub returns-clause-short : goal.returns-clause-short
 returns-clause-short c =
