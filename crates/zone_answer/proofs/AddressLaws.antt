@@ -1,14 +1,12 @@
 -- The addresses of names, one record after the other.
-use Rattle.std.proofs.Common.{◌≡◌, ◌∙◌, ◌≤◌, ℕ, eqb, length, arith, Bool, true, false, cond, not, ◌||◌, List, [], ◌∷◌, ◌++◌, filter, filter_map, flat_map, Option, Some, None, option_and_then, refl, sym, ap, subst, append_assoc, append-nil}
+use Rattle.std.proofs.Common.{◌≡◌, ◌∙◌, ◌≤◌, ℕ, eqb, length, arith, Bool, true, false, cond, not, ◌||◌, List, [], ◌∷◌, ◌++◌, filter, filter_map, flat_map, Option, Some, None, option_and_then, refl, sym, ap, append_assoc, append-nil}
 use Rattle.std.proofs.lemmas.Grind.{flat_map-append}
-use Rattle.std.proofs.lemmas.List.Elements.{filter_map-append}
 use Rattle.std.specs.List.{cons_option}
 use borrow.Author.Tests.{eqb-true}
 use Rattle.zone_model.specs.Names.{Name, same_name}
 use Rattle.zone_model.specs.Records.{Rrset}
 use Rattle.zone_model.specs.Rows.{Row, rows_of}
 use Rattle.zone_model.specs.Versions.{Version}
-use Rattle.zone_model.proofs.NameLemmas.{same_name-true}
 use Rattle.zone_answer.specs.Responses.{OwnedSet, addresses, addresses_for, name_from, named_by, octets_before, of_type, once, owned_rows}
 use Rattle.zone_answer.specs.Parts.{Adds}
 use Rattle.zone_answer.specs.Sections.{AreAliases, GoesTo, addresses_of}

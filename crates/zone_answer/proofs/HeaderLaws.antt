@@ -1,16 +1,15 @@
 -- What is known of a response's rows by how many there are.
-use Rattle.std.proofs.Common.{◌≡◌, ◌∙◌, ℕ, suc, ◌+◌, ◌-◌, ◌≤◌, eqb, Bool, true, false, cond, List, [], ◌∷◌, ◌++◌, length, filter_map, inl, inr, Option, Some, None, refl, sym, ap, subst, arith, length-append, append-nil}
+use Rattle.std.proofs.Common.{◌≡◌, ◌∙◌, ℕ, suc, ◌-◌, ◌≤◌, eqb, Bool, true, false, cond, List, [], ◌∷◌, ◌++◌, length, filter_map, inl, inr, Option, Some, None, refl, sym, ap, subst, arith, length-append, append-nil}
 use Rattle.std.proofs.lemmas.List.Elements.{filter_map-append}
-use borrow.Author.Tests.{eqb-true}
 use Rattle.zone_model.specs.Names.{Name}
 use Rattle.zone_model.specs.Records.{Rrset, Entry, rrset_of}
 use Rattle.zone_model.specs.Rows.{Row, rows_of}
 use Rattle.zone_model.specs.Versions.{Version}
 use Rattle.zone_answer.specs.Answers.{node}
-use Rattle.zone_answer.specs.Responses.{OwnedSet, addresses_for, named_by, octets_before, of_type, owned_rows}
+use Rattle.zone_answer.specs.Responses.{named_by, octets_before, of_type}
 use Rattle.zone_answer.specs.Sections.{AreAliases, AreCounted, Ends, EndsWithSet, last_owner}
-use Rattle.zone_answer.proofs.AddressLaws.{alias_names, no_addresses, no_alias_names, no_set_names}
-use Rattle.zone_answer.proofs.ResponseLaws.{no_alias, servers_whole, set_type}
+use Rattle.zone_answer.proofs.AddressLaws.{alias_names, no_alias_names, no_set_names}
+use Rattle.zone_answer.proofs.ResponseLaws.{servers_whole, set_type}
 use Rattle.zone_answer.proofs.SectionLaws.{last_of_set}
 
 fewer : (t : ℕ) (rows : List Row) → length (of_type t rows) ≤ length rows

@@ -8,7 +8,7 @@ use Rattle.zone_model.specs.Rows.{Row, rows_of}
 use Rattle.zone_model.specs.Versions.{Version, owned}
 use Rattle.zone_answer.specs.Agreement.{HasNoneTwice, is_row_of, same_set}
 use Rattle.zone_answer.specs.Responses.{OwnedSet, addresses, addresses_for, by_kind, named_by, octets_before, of_type, once, owned_rows, with_owner}
-use Rattle.zone_answer.specs.Sections.{AreAliases, Ends, EndsWithSet}
+use Rattle.zone_answer.specs.Sections.{AreAliases, Ends}
 use Rattle.zone_answer.specs.declared.kind.Kind.{Kind}
 use Rattle.zone_answer.specs.declared.kind.Kind.TheVariants.{Answered, Nodata, Nxdomain, Referral, Outside}
 use Rattle.zone_answer.proofs.AddressLaws.{no_addresses}

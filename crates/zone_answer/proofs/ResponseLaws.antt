@@ -1,12 +1,8 @@
 -- How the rows of an answer end.
-use Rattle.std.proofs.Common.{◌≡◌, ◌∙◌, ℕ, zero, suc, eqb, Bool, true, false, cond, ◌||◌, List, [], ◌∷◌, ◌++◌, length, map, filter, inl, inr, Option, Some, None, unwrap_or, refl, sym, ap, subst, append_assoc, append-nil}
+use Rattle.std.proofs.Common.{◌≡◌, ◌∙◌, ℕ, zero, suc, eqb, Bool, true, false, cond, ◌||◌, List, [], ◌∷◌, ◌++◌, inl, inr, Option, Some, None, unwrap_or, refl, sym, ap, subst, append_assoc, append-nil}
 use Rattle.std.proofs.lemmas.List.Elements.{filter-append}
 use borrow.Author.Tests.{eqb-true}
-use Rattle.std.specs.List.{list_any}
-use Rattle.std.specs.Map.{lookup}
-use Rattle.std.specs.BTreeMap.{is_at}
-use Rattle.std.specs.Ordering.{is_eq}
-use Rattle.zone_model.specs.Names.{Name, name_cmp, same_name, is_under}
+use Rattle.zone_model.specs.Names.{Name, same_name, is_under}
 use Rattle.zone_model.specs.Records.{Rrset, Entry, rrset_of}
 use Rattle.zone_model.specs.Rows.{Row, rows_of}
 use Rattle.zone_model.specs.Versions.{Version, owned, entry_of, exists}
@@ -14,7 +10,7 @@ use Rattle.zone_model.proofs.NameLemmas.{same_name-true}
 use Rattle.zone_answer.specs.Answers as answers
 use Rattle.zone_answer.specs.Answers.{Answer, Next, LeadsTo, Step, alias_in, answer, behind, by_alias, by_cut, by_node, by_type, cut_above, encloser, followed, going_on, most_aliases, no_more, node, set_rows, step, target_of, wildcard_under}
 use Rattle.zone_answer.specs.Responses.{of_type}
-use Rattle.zone_answer.specs.Sections.{AreAliases, EndsWithSet, Ends}
+use Rattle.zone_answer.specs.Sections.{AreAliases, Ends}
 use Rattle.zone_answer.specs.declared.kind.Kind.{Kind}
 use Rattle.zone_answer.proofs.AncestorLaws.{self_under}
 use Rattle.zone_answer.specs.declared.kind.Kind.TheVariants.{Answered, Nodata, Nxdomain, Referral, Outside}

@@ -1,14 +1,13 @@
 -- Rows that are counted as they come.
-use Rattle.std.proofs.Common.{◌≡◌, ◌∙◌, ℕ, suc, ◌+◌, ◌≤◌, eqb, Bool, true, false, cond, List, [], ◌∷◌, ◌++◌, length, map, Option, Some, None, refl, sym, ap, subst, arith, length-append, append-nil}
+use Rattle.std.proofs.Common.{◌≡◌, ◌∙◌, ℕ, ◌+◌, eqb, Bool, true, false, cond, List, [], ◌∷◌, ◌++◌, length, Option, Some, None, refl, sym, ap, length-append}
 use Rattle.std.proofs.lemmas.List.{length-map}
-use borrow.Author.Tests.{eqb-true}
 use Rattle.std.specs.List.{last_or}
 use Rattle.std.specs.Option.{option_map}
 use Rattle.zone_model.specs.Names.{Name}
 use Rattle.zone_model.specs.Records.{Rrset}
 use Rattle.zone_model.specs.Rows.{Row, rows_of}
 use Rattle.zone_answer.specs.Responses.{of_type}
-use Rattle.zone_answer.specs.Sections.{AreAliases, AreCounted, last_owner}
+use Rattle.zone_answer.specs.Sections.{AreCounted, last_owner}
 use Rattle.zone_answer.proofs.ResponseLaws.{set_kept, set_gone, of_type-append}
 
 set_size : (owner : Name) (s : Rrset) → length (rows_of owner s) ≡ length s.records

@@ -1,9 +1,9 @@
 -- A zone with a delegation, glue, an alias into the delegation, a wildcard that owns servers, and mail that two records send to one host.
-use Rattle.std.specs.Prelude.{◌≡◌, ℕ, Bool, List, [], ◌∷◌, ◌++◌, codes, map}
+use Rattle.std.specs.Prelude.{◌≡◌, ℕ, Bool, List, [], ◌∷◌, codes, map}
 use Rattle.zone_model.specs.Names.{Label, Name, wire}
 use Rattle.zone_model.specs.Rows.{Row}
 use Rattle.zone_model.specs.Versions.{Version}
-use Rattle.zone_answer.specs.AnswerExample.{alias, first_data, named, origin, second_data, set}
+use Rattle.zone_answer.specs.AnswerExample.{first_data, named, origin, second_data, set}
 use Rattle.zone_answer.specs.Responses.{Response, respond}
 use Rattle.zone_answer.specs.declared.header.Code.{Code}
 

@@ -1,8 +1,8 @@
-use Rattle.std.proofs.Common.{◌≡◌, ◌∙◌, ℕ, [], List, ◌++◌, refl, sym, ap, subst, filter_map, flat_map, false}
+use Rattle.std.proofs.Common.{◌≡◌, ◌∙◌, ℕ, List, ◌++◌, refl, sym, ap, subst, filter_map, flat_map, false}
 use Rattle.std.specs.BTreeSet.{contains}
 use Rattle.std.specs.List.{list_any}
 use Rattle.zone_model.specs.Names.{Name, name_cmp, same_name}
-use Rattle.zone_answer.specs.Responses.{OwnedSet, addresses, name_from, once, owned_rows}
+use Rattle.zone_answer.specs.Responses.{addresses, name_from, once, owned_rows}
 use Rattle.zone_answer.specs.Standing.{Shows, ShowsSome}
 use Rattle.zone_answer.proofs.AddressLaws.{none_seen, once_more, unseen}
 use Rattle.zone_answer.proofs.addresses.push_once.Goals as goal

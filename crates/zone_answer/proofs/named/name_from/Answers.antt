@@ -1,5 +1,4 @@
-use Rattle.std.proofs.Common.{◌≡◌, ◌∙◌, ℕ, ◌<◌, List, length, get_or, refl, sym, ap, subst, arith}
-use Rattle.zone_model.specs.Names.{wire}
+use Rattle.std.proofs.Common.{◌∙◌, ℕ, ◌<◌, List, length, get_or, refl, ap, arith}
 use Rattle.zone_answer.proofs.NamedLaws.{no_octets, no_name, longer, just}
 use Rattle.zone_answer.proofs.named.name_from.Goals as goal
 

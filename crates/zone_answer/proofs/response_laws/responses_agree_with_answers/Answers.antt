@@ -1,4 +1,4 @@
-use Rattle.std.proofs.Common.{◌≡◌, ℕ, List, refl, sym}
+use Rattle.std.proofs.Common.{ℕ, List, refl, sym}
 use Rattle.zone_model.specs.Names.{Name}
 use Rattle.zone_model.specs.Rows.{Row}
 use Rattle.zone_model.specs.Versions.{Version}

@@ -1,4 +1,4 @@
-use Rattle.std.proofs.Common.{◌∙◌, [], List, ◌++◌, refl, sym, ap, subst, append-nil}
+use Rattle.std.proofs.Common.{◌∙◌, List, ◌++◌, refl, sym, ap, subst, append-nil}
 use Rattle.zone_model.specs.Rows.{Row}
 use Rattle.zone_answer.specs.Responses.{addresses_for, owned_rows}
 use Rattle.zone_answer.proofs.HeaderLaws.{more_by}

@@ -1,5 +1,4 @@
-use Rattle.std.proofs.Common.{◌∙◌, [], List, ◌++◌, refl, sym, ap, subst, append-nil}
-use Rattle.zone_model.specs.Rows.{Row}
+use Rattle.std.proofs.Common.{◌∙◌, ◌++◌, refl, sym, subst, append-nil}
 use Rattle.zone_answer.specs.Responses.{negative_soa}
 use Rattle.zone_answer.proofs.HeaderLaws.{more_by}
 use Rattle.zone_answer.proofs.responses.denied.Goals as goal

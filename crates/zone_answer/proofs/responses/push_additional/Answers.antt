@@ -1,6 +1,6 @@
 use Rattle.std.proofs.Common.{◌≡◌, ◌∙◌, ℕ, [], List, ◌++◌, sym, ap, subst, append-nil, filter_map, flat_map, Option, Some, None, Result, Ok, Err, OnOk}
 use Rattle.zone_model.specs.Names.{Name}
-use Rattle.zone_model.specs.Records.{Rrset, rrset_of}
+use Rattle.zone_model.specs.Records.{rrset_of}
 use Rattle.zone_model.specs.Rows.{Row, rows_of}
 use Rattle.zone_model.specs.Versions.{Version}
 use Rattle.zone_answer.specs.Answers.{node}

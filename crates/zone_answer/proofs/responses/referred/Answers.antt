@@ -1,4 +1,4 @@
-use Rattle.std.proofs.Common.{◌≡◌, ◌∙◌, [], List, ◌++◌, length, refl, rules, sym, ap, subst, filter_map, flat_map}
+use Rattle.std.proofs.Common.{◌≡◌, ◌∙◌, List, ◌++◌, length, refl, rules, sym, ap, subst, flat_map}
 use Rattle.zone_model.specs.Names.{Name}
 use Rattle.zone_model.specs.Rows.{Row}
 use Rattle.zone_answer.specs.Responses.{addresses, addresses_for, of_type, once, owned_rows}

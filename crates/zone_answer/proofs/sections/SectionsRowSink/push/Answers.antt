@@ -1,4 +1,4 @@
-use Rattle.std.proofs.Common.{◌≡◌, ◌∙◌, ℕ, ◌+◌, cond, eqb, length, rules, refl, sym, ap, subst, arith}
+use Rattle.std.proofs.Common.{◌≡◌, ◌+◌, cond, eqb, length, rules, arith}
 use Rattle.zone_answer.proofs.SectionLaws.{counted_more}
 use Rattle.zone_answer.proofs.sections.SectionsRowSink.push.Goals as goal
 
