@@ -140,6 +140,18 @@ impl<'a> SetView<'a> {
         self.ttl
     }
 
+    /// The same records with another time to live.
+    pub fn with_ttl(&self, ttl: u32) -> SetView<'a>
+        ensures { result ≡ record self.now { ttl = ttl } }
+    {
+        SetView {
+            rtype: self.rtype,
+            ttl,
+            count: self.count,
+            octets: self.octets,
+        }
+    }
+
     /// How many records it has.
     pub fn len(&self) -> u16
         ensures { result ≡ length self.now.records }

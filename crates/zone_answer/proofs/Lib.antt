@@ -12,3 +12,9 @@ pub mod ReachLaws
 pub mod FilterLaws
 pub mod WalkLaws
 pub mod FindLaws
+pub mod ResponseLaws
+pub mod NamedLaws
+pub mod SectionLaws
+pub mod AddressLaws
+pub mod HeaderLaws
+pub mod OnceLaws

@@ -1,4 +1,8 @@
 pub mod Answers
+pub mod Responses
+pub mod ResponseExample
+pub mod Agreement
+pub mod Sections
 pub mod Standing
 pub mod Neighbours
 pub mod Parts

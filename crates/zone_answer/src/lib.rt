@@ -3,16 +3,23 @@
 //! before it, and those that follow it in either direction.
 #![tactic(auto)]
 
+mod addresses;
 pub mod answer_laws;
 mod answers;
 mod cut;
 mod found;
+mod header;
 mod kind;
 pub mod name_laws;
+mod named;
+mod negative;
 mod node;
 mod question;
 mod records;
+pub mod response_laws;
+mod responses;
 mod rows;
+mod sections;
 mod sink;
 mod step;
 mod walker;
@@ -20,10 +27,13 @@ mod walks;
 
 pub use answers::Answer;
 pub use found::{Found, find};
+pub use header::{Code, Header};
 pub use kind::Kind;
 pub use question::{answer, answer_into};
 pub use records::{entry_of, read_owned};
+pub use responses::{Response, respond, respond_into};
 pub use rows::{Row, Rows};
+pub use sections::Sections;
 pub use sink::RowSink;
 pub use walker::Walker;
 pub use walks::{back, walk};

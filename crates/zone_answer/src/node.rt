@@ -1,7 +1,7 @@
 //! What answers for a name.
 
 ghost use Rattle.std.specs.Prelude.{◌≡◌, ◌≤◌, Some, length};
-ghost use Rattle.zone_answer.specs.Prelude.{key_of, most_item_octets, Version, node, IsNodeOf, own_node, IsApart, StandsOn};
+ghost use Rattle.zone_answer.specs.Prelude.{key_of, most_item_octets, Version, node, IsNodeOf, own_node, IsApart, Shows, ShowsSome, StandsOn};
 
 use crate::records::Held;
 use crate::walker::Walker;
@@ -65,5 +65,30 @@ pub fn absent_node<V: Reading>(
     match &encloser.star() {
         Some(star) => existing(version, walker, star, item),
         None => None,
+    }
+}
+
+/// What answers for a name, if anything does. It is read into a buffer. The walker's key becomes the name's.
+pub fn node<V: Reading>(
+    version: &mut V,
+    walker: &mut Walker,
+    owner: &Name,
+    item: &mut [u8],
+) -> Option<Held>
+    requires shown { ShowsSome (V.holds version.old) }
+    requires room { most_item_octets ≤ length item.old }
+    ensures same { version.new ≡ version.old }
+    ensures node { (zone : Version) → Shows (V.holds version.old) zone → IsNodeOf item.new (node zone owner.now) result }
+{
+    let _wire = owner.wire(); // for the proof
+    walker.key.set(owner);
+    version.restart(&mut walker.iter);
+    let met = version.reach(&mut walker.iter, &walker.key, &mut walker.above)?;
+    match met.difference {
+        Some(first) => absent_node(version, walker, owner, first.place, item),
+        None => {
+            let len = version.read(met.leaf, item);
+            Some(Held { name: *owner, len })
+        }
     }
 }
