@@ -216,8 +216,8 @@ pub(crate) fn full<N: Named, R: Wait>(
     let mut writer = workers.pop()?;
     let mut held = Vec::new(alloc);
     let (full, number) = fill_up(rt, alloc, &mut writer, &mut workers, &mut held, LARGE)?;
-    let told = full.free <= full.reserve
-        && full.left < full.needed
+    let told = full.request.free <= full.request.reserve
+        && full.request.left < full.request.needed
         && workers.is_empty()
         && full.kept.as_slice().len() == held.len()
         && number == 64;
@@ -235,8 +235,8 @@ const VERSION_CELLS: usize = 257;
 fn is_cramped(full: &Full) -> bool {
     let versions = full.kept.as_slice().len().saturating_add(1);
     let cells = versions.saturating_mul(VERSION_CELLS);
-    let others = (full.reserve as usize).saturating_add(8);
-    full.free <= full.reserve && full.left < full.needed && others.saturating_add(cells) >= 16
+    let others = (full.request.reserve as usize).saturating_add(8);
+    full.request.free <= full.request.reserve && full.request.left < full.request.needed && others.saturating_add(cells) >= 16
 }
 
 /// Each commit's version is held until there is no room. When they are released the same exchange is made.

@@ -1,5 +1,5 @@
 -- How a block ends, by what its transaction's calls say.
-use Rattle.std.proofs.Common.{◌≡◌, ◌∙◌, true, ℕ, ◌+◌, ◌*◌, arith, List, Option, Some, None, Result, Ok, Err, IfOk, length, refl, sym, ap, subst}
+use Rattle.std.proofs.Common.{◌≡◌, ◌∙◌, Bool, true, ℕ, ◌+◌, ◌*◌, arith, List, Option, Some, None, Result, Ok, Err, IfOk, length, refl, sym, ap, subst}
 use Rattle.std.specs.Prelude.{◌↔◌, OnErr, IsSome, IsSomeAnd, IfSome, IfErr, IsErr, slice_get}
 use Rattle.std.specs.Option.{ForSome}
 use Rattle.atomic_table.specs.Seated.{TableId}
@@ -27,28 +27,35 @@ use Rattle.qp_multi.specs.Drafts as drafts
 use Rattle.qp_multi.specs.Drafts.{Begins, IsBack, Works, working_set}
 use Rattle.chunk_usage.specs.Keeping.{kept_versions}
 use Rattle.qp_multi.specs.Keepings.{versions_in}
+use Rattle.qp_multi.specs.Kinds.{StartsAs}
+use Rattle.qp_multi.specs.Receipts.{Recycles}
 use Rattle.zone_edit.specs.Stores.{WorksOnSome}
 use Rattle.zone_edit.specs.Blocks.{Edited, EditsInOrder, Executes, done_of}
-use Rattle.zone_edit.specs.declared.applying.Halt.{Halt}
-use Rattle.zone_edit.specs.declared.applying.Halt.TheVariants as halts
+use Rattle.chunk_usage.specs.declared.space.Full.{Full as Request}
+use Rattle.zone_edit.specs.declared.refusal.EditRefusal.{EditRefusal}
+use Rattle.zone_edit.specs.declared.refusal.EditRefusal.TheVariants as refusals
 use Rattle.qp_multi.proofs.WorkLaws.{Both, both}
 use Rattle.zone_edit.proofs.EditLaws.{some_weaker}
 use Rattle.zone_edit.proofs.WayLaws.{some_in_order}
 use Rattle.job_commands.specs.Histories.{IsLawful, Setup, StandsAs}
+use Rattle.job_commands.specs.Weights.{CommittedAs, RanAs}
 use Rattle.job_commands.specs.Commands.{Transacts, Accepts, BlockRan, BlockWants, OpensAt, StoppedBy}
 use Rattle.job_commands.proofs.TransactLaws.{begun_some, lawful_block, commits_block, commits_grow, commits_version, back_grows, back_pass, back_version, memory_wants, full_wants, rolled_back, rule_broken, spent_block, full_block}
 
 abbrev Seat : Type 0
 Seat = PassSeat (List Entry) (List Operation)
 
-abbrev EditedOne : Name → Transaction → Result (Unit {0}) Halt → Draft → Draft → Type 0
+abbrev EditedOne : Name → Transaction → Result (Unit {0}) EditRefusal → Draft → Draft → Type 0
 EditedOne origin asked r = EditsInOrder origin (done_of asked.operations r) (Executes origin asked r)
 
 there_is : (P : Draft → Type 0) (o : Option Draft) (d : Draft) → o ≡ Some d → IfSome o P → P d
 there_is P o d is h = subst (λ (x : Option Draft). IfSome x P) is h
 
+there_and : (P : Draft → Type 0) (o : Option Draft) (d : Draft) → o ≡ Some d → IsSomeAnd o P → P d
+there_and P o d is h = subst (λ (x : Option Draft). IsSomeAnd x P) is h
+
 module _ (s : Setup) (asked : Transaction) (ends : Ending) (old : Known) (o : Outcome) (first second : Option Draft) (told : is_told old.seen.opening ≡ true) (opening : first_version old.seen ≡ s.opening) (begins : IsSomeAnd first (Begins IsLawful old)) where
-  abbrev Done : Result (Unit {0}) Halt → Type 0
+  abbrev Done : Result (Unit {0}) EditRefusal → Type 0
   Done r = Edited s.origin asked r first second
 
   pub commit_ran : (new : Known) (version : ℕ) → Done (Ok tt) → ends ≡ ending.Commit → IfSome second (λ d. drafts.Commits d.seat.place.me.0 d.log.operations new) → IfSome second (λ d. version ≡ d.seat.version + 1)
@@ -65,16 +72,16 @@ module _ (s : Setup) (asked : Transaction) (ends : Ending) (old : Known) (o : Ou
 
   -- the pass is back, and the block was on the base
   module _ (seat : Option Seat) (version : ℕ) (back : IfSome second (λ d. IsBack d.seat.place.me.0 seat)) (base : IfSome first (λ d. version ≡ length d.seat.place.me.0.seen.history)) (here : o.version ≡ version) where
-    abbrev Two : Result (Unit {0}) Halt → Type 0
+    abbrev Two : Result (Unit {0}) EditRefusal → Type 0
     Two r = Both (Begins IsLawful old) (EditedOne s.origin asked r) first second
 
-    two : (r : Result (Unit {0}) Halt) → Done r → Two r
+    two : (r : Result (Unit {0}) EditRefusal) → Done r → Two r
     two r edits = both (Begins IsLawful old) (EditedOne s.origin asked r) first second begins edits
 
-    known_back : (r : Result (Unit {0}) Halt) (x : Two r) → known_at seat ≡ pass_of x.after.seat.place.me.0
+    known_back : (r : Result (Unit {0}) EditRefusal) (x : Two r) → known_at seat ≡ pass_of x.after.seat.place.me.0
     known_back r x = (there_is (λ d. IsBack d.seat.place.me.0 seat) second x.after x.new_is back).1
 
-    ran : (r : Result (Unit {0}) Halt) (x : Two r) (e : Ended) → ended_view o.told ≡ e → Transacts s asked ends old (known_at seat) e → BlockRan s asked ends old (known_at seat) o
+    ran : (r : Result (Unit {0}) EditRefusal) (x : Two r) (e : Ended) → ended_view o.told ≡ e → Transacts s asked ends old (known_at seat) e → BlockRan s asked ends old (known_at seat) o
     ran r x e said t = record {
       grows = back_grows s asked old x.before x.after x.met told opening x.related.edits.known (known_at seat) (known_back r x);
       version = here ∙ back_version s asked old x.before x.after x.met told opening x.related.edits.known (known_at seat) (known_back r x) version (there_is (λ d. version ≡ length d.seat.place.me.0.seen.history) first x.before x.old_is base);
@@ -91,17 +98,17 @@ module _ (s : Setup) (asked : Transaction) (ends : Ending) (old : Known) (o : Ou
         let x = two (Ok tt) edits in
         ran (Ok tt) x (Refused Spent) said (spent_block s asked old x.before x.after x.met told opening x.related.edits.known (known_at seat) (known_back (Ok tt) x) ends is (there_is (λ d. d.seat.version ≡ last_version) second x.after x.new_is spent) x.related.edits.becomes)
 
-    pub refused_ran : (refusal : Refusal) → Done (Err (halts.Refused refusal)) → ended_view o.told ≡ Refused (Rule refusal) → BlockRan s asked ends old (known_at seat) o
+    pub refused_ran : (refusal : Refusal) → Done (Err (refusals.Refused refusal)) → ended_view o.told ≡ Refused (Rule refusal) → BlockRan s asked ends old (known_at seat) o
     refused_ran refusal edits said =
-        let x = two (Err (halts.Refused refusal)) edits in
-        ran (Err (halts.Refused refusal)) x (Refused (Rule refusal)) said (rule_broken s asked old x.before x.after x.met told opening x.related.edits.known (known_at seat) (known_back (Err (halts.Refused refusal)) x) ends refusal x.related.edits.becomes)
+        let x = two (Err (refusals.Refused refusal)) edits in
+        ran (Err (refusals.Refused refusal)) x (Refused (Rule refusal)) said (rule_broken s asked old x.before x.after x.met told opening x.related.edits.known (known_at seat) (known_back (Err (refusals.Refused refusal)) x) ends refusal x.related.edits.becomes)
 
-    pub full_ran : (operation : ℕ) (kept : Versions) → IfSome second (λ d. versions_in kept ≡ kept_versions d.usage) → Done (Err (halts.Full operation)) → IfSome second (λ d. s.chunks ≡ length d.usage.given) → IfSome first (λ d. s.passes ≡ d.seat.passes)
+    pub full_ran : (operation : ℕ) (request : Request) (kept : Versions) → IfSome second (λ d. versions_in kept ≡ kept_versions d.usage) → Done (Err (refusals.Full operation request)) → IfSome second (λ d. s.chunks ≡ length d.usage.given) → IfSome first (λ d. s.passes ≡ d.seat.passes)
         → ended_view o.told ≡ Refused (Full operation (versions_in kept)) → BlockRan s asked ends old (known_at seat) o
-    full_ran operation kept same edits chunks passes said =
-        let x = two (Err (halts.Full operation)) edits in
-        ran (Err (halts.Full operation)) x (Refused (Full operation (versions_in kept))) said
-        (full_block s asked old x.before x.after x.met told opening x.related.edits.known (known_at seat) (known_back (Err (halts.Full operation)) x) ends operation kept (there_is (λ d. versions_in kept ≡ kept_versions d.usage) second x.after x.new_is same)
+    full_ran operation request kept same edits chunks passes said =
+        let x = two (Err (refusals.Full operation request)) edits in
+        ran (Err (refusals.Full operation request)) x (Refused (Full operation (versions_in kept))) said
+        (full_block s asked old x.before x.after x.met told opening x.related.edits.known (known_at seat) (known_back (Err (refusals.Full operation request)) x) ends operation request kept (there_is (λ d. versions_in kept ≡ kept_versions d.usage) second x.after x.new_is same)
         (there_is (λ d. s.chunks ≡ length d.usage.given) second x.after x.new_is chunks)
         (there_is (λ d. s.passes ≡ d.seat.passes) first x.before x.old_is passes ∙ sym x.related.edits.passes) x.related)
 
@@ -122,41 +129,64 @@ module _ (s : Setup) (asked : Transaction) (ends : Ending) (old : Known) (o : Ou
 
 -- its asked stopped
 pub stopped_ran : (s : Setup) (asked : Transaction) (ends : Ending) (old : Known) (first second : Option Draft) → is_told old.seen.opening ≡ true → first_version old.seen ≡ s.opening → IsSomeAnd first (Begins IsLawful old)
-    → (seat : Option Seat) (version : ℕ) (halt : Halt) (kept : Versions) (r : Result Outcome AllocError) → IfSome second (λ d. versions_in kept ≡ kept_versions d.usage) → IfSome second (λ d. IsBack d.seat.place.me.0 seat) → IfSome first (λ d. version ≡ length d.seat.place.me.0.seen.history) → Edited s.origin asked (Err halt) first second
-    → IfSome second (λ d. s.chunks ≡ length d.usage.given) → IfSome first (λ d. s.passes ≡ d.seat.passes) → StoppedBy halt kept version r → IfOk r (BlockRan s asked ends old (known_at seat))
-stopped_ran s asked ends old first second told opening begins seat version halts.Memory kept (Ok o) same back base edits chunks passes stopped = absurd cc
-stopped_ran s asked ends old first second told opening begins seat version halts.Memory kept (Err e) same back base edits chunks passes stopped = tt
-stopped_ran s asked ends old first second told opening begins seat version (halts.Refused refusal) kept (Ok o) same back base edits chunks passes stopped =
+    → (seat : Option Seat) (version : ℕ) (refusal : EditRefusal) (kept : Versions) (r : Result Outcome AllocError) → IfSome second (λ d. versions_in kept ≡ kept_versions d.usage) → IfSome second (λ d. IsBack d.seat.place.me.0 seat) → IfSome first (λ d. version ≡ length d.seat.place.me.0.seen.history) → Edited s.origin asked (Err refusal) first second
+    → IfSome second (λ d. s.chunks ≡ length d.usage.given) → IfSome first (λ d. s.passes ≡ d.seat.passes) → StoppedBy refusal kept version r → IfOk r (BlockRan s asked ends old (known_at seat))
+stopped_ran s asked ends old first second told opening begins seat version refusals.Memory kept (Ok o) same back base edits chunks passes stopped = absurd cc
+stopped_ran s asked ends old first second told opening begins seat version refusals.Memory kept (Err e) same back base edits chunks passes stopped = tt
+stopped_ran s asked ends old first second told opening begins seat version (refusals.Refused refusal) kept (Ok o) same back base edits chunks passes stopped =
     refused_ran s asked ends old o first second told opening begins seat version back base stopped.1 refusal edits stopped.0
-stopped_ran s asked ends old first second told opening begins seat version (halts.Refused refusal) kept (Err e) same back base edits chunks passes stopped = absurd stopped
-stopped_ran s asked ends old first second told opening begins seat version (halts.Full operation) kept (Ok o) same back base edits chunks passes stopped =
-    full_ran s asked ends old o first second told opening begins seat version back base stopped.1 operation kept same edits chunks passes stopped.0
-stopped_ran s asked ends old first second told opening begins seat version (halts.Full operation) kept (Err e) same back base edits chunks passes stopped = tt
+stopped_ran s asked ends old first second told opening begins seat version (refusals.Refused refusal) kept (Err e) same back base edits chunks passes stopped = absurd stopped
+stopped_ran s asked ends old first second told opening begins seat version (refusals.Full operation request) kept (Ok o) same back base edits chunks passes stopped =
+    full_ran s asked ends old o first second told opening begins seat version back base stopped.1 operation request kept same edits chunks passes stopped.0
+stopped_ran s asked ends old first second told opening begins seat version (refusals.Full operation request) kept (Err e) same back base edits chunks passes stopped = tt
+
+-- it ran as a kind of transaction
+
+pub committed_as : (origin : Name) (asked : Transaction) (own : Bool) (most : ℕ) (old new now : Known) (o : Outcome) (first second : Option Draft) → now ≡ new → IsSomeAnd first (Begins IsLawful old) → IsSomeAnd first (λ d. StartsAs own d.usage) → Edited origin asked (Ok tt) first second
+    → (r : Result Receipt NoNumber) → IfOk r (λ t. IfSome second (λ d. Recycles most d new t)) → IfErr r (λ t. (o.version ≡ t.version) × (ended_view o.told ≡ Refused Spent)) → RanAs own most old now o
+committed_as origin asked own most old new now o first second same begins starts edits (Ok t) recycles lost made =
+    let x = both (Begins IsLawful old) (EditedOne origin asked (Ok tt)) first second begins edits in
+    subst (CommittedAs own most old) (sym same) (record {
+      first = x.before;
+      begins = x.met;
+      starts = there_and (λ d. StartsAs own d.usage) first x.before x.old_is starts;
+      last = x.after;
+      goes_on = x.related.edits.known;
+      receipt = t;
+      recycles = there_is (λ d. Recycles most d new t) second x.after x.new_is recycles;
+    })
+committed_as origin asked own most old new now o first second same begins starts edits (Err t) recycles lost made = absurd (let told = sym lost.1 ∙ made in cc)
+
+pub stopped_as : (own : Bool) (most : ℕ) (old new : Known) (refusal : EditRefusal) (kept : Versions) (version : ℕ) (r : Result Outcome AllocError) → StoppedBy refusal kept version r → IfOk r (RanAs own most old new)
+stopped_as own most old new refusal kept version (Err e) stopped = tt
+stopped_as own most old new refusals.Memory kept version (Ok o) stopped = absurd cc
+stopped_as own most old new (refusals.Refused rule) kept version (Ok o) stopped = λ made. absurd (let told = sym stopped.0 ∙ made in cc)
+stopped_as own most old new (refusals.Full operation request) kept version (Ok o) stopped = λ made. absurd (let told = sym stopped.0 ∙ made in cc)
 
 -- it stopped, and memory was wanting
 module _ (s : Setup) (asked : Transaction) (old : Known) (first second : Option Draft) (told : is_told old.seen.opening ≡ true) (opening : first_version old.seen ≡ s.opening) (begins : IsSomeAnd first (Begins IsLawful old)) (seat : Option Seat) (back : IfSome second (λ d. IsBack d.seat.place.me.0 seat)) where
-  abbrev Drafts : Halt → Type 0
-  Drafts halt = Both (Begins IsLawful old) (EditedOne s.origin asked (Err halt)) first second
+  abbrev Drafts : EditRefusal → Type 0
+  Drafts refusal = Both (Begins IsLawful old) (EditedOne s.origin asked (Err refusal)) first second
 
-  back_from : (halt : Halt) (x : Drafts halt) → known_at seat ≡ pass_of x.after.seat.place.me.0
-  back_from halt x = (there_is (λ d. IsBack d.seat.place.me.0 seat) second x.after x.new_is back).1
+  back_from : (refusal : EditRefusal) (x : Drafts refusal) → known_at seat ≡ pass_of x.after.seat.place.me.0
+  back_from refusal x = (there_is (λ d. IsBack d.seat.place.me.0 seat) second x.after x.new_is back).1
 
-  wants : (halt : Halt) (x : Drafts halt) → ((zone : Version) → StandsAs (version_seen (known_at seat).seen) zone → Accepts s.origin asked zone) → BlockWants s asked old (known_at seat)
-  wants halt x accepts = record {
-    grows = back_grows s asked old x.before x.after x.met told opening x.related.edits.known (known_at seat) (back_from halt x);
-    pass = back_pass s asked old x.before x.after x.met told opening x.related.edits.known (known_at seat) (back_from halt x);
+  wants : (refusal : EditRefusal) (x : Drafts refusal) → ((zone : Version) → StandsAs (version_seen (known_at seat).seen) zone → Accepts s.origin asked zone) → BlockWants s asked old (known_at seat)
+  wants refusal x accepts = record {
+    grows = back_grows s asked old x.before x.after x.met told opening x.related.edits.known (known_at seat) (back_from refusal x);
+    pass = back_pass s asked old x.before x.after x.met told opening x.related.edits.known (known_at seat) (back_from refusal x);
     accepts = accepts;
   }
 
-  pub stopped_wants : (version : ℕ) (halt : Halt) (kept : Versions) (r : Result Outcome AllocError) → Edited s.origin asked (Err halt) first second → StoppedBy halt kept version r → OnErr r (BlockWants s asked old (known_at seat))
-  stopped_wants version halt kept (Ok o) edits stopped = tt
-  stopped_wants version halts.Memory kept (Err e) edits stopped =
-      let x = both (Begins IsLawful old) (EditedOne s.origin asked (Err halts.Memory)) first second begins edits in
-      wants halts.Memory x (memory_wants s asked old x.before x.after x.met told opening x.related.edits.known (known_at seat) (back_from halts.Memory x) x.related.edits.becomes)
-  stopped_wants version (halts.Refused refusal) kept (Err e) edits stopped = absurd stopped
-  stopped_wants version (halts.Full operation) kept (Err e) edits stopped =
-      let x = both (Begins IsLawful old) (EditedOne s.origin asked (Err (halts.Full operation))) first second begins edits in
-      wants (halts.Full operation) x (full_wants s asked old x.before x.after x.met told opening x.related.edits.known (known_at seat) (back_from (halts.Full operation) x) operation x.related.edits.becomes)
+  pub stopped_wants : (version : ℕ) (refusal : EditRefusal) (kept : Versions) (r : Result Outcome AllocError) → Edited s.origin asked (Err refusal) first second → StoppedBy refusal kept version r → OnErr r (BlockWants s asked old (known_at seat))
+  stopped_wants version refusal kept (Ok o) edits stopped = tt
+  stopped_wants version refusals.Memory kept (Err e) edits stopped =
+      let x = both (Begins IsLawful old) (EditedOne s.origin asked (Err refusals.Memory)) first second begins edits in
+      wants refusals.Memory x (memory_wants s asked old x.before x.after x.met told opening x.related.edits.known (known_at seat) (back_from refusals.Memory x) x.related.edits.becomes)
+  stopped_wants version (refusals.Refused refusal) kept (Err e) edits stopped = absurd stopped
+  stopped_wants version (refusals.Full operation request) kept (Err e) edits stopped =
+      let x = both (Begins IsLawful old) (EditedOne s.origin asked (Err (refusals.Full operation request))) first second begins edits in
+      wants (refusals.Full operation request) x (full_wants s asked old x.before x.after x.met told opening x.related.edits.known (known_at seat) (back_from (refusals.Full operation request) x) operation request x.related.edits.becomes)
 
 -- the same of a pass that is known by another name
 
@@ -195,7 +225,7 @@ module _ (old : Known) (first : Option Draft) (begins : IsSomeAnd first (Begins 
         subst (λ (o : Option Draft). IsSomeAnd o (λ d. IsLawful (first_version d.seat.place.me.0.seen) (working_set d))) (sym x.new_is) (lawful_block origin asked old x.before x.after x.met told opens said x.related.edits.known x.related.edits.becomes)
 
 -- what was edited, in the words of a setup
-pub edits_as : (origin origin' : Name) (asked asked' : Transaction) (r : Result (Unit {0}) Halt) (first second : Option Draft) → origin' ≡ origin → asked ≡ asked' → Edited origin asked r first second → Edited origin' asked' r first second
+pub edits_as : (origin origin' : Name) (asked asked' : Transaction) (r : Result (Unit {0}) EditRefusal) (first second : Option Draft) → origin' ≡ origin → asked ≡ asked' → Edited origin asked r first second → Edited origin' asked' r first second
 edits_as origin origin' asked asked' r first second e f edits =
     subst (λ (o : Name). Edited o asked' r first second) (sym e) (subst (λ (os : Transaction). Edited origin os r first second) f edits)
 

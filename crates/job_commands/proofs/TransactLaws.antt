@@ -37,14 +37,15 @@ use Rattle.qp_multi.specs.Keepings.{GoesOn, versions_in}
 use Rattle.zone_edit.specs.Stores.{WorksOn, WorksOnSome}
 use Rattle.zone_edit.specs.Ways.{MadeOnTheWay}
 use Rattle.zone_edit.specs.Blocks.{EditsInOrder, Executes, IsFullAt}
-use Rattle.zone_edit.proofs.ApplyLaws.{next_applied}
+use Rattle.zone_edit.proofs.ApplyLaws.{next_applied, taken}
 use Rattle.trie_model.specs.Capacity.{is_roomy}
 use Rattle.chunk_usage.specs.Keeping.{kept_versions}
 use Rattle.pin_core.proofs.Lists.{contains_cases}
 use Rattle.qp_multi.specs.Capacity.{BoundsHistory}
 use Rattle.qp_multi.specs.Crowds.{BoundsWays}
 use Rattle.qp_multi.proofs.GoesLaws.{base_goes_on}
-use Rattle.zone_edit.specs.declared.applying.Halt.TheVariants as halts
+use Rattle.chunk_usage.specs.declared.space.Full.{Full as Request}
+use Rattle.zone_edit.specs.declared.refusal.EditRefusal.TheVariants as refusals
 use Rattle.job_commands.specs.Histories.{Setup, BeginsAt, Commit, Entries, IsLawful, StandsAs, AreVersions, Deeds, Explains, IsAsked, index_at, judged_by}
 use Rattle.job_commands.specs.Commands.{Accepts, Commits, OpensAt}
 use Rattle.job_commands.proofs.HistoryLaws.{begins_same, begins_length, begins_more, index_front, index_last, last_stands, opened_same, part_more}
@@ -129,12 +130,6 @@ commit_in (y ∷ history) x c = ⊎_elim
   where
     further : CommitIn history x → CommitIn (y ∷ history) x
     further r = record { before = y ∷ r.before; begins = (r.begins.0, ap (λ (h : List Commit). y ∷ h) r.begins.1) }
-
--- the operations in front of one
-taken : (front : List Said) (one : Said) (back all : List Said) (number : ℕ) → all ≡ front ++ one ∷ back → number ≡ length front + 1 → take (number - 1) all ≡ front
-taken front one back all number is place =
-    let before : number - 1 ≡ length front = omega (arith, place) in
-    ap (take (number - 1)) is ∙ ap (λ (n : ℕ). take n (front ++ one ∷ back)) before ∙ take-append-le (length front) front (one ∷ back) (omega arith) ∙ take_all (length front) front (omega arith)
 
 module _ (s : Setup) (asked : Transaction) (old : Known) (d e : Draft) (b : Begins IsLawful old d) (told : is_told old.seen.opening ≡ true) (opening : first_version old.seen ≡ s.opening) (known : GoesOn d.seat.place.me.0 e.seat.place.me.0) where
   base_opening : first_version d.seat.place.me.0.seen ≡ s.opening
@@ -250,7 +245,7 @@ module _ (s : Setup) (asked : Transaction) (old : Known) (d e : Draft) (b : Begi
     RefusedBlock ends cause = (new.pass ≡ old.pass)
         × ((set : ℕ → Version) (deeds : Deeds) → AreVersions s new.seen.history set → Explains s deeds new.seen → Causes (judged_by s set deeds) asked ends (length new.seen.history) cause)
 
-    pub rule_broken : (ends : Ending) (refusal : Refusal) → ((version : Version) → WorksOn d version → Executes s.origin asked (Err (halts.Refused refusal)) version e) → RefusedBlock ends (Rule refusal)
+    pub rule_broken : (ends : Ending) (refusal : Refusal) → ((version : Version) → WorksOn d version → Executes s.origin asked (Err (refusals.Refused refusal)) version e) → RefusedBlock ends (Rule refusal)
     rule_broken ends refusal becomes = (back_pass, λ set deeds are explains. becomes (set (length new.seen.history)) (works_set set (length new.seen.history) refl are))
 
     -- ---- want of memory
@@ -258,12 +253,12 @@ module _ (s : Setup) (asked : Transaction) (old : Known) (d e : Draft) (b : Begi
     accepted : (zone : Version) (front : List Said) (one : Said) (back : List Said) → all_met zone asked.needs ≡ true → asked.operations ≡ front ++ one ∷ back → (working next : Version) → all_applied s.origin front zone ≡ Ok working → apply s.origin one working ≡ Ok next → Accepts s.origin asked zone
     accepted zone front one back met all working next before accepts = record { met = met; front = front; one = one; back = back; all = all; next = next; made = next_applied s.origin front one zone working next before accepts }
 
-    pub memory_wants : ((version : Version) → WorksOn d version → Executes s.origin asked (Err halts.Memory) version e) → (zone : Version) → StandsAs (version_seen new.seen) zone → Accepts s.origin asked zone
+    pub memory_wants : ((version : Version) → WorksOn d version → Executes s.origin asked (Err refusals.Memory) version e) → (zone : Version) → StandsAs (version_seen new.seen) zone → Accepts s.origin asked zone
     memory_wants becomes zone stands =
         let w = becomes zone (works_back zone stands) in accepted zone w.1.front w.1.wanted w.1.back w.0 w.1.all w.1.working w.1.next w.1.before w.1.accepted
 
-    pub full_wants : (operation : ℕ) → ((version : Version) → WorksOn d version → Executes s.origin asked (Err (halts.Full operation)) version e) → (zone : Version) → StandsAs (version_seen new.seen) zone → Accepts s.origin asked zone
-    full_wants operation becomes zone stands =
+    pub full_wants : (operation : ℕ) (request : Request) → ((version : Version) → WorksOn d version → Executes s.origin asked (Err (refusals.Full operation request)) version e) → (zone : Version) → StandsAs (version_seen new.seen) zone → Accepts s.origin asked zone
+    full_wants operation request becomes zone stands =
         let w = becomes zone (works_back zone stands) in accepted zone w.1.front w.1.refused w.1.back w.0 w.1.all w.1.working w.1.next w.1.before w.1.accepted
 
     pub spent_block : (ends : Ending) → ends ≡ ending.Commit → e.seat.version ≡ last_version → ((version : Version) → WorksOn d version → Executes s.origin asked (Ok tt) version e) → RefusedBlock ends Spent
@@ -330,9 +325,9 @@ module _ (s : Setup) (asked : Transaction) (old : Known) (d e : Draft) (b : Begi
         let m = ways (set (length new.seen.history)) (works_set set (length new.seen.history) refl are) n begun in
         subst (λ (es : Entries). cells es ≤ most) (sym m.entries) (bounds.sets m.front m.back m.all m.working m.made)
 
-    pub full_block : (ends : Ending) (operation : ℕ) (kept : Versions) → versions_in kept ≡ kept_versions e.usage → s.chunks ≡ length e.usage.given → s.passes ≡ e.seat.passes
-        → EditsInOrder s.origin (take (operation - 1) asked.operations) (Executes s.origin asked (Err (halts.Full operation))) d e → RefusedBlock ends (Full operation (versions_in kept))
-    full_block ends operation kept told chunks passes r = (back_pass, λ set deeds are explains. cause set deeds are explains)
+    pub full_block : (ends : Ending) (operation : ℕ) (request : Request) (kept : Versions) → versions_in kept ≡ kept_versions e.usage → s.chunks ≡ length e.usage.given → s.passes ≡ e.seat.passes
+        → EditsInOrder s.origin (take (operation - 1) asked.operations) (Executes s.origin asked (Err (refusals.Full operation request))) d e → RefusedBlock ends (Full operation (versions_in kept))
+    full_block ends operation request kept told chunks passes r = (back_pass, λ set deeds are explains. cause set deeds are explains)
       where
         base_is : e.seat.version ≡ length new.seen.history
         base_is = e.seat.version_is ∙ sym (ap (λ (v : Known). length v.seen.history) back)
@@ -340,7 +335,7 @@ module _ (s : Setup) (asked : Transaction) (old : Known) (d e : Draft) (b : Begi
         cause : (set : ℕ → Version) (deeds : Deeds) → AreVersions s new.seen.history set → Explains s deeds new.seen → FullCause (judged_by s set deeds) asked (length new.seen.history) operation (versions_in kept)
         cause set deeds are explains =
             let stopped = r.edits.becomes (set (length new.seen.history)) (works_set set (length new.seen.history) refl are) in
-            let at = subst (IsFullAt e s.origin asked.operations (set (length new.seen.history)) operation) (sym told) stopped.1 in
+            let at = subst (IsFullAt e s.origin asked.operations (set (length new.seen.history)) operation request) (sym told) stopped.1 in
             let last : versions_in kept ≡ at.full.ends.0 ++ length new.seen.history ∷ [] = at.full.ends.1 ∙ ap (λ (n : ℕ). at.full.ends.0 ++ n ∷ []) base_is in
             let rising : Rising (versions_in kept) = rising_of (versions_in kept) kept.rising in
             let below = front_below at.full.ends.0 (length new.seen.history) (subst Rising last rising) in

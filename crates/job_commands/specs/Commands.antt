@@ -26,8 +26,8 @@ use Rattle.qp_multi.specs.declared.pass.Pass.{Pass}
 use Rattle.qp_multi.specs.Keepings.{versions_in}
 use Rattle.qp_multi.specs.Operations.{applied}
 use Rattle.qp_multi.specs.Passes.{Known, first_version, known_at, version_seen}
-use Rattle.zone_edit.specs.declared.applying.Halt.{Halt}
-use Rattle.zone_edit.specs.declared.applying.Halt.TheVariants as halts
+use Rattle.zone_edit.specs.declared.refusal.EditRefusal.{EditRefusal}
+use Rattle.zone_edit.specs.declared.refusal.EditRefusal.TheVariants as refusals
 use Rattle.job_commands.specs.Histories.{Setup, Commit as Commit', BeginsAt, IsAsked, StandsAs, AreVersions, Deeds, Explains, judged_by}
 
 -- the seat of a pass
@@ -116,8 +116,8 @@ pub record BlockWants (s : Setup) (asked : Transaction) (old new : Known) : Type
   pub pass : new.pass ≡ old.pass
   pub accepts : (zone : Version) → StandsAs (version_seen new.seen) zone → Accepts s.origin asked zone
 
--- The block is refused for the cause of the halt, while these versions are kept. Only the list of these may want memory.
-abbrev pub StoppedBy : Halt → Versions → ℕ → Result Outcome AllocError → Type 0
-StoppedBy halts.Memory kept version result = IsErr result
-StoppedBy (halts.Refused refusal) kept version result = IsOkAnd result (λ o. (ended_view o.told ≡ Refused (Rule refusal)) × (o.version ≡ version))
-StoppedBy (halts.Full operation) kept version result = IfOk result (λ o. (ended_view o.told ≡ Refused (Full operation (versions_in kept))) × (o.version ≡ version))
+-- The block is refused for the cause of the refusal, while these versions are kept. Only the list of these may want memory.
+abbrev pub StoppedBy : EditRefusal → Versions → ℕ → Result Outcome AllocError → Type 0
+StoppedBy refusals.Memory kept version result = IsErr result
+StoppedBy (refusals.Refused refusal) kept version result = IsOkAnd result (λ o. (ended_view o.told ≡ Refused (Rule refusal)) × (o.version ≡ version))
+StoppedBy (refusals.Full operation request) kept version result = IfOk result (λ o. (ended_view o.told ≡ Refused (Full operation (versions_in kept))) × (o.version ≡ version))

@@ -22,5 +22,5 @@ pub use Rattle.job_commands.specs.Histories.{Entries, IsZone, Setup, StandsAs}
 pub use Rattle.job_commands.specs.Runs.{IsRun}
 pub use Rattle.job_commands.specs.Stations.{IsHeld, IsPlaced, Pinned, holder_view, station}
 pub use Rattle.job_commands.specs.Steps.{IsUnder, MovedAt, Step}
-pub use Rattle.job_commands.specs.Weights.{IsOfWeight}
+pub use Rattle.job_commands.specs.Weights.{RanAs, RanByWeight}
 pub use Rattle.job_commands.specs.Works.{AreNew, Begins, IsNew, Numbers}

@@ -1,7 +1,7 @@
 //! Commands that need no snapshot. One pass of the index is enough for them.
 ghost use Rattle.std.specs.Prelude.{◌≡◌, IsSome, IfOk, Option};
 ghost use Rattle.job_commands.specs.Prelude.{NeedsNoSnapshot, command_view, AllAsked, known_at, Setup, IsSetup};
-ghost use Rattle.job_commands.specs.Prelude.{OpensAt, Seat, IsUnder, Step, Pinned, IsPlaced, holder_view, station};
+ghost use Rattle.job_commands.specs.Prelude.{OpensAt, RanByWeight, Seat, IsUnder, Step, Pinned, IsPlaced, holder_view, station};
 
 use crate::asking::run_question;
 use crate::compactions::run_compaction;
@@ -34,6 +34,8 @@ pub fn run_alone<R: Wait, N: Named>(
     ensures steps { (s : Setup) → IsSetup s origin.now index.now.shared.table.shared.key (known_at pass.old.seat)
         → (spare : Option (Option Seat)) (held : Option Pinned) → IsPlaced spare held → IsUnder (known_at pass.old.seat) (holder_view spare held)
         → IfOk result (λ o. Step s (command_view command.now) o (station pass.old.seat spare held) (station pass.new.seat spare held)) }
+    ensures weight { (block : _) → command.now ≡ Command.Block block
+        → IfOk result (RanByWeight block.weight (known_at pass.old.seat) (known_at pass.new.seat)) }
 {
     match command {
         Command::Ask(question) => run_question(alloc, origin, index, pass, question, room),

@@ -1,16 +1,18 @@
 //! Transactions.
 ghost use Rattle.std.specs.Prelude.{◌≡◌, IsSome, IsSomeAnd, IfOk, IfErr, OnErr};
 ghost use Rattle.job_commands.specs.Prelude.{Committed, Refused, NoNumber, ended_view, EndsBlock, asked_view, AllSaid, known_at, versions_in};
-ghost use Rattle.job_commands.specs.Prelude.{WorksOnSome, IsOfTheSame, Edited, Setup, IsSetup, BlockRan, BlockWants, OpensAt, StoppedBy, IsOfWeight};
+ghost use Rattle.job_commands.specs.Prelude.{Edited, IsOfTheSame, WorksOnSome, Setup, IsSetup, BlockRan, BlockWants, OpensAt, RanAs, RanByWeight, StoppedBy};
 
 use crate::law::ZoneLaw;
 use dns_name::Name;
 use job_model::{Ending, Weight};
 use job_script::{Block, Cause, Outcome, Told};
-use qp_multi::{Index, Locked, Named, Pass, Receipt, Spent, Transaction, Versions};
+use qp_multi::{
+    Heavy, Index, Kind, Light, Locked, Named, Pass, Receipt, Spent, Transaction, Versions,
+};
 use std::alloc::{AllocError, Global};
 use std::sync::Wait;
-use zone_edit::{Halt, ItemBuffers, execute};
+use zone_edit::{EditRefusal, ItemBuffers, execute};
 
 // The kept versions, as an outcome has them.
 fn kept_list(alloc: Global, kept: &Versions) -> Result<Vec<u64>, AllocError>
@@ -31,14 +33,19 @@ fn refused(version: u64, cause: Cause) -> Outcome
 }
 
 // How a block ends whose operations stopped, while these versions are kept. Of these a list is made where there is no room.
-fn stopped(alloc: Global, version: u64, halt: Halt, kept: &Versions) -> Result<Outcome, AllocError>
-    ensures stopped { StoppedBy halt kept.now version result }
+fn stopped(
+    alloc: Global,
+    version: u64,
+    refusal: EditRefusal,
+    kept: &Versions,
+) -> Result<Outcome, AllocError>
+    ensures stopped { StoppedBy refusal kept.now version result }
     ensures ends { IfOk result (λ o. EndsBlock o.told) }
 {
-    match halt {
-        Halt::Memory => Err(AllocError),
-        Halt::Refused(refusal) => Ok(refused(version, Cause::Rule(refusal))),
-        Halt::Full { operation } => {
+    match refusal {
+        EditRefusal::Memory => Err(AllocError),
+        EditRefusal::Refused(rule) => Ok(refused(version, Cause::Rule(rule))),
+        EditRefusal::Full { operation, .. } => {
             let kept = kept_list(alloc, kept)?;
             Ok(refused(version, Cause::Full { operation, kept }))
         }
@@ -63,17 +70,15 @@ fn committed(receipt: Result<Receipt, Spent>) -> Outcome
     }
 }
 
-// Makes a block's changes in a transaction that began as its weight says: a heavy block's cells begin a chunk of their own, and a
-// light one's go on in the bump chunk.
+// Makes a block's changes in a transaction.
 fn edit<N: Named, K>(
     alloc: Global,
     origin: &Name,
     transaction: &mut Transaction<'_, '_, ZoneLaw, N, K>,
     block: &Block,
     buffers: &mut ItemBuffers,
-) -> Result<(), Halt>
-    requires works { IsSomeAnd transaction.old.locked.now.draft WorksOnSome }
-    requires weight { IsSomeAnd transaction.old.locked.now.draft (IsOfWeight block.now.weight) }
+) -> Result<(), EditRefusal>
+    requires { IsSomeAnd transaction.old.locked.now.draft WorksOnSome }
     ensures same_reference { IsOfTheSame transaction.old transaction.new }
     ensures place { transaction.new.locked.now.place ≡ transaction.old.locked.now.place }
     ensures executes { Edited origin.now (asked_view block.now) result transaction.old.locked.now.draft transaction.new.locked.now.draft }
@@ -88,8 +93,8 @@ fn edit<N: Named, K>(
     )
 }
 
-// Runs a block as a light transaction, by way of buffers for items.
-fn write_block<R: Wait, N: Named>(
+// Runs a block as a transaction of a kind, by way of buffers for items.
+fn run_as<K: Kind, R: Wait, N: Named>(
     rt: &R,
     alloc: Global,
     origin: &Name,
@@ -100,7 +105,6 @@ fn write_block<R: Wait, N: Named>(
 ) -> Result<Outcome, AllocError>
     requires here { IsSome pass.old.seat }
     requires place { pass.old.place ≡ index.now.place }
-    requires light { block.now.weight ≡ Weight.Light }
     requires opens { OpensAt origin.now (known_at pass.old.seat) }
     requires said { AllSaid origin.now (asked_view block.now) }
     ensures here { IsSome pass.new.seat }
@@ -110,60 +114,20 @@ fn write_block<R: Wait, N: Named>(
         → IfOk result (BlockRan s (asked_view block.now) block.now.ending (known_at pass.old.seat) (known_at pass.new.seat)) }
     ensures wants { (s : Setup) → IsSetup s origin.now index.now.shared.table.shared.key (known_at pass.old.seat)
         → OnErr result (BlockWants s (asked_view block.now) (known_at pass.old.seat) (known_at pass.new.seat)) }
+    ensures kind { IfOk result (RanAs K.OWN_CHUNK K.MOST_SPARSE (known_at pass.old.seat) (known_at pass.new.seat)) }
 {
     let mut locked = Locked::of(index);
-    let mut write = index.write(rt, &mut locked, pass);
-    let version = write.version();
-    if let Err(halt) = edit(alloc, origin, &mut write, block, buffers) {
-        return stopped(alloc, version, halt, &write.kept());
+    let mut transaction = index.begin::<K, R>(rt, &mut locked, pass);
+    let version = transaction.version();
+    if let Err(refusal) = edit(alloc, origin, &mut transaction, block, buffers) {
+        return stopped(alloc, version, refusal, &transaction.kept());
     }
     match block.ending {
-        Ending::Commit => Ok(committed(write.commit())),
+        Ending::Commit => Ok(committed(transaction.commit())),
         Ending::Rollback => Ok(Outcome {
             version,
             told: Told::RolledBack,
         }),
-    }
-}
-
-// Runs a block as a heavy transaction.
-fn update_block<R: Wait, N: Named>(
-    rt: &R,
-    alloc: Global,
-    origin: &Name,
-    index: &Index<ZoneLaw, N>,
-    pass: &mut Pass<N>,
-    block: &Block,
-    buffers: &mut ItemBuffers,
-) -> Result<Outcome, AllocError>
-    requires here { IsSome pass.old.seat }
-    requires place { pass.old.place ≡ index.now.place }
-    requires heavy { block.now.weight ≡ Weight.Heavy }
-    requires opens { OpensAt origin.now (known_at pass.old.seat) }
-    requires said { AllSaid origin.now (asked_view block.now) }
-    ensures here { IsSome pass.new.seat }
-    ensures place { pass.new.place ≡ pass.old.place }
-    ensures ends { IfOk result (λ o. EndsBlock o.told) }
-    ensures ran { (s : Setup) → IsSetup s origin.now index.now.shared.table.shared.key (known_at pass.old.seat)
-        → IfOk result (BlockRan s (asked_view block.now) block.now.ending (known_at pass.old.seat) (known_at pass.new.seat)) }
-    ensures wants { (s : Setup) → IsSetup s origin.now index.now.shared.table.shared.key (known_at pass.old.seat)
-        → OnErr result (BlockWants s (asked_view block.now) (known_at pass.old.seat) (known_at pass.new.seat)) }
-{
-    let mut locked = Locked::of(index);
-    let mut update = index.update(rt, &mut locked, pass);
-    let version = update.version();
-    if let Err(halt) = edit(alloc, origin, &mut update, block, buffers) {
-        return stopped(alloc, version, halt, &update.kept());
-    }
-    match block.ending {
-        Ending::Commit => Ok(committed(update.commit())),
-        Ending::Rollback => {
-            update.rollback();
-            Ok(Outcome {
-                version,
-                told: Told::RolledBack,
-            })
-        }
     }
 }
 
@@ -189,9 +153,10 @@ pub fn run_block<R: Wait, N: Named>(
         → IfOk result (BlockRan s (asked_view block.now) block.now.ending (known_at pass.old.seat) (known_at pass.new.seat)) }
     ensures wants { (s : Setup) → IsSetup s origin.now index.now.shared.table.shared.key (known_at pass.old.seat)
         → OnErr result (BlockWants s (asked_view block.now) (known_at pass.old.seat) (known_at pass.new.seat)) }
+    ensures weight { IfOk result (RanByWeight block.now.weight (known_at pass.old.seat) (known_at pass.new.seat)) }
 {
     match block.weight {
-        Weight::Light => write_block(rt, alloc, origin, index, pass, block, buffers),
-        Weight::Heavy => update_block(rt, alloc, origin, index, pass, block, buffers),
+        Weight::Light => run_as::<Light, R, N>(rt, alloc, origin, index, pass, block, buffers),
+        Weight::Heavy => run_as::<Heavy, R, N>(rt, alloc, origin, index, pass, block, buffers),
     }
 }

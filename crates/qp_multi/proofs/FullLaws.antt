@@ -69,7 +69,7 @@ each_of : (has : ℕ → Cell → Type 0) (used : ℕ → Bool) (live : ℕ → 
 each_of has used live None key es s tells = ([], refl)
 each_of has used live (Some r) key es s tells = (branches_on_path key s.0, (s.0, es, s.1, tells, refl))
 
-pub cause_of : (u : Ledger) (room d : Draft) (c : Change) (full : NoRoom) (f : Full) → room.usage ≡ freed (narrowed u (kept_versions room.usage)) → f.needed ≡ full.needed → versions_in f.kept ≡ kept_versions room.usage → Works room → All (λ k. IsVersion k.image k.root (version_at room.seat.place.me.0 k.version)) (kept_in room.seat.place.me.0.turn)
+pub cause_of : (u : Ledger) (room d : Draft) (c : Change) (full : NoRoom) (f : Full) → room.usage ≡ freed (narrowed u (kept_versions room.usage)) → f.request.needed ≡ full.needed → versions_in f.kept ≡ kept_versions room.usage → Works room → All (λ k. IsVersion k.image k.root (version_at room.seat.place.me.0 k.version)) (kept_in room.seat.place.me.0.turn)
     → LeadsItem c → Tried c room.root room.seat.place.me.0 room.usage d.seat.place.me.0 d.usage (Err (unchanged.Full full)) → d.root ≡ room.root → GoesOn room.seat.place.me.0 d.seat.place.me.0 → working_set d ≡ working_set room → Lacks d.usage full
     → FullCause room.usage d (key_of c) (written_by c) (asked_by c) f
 cause_of u room d c full f after request same works images leads t root on set lacks =

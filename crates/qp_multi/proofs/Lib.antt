@@ -2,6 +2,7 @@ pub mod Lists
 pub mod QueryLaws
 pub mod ImageLaws
 pub mod BeginLaws
+pub mod KindLaws
 pub mod KeepLaws
 pub mod WordsLaws
 pub mod Walks

@@ -83,14 +83,10 @@ version_on {v} {w} a b g old new = new ∙ ap length g.history ∙ sym old
 
 -- why the call found no room
 pub full_of : (room d : Draft) (full : NoRoom) (f : Full) → GoesOn room.seat.place.me.0 d.seat.place.me.0 → kept_versions d.usage ≡ kept_versions room.usage → ((n : ℕ) → Contains (kept_versions room.usage) n → (n ≡ room.seat.version) ⊎ IsNamed room.seat.place.me.0 n)
-    → (older : List ℕ) × (kept_versions room.usage ≡ older ++ room.seat.version ∷ []) → Lacks d.usage full → (f.needed ≡ full.needed) × (f.left ≡ full.left) × (f.free ≡ full.free) × (f.reserve ≡ full.reserve) → versions_in f.kept ≡ kept_versions d.usage → IsFull d f
+    → (older : List ℕ) × (kept_versions room.usage ≡ older ++ room.seat.version ∷ []) → Lacks d.usage full → f.request ≡ full → versions_in f.kept ≡ kept_versions d.usage → IsFull d f
 full_of room d full f on same named ends lacks request kept =
-    let made : ℕ → ℕ → ℕ → ℕ → NoRoom = λ needed left free reserve. record { needed = needed; left = left; free = free; reserve = reserve } in
-    let asked : made f.needed f.left f.free f.reserve ≡ full =
-    ap (λ (n : ℕ). made n f.left f.free f.reserve) request.0 ∙ ap (λ (n : ℕ). made full.needed n f.free f.reserve) request.1
-    ∙ ap (λ (n : ℕ). made full.needed full.left n f.reserve) request.2 ∙ ap (made full.needed full.left full.free) request.3 in
     record {
-      lacks = subst (Lacks d.usage) (sym asked) lacks;
+      lacks = subst (Lacks d.usage) (sym request) lacks;
       kept = kept;
       named = λ n h. ⊎_elim
           (λ (e : n ≡ room.seat.version). inl (e ∙ sym (version_on room.seat.version d.seat.version on room.seat.version_is d.seat.version_is)))

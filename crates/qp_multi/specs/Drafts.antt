@@ -48,10 +48,10 @@ pub record Operates (o : Operation) (denied : List Entry → Type 0) (old new : 
   pub passes : new.seat.passes ≡ old.seat.passes
   pub refused : is_denied ↔ denied (working_set old)
 
--- The numbers are those of a request that the usage refuses. Kept are the current version, which is the last, and others that some
+-- The request is one that the usage refuses. Kept are the current version, which is the last, and others that some
 -- pass was found reading.
 pub record IsFull (d : Draft) (f : Full) : Type 0 where
-  pub lacks : Lacks d.usage (record { needed = f.needed; left = f.left; free = f.free; reserve = f.reserve })
+  pub lacks : Lacks d.usage f.request
   pub kept : versions_in f.kept ≡ kept_versions d.usage
   pub named : (v : ℕ) → Contains (versions_in f.kept) v → (v ≡ d.seat.version) ⊎ IsNamed d.seat.place.me.0 v
   pub ends : (older : List ℕ) × (versions_in f.kept ≡ older ++ d.seat.version ∷ [])

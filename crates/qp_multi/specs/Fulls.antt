@@ -26,9 +26,9 @@ version_at v n = version_after applied (first_version v.seen) (take n v.seen.his
 abbrev pub cells_kept : Known → List ℕ → ℕ
 cells_kept v versions = sum_by (λ n. cells (version_at v n)) versions
 
--- the numbers of a refused request, with the versions that are kept
+-- a refused request, with the versions that are kept
 abbrev pub full_with : NoRoom → Versions → Full
-full_with f versions = record { needed = f.needed; left = f.left; free = f.free; reserve = f.reserve; kept = versions }
+full_with f versions = record { request = f; kept = versions }
 
 -- At the refused request of a call, behind a round and a freeing that left this usage.
 -- The call is for a key, and writes so many cells beside the twigs on the key's path. Where the branches there have so many twigs, it
@@ -43,7 +43,7 @@ pub record FullCause (after : Ledger) (d : Draft) (key : List ℕ) (written : �
   pub on_path : PathHas d.seat.place.me.0 d.usage d.root key path
   pub branches : List ℕ
   pub on_branches : PathHasEach d.seat.place.me.0 d.usage d.root key branches
-  pub needed : Contains (asks branches) f.needed
+  pub needed : Contains (asks branches) f.request.needed
   pub few_opened : filled_cells * length opened ≤ filled_cells + (written + path)
   -- each other allocated chunk is the one to which a rollback returns, or has a cell of the working set or of a kept version
   pub others_met : (k : ℕ) → is_given d.usage k ≡ true

@@ -8,6 +8,7 @@ pub mod Logged
 pub mod Changes
 pub mod Tries
 pub mod Keepings
+pub mod Kinds
 pub mod Movings
 pub mod Rooms
 pub mod Images

@@ -11,6 +11,7 @@ ghost use Rattle.trie_model.specs.Keys.{Entry};
 ghost use Rattle.chunk_usage.specs.Keeping.{closed, freed, restored};
 
 use crate::freeing::free_unreached;
+use crate::kind::Kind;
 use crate::log::Log;
 use crate::meaning::{Law, Meaning, Operations, Version};
 use chunk_usage::Usage;
@@ -81,9 +82,10 @@ impl Desk {
 
 impl Draft {
     ghost use Rattle.qp_multi.specs.Bounds.{HasRoom};
+    ghost use Rattle.qp_multi.specs.Kinds.{started};
 
-    /// The bump chunk counts as filled.
-    pub(crate) fn start_chunk(&mut self)
+    // The bump chunk counts as filled.
+    fn start_chunk(&mut self)
         ensures seat { self.new.seat ≡ self.old.seat }
         ensures usage { self.new.usage ≡ closed self.old.usage }
         ensures root { self.new.root ≡ self.old.root }
@@ -92,6 +94,22 @@ impl Draft {
             → StandsFor self.new.seat.place.me.0 self.new.usage self.new.root es }
     {
         self.usage.fresh();
+    }
+
+    /// Begins as a kind of transaction does.
+    pub(crate) fn start<K: Kind>(self) -> Draft
+        ensures seat { result.seat ≡ self.seat }
+        ensures usage { result.usage ≡ started K.OWN_CHUNK self.usage }
+        ensures log { result.log.operations ≡ self.log.operations }
+        ensures stands { (es : List Entry) → StandsFor self.seat.place.me.0 self.usage self.root es
+            → StandsFor result.seat.place.me.0 result.usage result.root es }
+    {
+        let mut draft = self;
+        if K::OWN_CHUNK {
+            draft.start_chunk();
+            return draft;
+        }
+        draft
     }
 
     /// Goes back to the base, frees what only the working set needed, and gives the pass back.

@@ -1,11 +1,10 @@
 //! Transactions: one at a time, each of a pass that has joined the turn.
-ghost use Rattle.std.specs.Prelude.{◌≡◌, ◌≢◌, ◌↔◌, ◌+◌, ◌≤◌, Some, Err, IsSome, IsNone, IfSome, IsSomeAnd, IsOk, IsErr, IfOk, IfErr, length, slice_get};
+ghost use Rattle.std.specs.Prelude.{◌≡◌, ◌≢◌, ◌↔◌, ◌+◌, ◌≤◌, true, false, Some, Err, IsSome, IsNone, IfSome, IsSomeAnd, IsOk, IsErr, IfOk, IfErr, length, slice_get};
 ghost use Rattle.zone_model.specs.Keys.{most_item_octets};
 ghost use Rattle.trie_model.specs.Extents.{cells_in};
 ghost use Rattle.qp_multi.specs.Passes.{known_at};
 ghost use Rattle.std.specs.Option.{ForSome};
 ghost use Rattle.std.proofs.Props.{props};
-ghost use Rattle.chunk_usage.specs.Keeping.{full};
 ghost use Rattle.qp_multi.specs.Bounds.{HasRoom, IsCramped, IsCrowded};
 
 use crate::change::Change;
@@ -13,6 +12,7 @@ use crate::commit::Receipt;
 use crate::desk::{Desk, Draft};
 use crate::index::{Index, Turn};
 use crate::kept::Versions;
+use crate::kind::{Heavy, Kind, Light};
 use crate::meaning::{Law, Meaning, Named, Operations, Version};
 use crate::pass::Pass;
 use crate::refusal::{ChangeRefusal, Full, InsertRefusal};
@@ -34,44 +34,6 @@ pub struct Locked<'i, L: Law, N: Named> {
     ghost named: { slice_get N.tables place ≡ Some shared.now.table.shared.table_id },
     ghost here: { ForSome draft (λ d. d.seat.place.table_id ≡ shared.now.table.shared.table_id) },
     ghost room: { ForSome draft HasRoom } by { Prim.hlevel props },
-}
-
-/// A kind of transaction.
-pub trait Kind {
-    ghost use Rattle.std.specs.Prelude.{ℕ, ◌≤◌};
-
-    // A commit moves what lies in sparse chunks where these are more than so many, which are few.
-    ghost MOST_SPARSE: { ℕ };
-
-    ghost few: { MOST_SPARSE ≤ 8 };
-
-    const MOST_SPARSE: u32;
-}
-
-/// A light transaction: what it writes goes on in the bump chunk.
-pub struct Light;
-
-impl Kind for Light {
-    ghost use Rattle.std.proofs.Common.{le_refl};
-
-    ghost MOST_SPARSE = { 8 };
-
-    ghost few = { le_refl 8 };
-
-    const MOST_SPARSE: u32 = 8;
-}
-
-/// A heavy transaction: it begins a chunk of its own.
-pub struct Heavy;
-
-impl Kind for Heavy {
-    ghost use Rattle.std.proofs.Common.{zero-le};
-
-    ghost MOST_SPARSE = { 0 };
-
-    ghost few = { zero-le };
-
-    const MOST_SPARSE: u32 = 0;
 }
 
 /// A transaction on the current version, its base. Until it commits, what it writes is seen by nobody else. Dropping it rolls
@@ -186,11 +148,14 @@ impl<'i, L: Law, N: Named> Locked<'i, L, N> {
     }
 
     // Why there is no room, with the versions that are kept.
-    fn full(&self, full: chunk_usage::Full) -> Full
+    fn full(&self, request: chunk_usage::Full) -> Full
         requires { IsSome self.now.draft }
-        ensures { (kept : Kept) × IfSome self.now.draft (λ d. versions_in kept ≡ kept_versions d.usage) × (result ≡ full_with full kept) }
+        ensures { (kept : Kept) × IfSome self.now.draft (λ d. versions_in kept ≡ kept_versions d.usage) × (result ≡ full_with request kept) }
     {
-        Full::of(full, self.kept())
+        Full {
+            request,
+            kept: self.kept(),
+        }
     }
 
     // Reads an item of the working set.
@@ -215,6 +180,7 @@ impl<L: Law, N: Named> Index<L, N> {
     ghost use Rattle.qp_multi.specs.Bases.{CommitsAreWithin};
     ghost use Rattle.qp_multi.specs.Drafts.{Begins};
     ghost use Rattle.qp_multi.specs.Capacity.{RestsRoomy};
+    ghost use Rattle.qp_multi.specs.Kinds.{StartsAs};
 
     // The lock, and the turn out of it.
     fn wait<'i, R: Wait>(&'i self, rt: &R) -> (MutexGuard<'i, Option<Turn<N>>>, Desk)
@@ -260,6 +226,37 @@ impl<L: Law, N: Named> Index<L, N> {
         (guard, desk.begin(&self.shared, seat))
     }
 
+    /// Waits for the turn, and begins a transaction of a kind.
+    pub fn begin<'t, 'i, K: Kind, R: Wait>(
+        &'i self,
+        rt: &R,
+        locked: &'t mut Locked<'i, L, N>,
+        pass: &'t mut Pass<N>,
+    ) -> Transaction<'t, 'i, L, N, K>
+        requires here { IsSome pass.old.seat }
+        requires place { pass.old.place ≡ self.now.place }
+        ensures same_reference { result.home.ghost_name ≡ pass.entry.ghost_name }
+        ensures place { result.locked.now.place ≡ self.now.place }
+        ensures passes { IsSomeAnd result.locked.now.draft (λ d. d.seat.passes ≡ self.now.shared.table.shared.key.passes) }
+        ensures begins { IsSomeAnd result.locked.now.draft (Begins L.lawful (known_at pass.old.seat)) }
+        ensures few_operations { IsSomeAnd result.locked.now.draft (λ d. CommitsAreWithin L.most_operations d.seat.place.me.0) }
+        ensures chunks { IsSomeAnd result.locked.now.draft (λ d. length d.usage.given ≡ self.now.shared.table.shared.key.chunks) }
+        ensures starts { IsSomeAnd result.locked.now.draft (λ d. StartsAs K.OWN_CHUNK d.usage) }
+    {
+        let (guard, draft) = self.join(rt, pass);
+        *locked = Locked {
+            guard: Some(guard),
+            place: self.place,
+            shared: &self.shared,
+            draft: Some(draft.start::<K>()),
+        };
+        Transaction {
+            home: pass,
+            locked,
+            kind: PhantomData,
+        }
+    }
+
     /// Waits for the turn, and begins a light transaction.
     pub fn write<'t, 'i, R: Wait>(
         &'i self,
@@ -275,21 +272,9 @@ impl<L: Law, N: Named> Index<L, N> {
         ensures begins { IsSomeAnd result.locked.now.draft (Begins L.lawful (known_at pass.old.seat)) }
         ensures few_operations { IsSomeAnd result.locked.now.draft (λ d. CommitsAreWithin L.most_operations d.seat.place.me.0) }
         ensures chunks { IsSomeAnd result.locked.now.draft (λ d. length d.usage.given ≡ self.now.shared.table.shared.key.chunks) }
-        // What is written goes on in the bump chunk.
-        ensures goes_on { IsSomeAnd result.locked.now.draft (λ d. d.usage.bump ≡ d.usage.fender) }
+        ensures starts { IsSomeAnd result.locked.now.draft (λ d. StartsAs false d.usage) }
     {
-        let (guard, draft) = self.join(rt, pass);
-        *locked = Locked {
-            guard: Some(guard),
-            place: self.place,
-            shared: &self.shared,
-            draft: Some(draft),
-        };
-        Transaction {
-            home: pass,
-            locked,
-            kind: PhantomData,
-        }
+        self.begin::<Light, R>(rt, locked, pass)
     }
 
     /// Waits for the turn, and begins a heavy transaction.
@@ -307,22 +292,9 @@ impl<L: Law, N: Named> Index<L, N> {
         ensures begins { IsSomeAnd result.locked.now.draft (Begins L.lawful (known_at pass.old.seat)) }
         ensures few_operations { IsSomeAnd result.locked.now.draft (λ d. CommitsAreWithin L.most_operations d.seat.place.me.0) }
         ensures chunks { IsSomeAnd result.locked.now.draft (λ d. length d.usage.given ≡ self.now.shared.table.shared.key.chunks) }
-        // What is written begins a chunk.
-        ensures own_chunk { IsSomeAnd result.locked.now.draft (λ d. d.usage.bump ≡ full d.usage.fender) }
+        ensures starts { IsSomeAnd result.locked.now.draft (λ d. StartsAs true d.usage) }
     {
-        let (guard, mut draft) = self.join(rt, pass);
-        draft.start_chunk();
-        *locked = Locked {
-            guard: Some(guard),
-            place: self.place,
-            shared: &self.shared,
-            draft: Some(draft),
-        };
-        Transaction {
-            home: pass,
-            locked,
-            kind: PhantomData,
-        }
+        self.begin::<Heavy, R>(rt, locked, pass)
     }
 }
 

@@ -16,9 +16,9 @@ use pin_core::words::{
 
 /// A pass's seat, while the pass is pinned. No cell of its version is written, and no chunk of it freed, before `unpin`.
 ///
-/// It can't be dropped: whoever has one unpins it, so no version stays kept for nobody.
+/// It can't be dropped, nor taken apart elsewhere: whoever has one unpins it, so no version stays kept for nobody.
 pub struct PinnedSeat<O, E> {
-    pub place: Place<O, E>,
+    place: Place<O, E>,
     /// The pass's number.
     pub number: u32,
     /// The version that is pinned.

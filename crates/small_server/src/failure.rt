@@ -1,7 +1,7 @@
 //! Why the server stops.
 use std::alloc::AllocError;
 use thiserror::Error;
-use zone_edit::Halt;
+use zone_edit::EditRefusal;
 use zone_model::Refusal;
 use zone_table::{TableRefusal, ZonesRefusal};
 
@@ -33,12 +33,12 @@ impl From<AllocError> for Failure {
     }
 }
 
-impl From<Halt> for Failure {
-    fn from(halt: Halt) -> Failure {
-        match halt {
-            Halt::Memory => Failure::Memory,
-            Halt::Refused(refusal) => Failure::Rule(refusal),
-            Halt::Full { .. } => Failure::NoRoom,
+impl From<EditRefusal> for Failure {
+    fn from(refusal: EditRefusal) -> Failure {
+        match refusal {
+            EditRefusal::Memory => Failure::Memory,
+            EditRefusal::Refused(rule) => Failure::Rule(rule),
+            EditRefusal::Full { .. } => Failure::NoRoom,
         }
     }
 }

@@ -1,7 +1,7 @@
 -- One operation, and operations in order.
-use Rattle.std.proofs.Common.{◌≡◌, ◌∙◌, ℕ, ◌+◌, ◌<◌, ◌≤◌, Bool, true, false, not, cond, ltb, List, [], ◌∷◌, ◌++◌, length, map, take, drop, get_or, Some, Result, Ok, Err, refl, sym, ap, subst, arith, append_assoc}
+use Rattle.std.proofs.Common.{◌≡◌, ◌∙◌, ℕ, ◌+◌, ◌-◌, ◌<◌, ◌≤◌, Bool, true, false, not, cond, ltb, List, [], ◌∷◌, ◌++◌, length, map, take, drop, get_or, Some, Result, Ok, Err, refl, sym, ap, subst, arith, append_assoc}
 use borrow.Author.Tests.{ltb-false}
-use Rattle.std.proofs.lemmas.List.{map-append, map_more, take-append-drop}
+use Rattle.std.proofs.lemmas.List.{map-append, map_more, take_all, take-append-drop, take-append-le}
 use Rattle.std.specs.List.{AllByRecursion}
 use Rattle.std.specs.Ordering.{is_eq}
 use Rattle.zone_model.specs.Names.{Name, name_cmp}
@@ -123,3 +123,9 @@ pub all_around : {C : Type 0} (view : C → Operation) (operations : List C) (i 
 all_around view operations i here lt is =
     ap (map view) (sym (take-append-drop (i + 1) operations)) ∙ map-append view (take (i + 1) operations) (drop (i + 1) operations)
     ∙ ap (λ (l : List Operation). l ++ map view (drop (i + 1) operations)) (up_to view operations i here lt is) ∙ append_assoc (map view (take i operations)) (view here ∷ []) (map view (drop (i + 1) operations))
+
+-- those in front of one
+pub taken : (front : List Operation) (one : Operation) (back all : List Operation) (number : ℕ) → all ≡ front ++ one ∷ back → number ≡ length front + 1 → take (number - 1) all ≡ front
+taken front one back all number is place =
+    let before : number - 1 ≡ length front = omega (arith, place) in
+    ap (take (number - 1)) is ∙ ap (λ (n : ℕ). take n (front ++ one ∷ back)) before ∙ take-append-le (length front) front (one ∷ back) (omega arith) ∙ take_all (length front) front (omega arith)

@@ -35,7 +35,6 @@ use Rattle.zone_edit.proofs.VersionLaws.{version_put, version_gone}
 use Rattle.zone_edit.proofs.StoreLaws.{put_some, storable, same_entry, record_of}
 use Rattle.trie_read.specs.Readings.{Fetched}
 use Rattle.zone_answer.specs.Parts.{IsRead}
-use Rattle.zone_edit.specs.declared.storing.NoRoom.{NoRoom}
 use Rattle.zone_edit.specs.Stores.{WorksOn, WorksOnSome, Owns, EditsOne, Edits, Reads, Stores, IsCrowdedBy, IsFullOn}
 use Rattle.zone_edit.proofs.SetLaws.{IsOwner, inserted, exchanged, deleted}
 
@@ -242,11 +241,11 @@ module _ (o : Operation) (denied : List trie.Entry → Type 0) (A B : Type 0) (n
   }) call
 
   -- there was no room
-  pub no_room : (none : NoRoom) (f : Full) (key : List ℕ) (written : ℕ) (asks : List ℕ → List ℕ) → (A → ⊥) → ((version : Version) → IsVersion version → before ≡ owned name version → put name entry version ≡ version → ⊥)
+  pub no_room : (f : Full) (key : List ℕ) (written : ℕ) (asks : List ℕ → List ℕ) → (A → ⊥) → ((version : Version) → IsVersion version → before ≡ owned name version → put name entry version ≡ version → ⊥)
       → ((version : Version) → IsVersion version → written ≤ 3 + item_cells name (put name entry version)) → Called → IsSomeAnd new (λ d. IsFull d f)
-      → Between (λ d e. CausedFrom d e key written asks f) old new → Between SparesReserve old new → IsSomeAnd old IsCramped → IsSomeAnd new (λ d. IsCrowded d key written (length (versions_in f.kept))) → Edits 0 (Stores name before entry (Err none)) old new
-  no_room none f key written asks undone changes within call full cause spares cramped crowded =
-      between_both (λ d e. CausedFrom d e key written asks f) (Filled f key written) (EditsOne 0 (Stores name before entry (Err none))) old new
+      → Between (λ d e. CausedFrom d e key written asks f) old new → Between SparesReserve old new → IsSomeAnd old IsCramped → IsSomeAnd new (λ d. IsCrowded d key written (length (versions_in f.kept))) → Edits 0 (Stores name before entry (Err f.request)) old new
+  no_room f key written asks undone changes within call full cause spares cramped crowded =
+      between_both (λ d e. CausedFrom d e key written asks f) (Filled f key written) (EditsOne 0 (Stores name before entry (Err f.request))) old new
       (λ d e cause both. record {
         known = both.0.known;
         passes = both.0.passes;
@@ -263,6 +262,7 @@ module _ (o : Operation) (denied : List trie.Entry → Type 0) (A B : Type 0) (n
             crowded = crowded_by e key written (length (versions_in f.kept)) (cells_asked name version (put name entry version)) version (works_same o denied d e A B version both.0 undone on) (let l = within version on.valid in omega arith) both.3;
           }),
           changes version on.valid is,
+          both.1.lacks,
         );
       }) cause (between_and Cramped (λ d. IsFull d f × IsCrowded d key written (length (versions_in f.kept))) (Filled f key written) old new (λ d e kept p. (kept.0, p.0, kept.1, p.1)) (between_from Operated SparesReserve IsCramped Cramped old new (λ d e op s c. (op, cramped_still o denied d e A B op undone s c)) call spares cramped) (some_both (λ d. IsFull d f) (λ d. IsCrowded d key written (length (versions_in f.kept))) new full crowded))
 

@@ -1,5 +1,5 @@
 -- Operations in order, and the sets on their way.
-use Rattle.std.proofs.Common.{◌≡◌, ◌∙◌, inl, inr, ℕ, ◌≤◌, List, [], ◌∷◌, ◌++◌, length, take, Option, Ok, refl, sym, ap, subst, arith, append-nil, append_assoc, length-append}
+use Rattle.std.proofs.Common.{◌≡◌, ◌∙◌, inl, inr, ℕ, ◌+◌, ◌-◌, ◌≤◌, List, [], ◌∷◌, ◌++◌, length, take, Option, Ok, Err, refl, sym, ap, subst, arith, append-nil, append_assoc, length-append}
 use Rattle.std.specs.Prelude.{IsSome, IsSomeAnd}
 use Rattle.std.proofs.lemmas.Bool.{cases_lt}
 use Rattle.std.proofs.lemmas.List.{take_all, take-append-le}
@@ -7,6 +7,7 @@ use Rattle.zone_model.specs.Names.{Name}
 use Rattle.zone_model.specs.Versions.{Version, Operation, all_applied}
 use Rattle.trie_model.specs.Keys as trie
 use Rattle.shared_cells.specs.History.{StartsWith}
+use Rattle.chunk_usage.specs.declared.space.Full.{Full}
 use Rattle.qp_multi.specs.declared.meaning.Operation.{Operation as Done}
 use Rattle.qp_multi.specs.declared.desk.Draft.{Draft}
 use Rattle.qp_multi.specs.Operations.{applied}
@@ -15,8 +16,10 @@ use Rattle.qp_multi.proofs.GoesLaws.{base_goes_on, goes_further}
 use Rattle.qp_multi.proofs.WorkLaws.{between_as}
 use Rattle.zone_edit.specs.Ways.{MadeOnTheWay}
 use Rattle.zone_edit.specs.Stores.{WorksOn, WorksOnSome, EditsOne, Edits}
-use Rattle.zone_edit.specs.Blocks.{Applies, AppliesAll, EditsInOrder, EditedInOrder}
-use Rattle.zone_edit.proofs.ApplyLaws.{next_applied}
+use Rattle.zone_edit.specs.Blocks.{Applies, AppliesAll, EditsInOrder, EditedInOrder, EditedOnce}
+use Rattle.zone_edit.specs.declared.refusal.EditRefusal.{EditRefusal}
+use Rattle.zone_edit.specs.declared.refusal.EditRefusal.TheVariants as refusals
+use Rattle.zone_edit.proofs.ApplyLaws.{next_applied, refused_applied, taken}
 use Rattle.zone_edit.proofs.EditLaws.{begins_through, between_then, edits_some, is_there}
 
 -- ---- a set on the way
@@ -129,6 +132,39 @@ still_in_order origin done all A B C a b c more h = between_then (EditsInOrder o
   };
   ways = λ version on n le. subst (MadeOnTheWay origin all version) (sym (same_way B e f n s)) (wider origin done all version (applied (base_of e) (take n e.log.operations)) more (r.ways version on n le));
 })
+
+-- those in front of one were done, and that one is refused
+pub refused_in_order : (origin : Name) (front back all : List Operation) (one : Operation) (number : ℕ) (refusal : EditRefusal) (a b c : Option Draft) → all ≡ front ++ one ∷ back → number ≡ length front + 1 → ((at : ℕ) (request : Full) → refusal ≡ refusals.Full at request → at ≡ number)
+    → EditedInOrder origin front (Ok tt) a b → EditedOnce origin one (Err refusal) b c → EditedInOrder origin all (Err refusal) a c
+refused_in_order origin front back all one number refusals.Memory a b c is place told =
+    still_in_order origin front all (AppliesAll origin front (Ok tt)) (Applies origin one (Err refusals.Memory)) (AppliesAll origin all (Err refusals.Memory)) a b c (one ∷ back, is)
+    (λ version e f x. (x.0, x.2, λ step. record { front = front; wanted = one; back = back; all = is; working = x.0; before = x.1; next = step.0; accepted = step.1; works = step.2 }))
+refused_in_order origin front back all one number (refusals.Refused refusal) a b c is place told =
+    still_in_order origin front all (AppliesAll origin front (Ok tt)) (Applies origin one (Err (refusals.Refused refusal))) (AppliesAll origin all (Err (refusals.Refused refusal))) a b c (one ∷ back, is)
+    (λ version e f x. (x.0, x.2, λ step. ap (λ (l : List Operation). all_applied origin l version) is ∙ refused_applied origin front back one version x.0 refusal x.1 step))
+refused_in_order origin front back all one number (refusals.Full at request) a b c is place told =
+    let here = told at request refl ∙ place in
+    still_in_order origin front (take (at - 1) all) (AppliesAll origin front (Ok tt)) (Applies origin one (Err (refusals.Full at request))) (AppliesAll origin all (Err (refusals.Full at request))) a b c
+    ([], taken front one back all at is here ∙ sym (append-nil front))
+    (λ version e f x. (
+      x.0,
+      x.2,
+      λ step.
+          record {
+            front = front;
+            refused = one;
+            back = back;
+            all = is;
+            place = here;
+            working = x.0;
+            before = x.1;
+            next = step.0;
+            accepted = step.1;
+            changes = step.2;
+            full = step.3;
+            lacks = step.4;
+          },
+    ))
 
 -- a version is looked at first
 pub looked_in_order : (origin : Name) (done : List Operation) (A B C : Version → Draft → Type 0) (a b c : Option Draft) → ((version : Version) (e f : Draft) → A version e → WorksOn e version × (B version f → C version f))

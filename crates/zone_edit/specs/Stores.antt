@@ -5,6 +5,8 @@ use Rattle.zone_model.specs.Records.{Entry}
 use Rattle.zone_model.specs.Versions.{Version, owned, put}
 use Rattle.chunk_usage.specs.Ledger.{reserve_of}
 use Rattle.chunk_usage.specs.Keeping.{kept_versions}
+use Rattle.chunk_usage.specs.declared.space.Full.{Full}
+use Rattle.chunk_usage.specs.Handing.{Lacks}
 use Rattle.zone_answer.specs.Parts.{IsRead}
 use Rattle.zone_answer.specs.Standing.{IsVersion}
 use Rattle.trie_model.specs.Capacity.{filled_cells}
@@ -19,7 +21,6 @@ use Rattle.qp_multi.specs.Crowds.{most_met}
 use Rattle.qp_multi.specs.Drafts.{Works, Between, working_set}
 use Rattle.qp_multi.specs.Fulls.{cells_kept}
 use Rattle.qp_multi.specs.Keepings.{GoesOn}
-use Rattle.zone_edit.specs.declared.storing.NoRoom.{NoRoom}
 
 -- the working set is the version
 pub record WorksOn (d : Draft) (version : Version) : Type 0 where
@@ -81,11 +82,12 @@ pub record IsFullOn (d : Draft) (version : Version) (asked : ℕ) (kept : List �
   pub cramped : IsCramped d
   pub crowded : IsCrowdedBy d asked (length kept)
 
--- An entry was put under a name that owned this one; or there was no room for it while what is kept is kept, though it would have changed the version, and the
--- working set is as before.
-abbrev pub Stored : Name → Entry → Result (Unit {0}) NoRoom → Version → Draft → Type 0
+-- An entry was put under a name that owned this one; or there was no room for it while what is kept is kept, since the index refuses this request, though it
+-- would have changed the version, and the working set is as before.
+abbrev pub Stored : Name → Entry → Result (Unit {0}) Full → Version → Draft → Type 0
 Stored name entry (Ok u) version new = WorksOn new (put name entry version)
-Stored name entry (Err full) version new = WorksOn new version × IsFullOn new version (cells_asked name version (put name entry version)) (kept_versions new.usage) × (put name entry version ≡ version → ⊥)
+Stored name entry (Err request) version new =
+    WorksOn new version × IsFullOn new version (cells_asked name version (put name entry version)) (kept_versions new.usage) × (put name entry version ≡ version → ⊥) × Lacks new.usage request
 
-abbrev pub Stores : Name → Entry → Entry → Result (Unit {0}) NoRoom → Version → Draft → Type 0
+abbrev pub Stores : Name → Entry → Entry → Result (Unit {0}) Full → Version → Draft → Type 0
 Stores name before entry result version new = before ≡ owned name version → Stored name entry result version new

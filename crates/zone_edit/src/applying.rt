@@ -6,7 +6,8 @@ ghost use Rattle.zone_edit.specs.Prelude.{IsSame, IsOfTheSame, WorksOnSome, Edit
 
 use crate::buffers::ItemBuffers;
 use crate::reading::read_owned;
-use crate::storing::{NoRoom, store};
+use crate::refusal::EditRefusal;
+use crate::storing::store;
 use dns_name::Name;
 use qp_multi::{Law, Named, Transaction};
 use rr_data::Entry;
@@ -14,29 +15,6 @@ use shift_key::Key;
 use std::alloc::{AllocError, Global};
 use zone_answer::entry_of;
 use zone_change::{Operation, changed, refusal};
-use zone_model::Refusal;
-
-/// Why operations change nothing.
-#[derive(Clone, Copy)]
-pub enum Halt {
-    /// Want of memory for an operation that no rule refuses.
-    Memory,
-    /// A rule of zones.
-    Refused(Refusal),
-    /// No room for an operation, by its number from 1, while what the transaction's `kept` tells is kept.
-    Full { operation: u64 },
-}
-
-/// Why an operation changes nothing.
-#[derive(Clone, Copy)]
-enum Stopped {
-    /// Want of memory, where no rule refuses it.
-    Memory,
-    /// A rule of zones.
-    Refused(Refusal),
-    /// No room.
-    Full,
-}
 
 // The entry that octets say, and what an operation makes of it.
 fn both_entries(
@@ -54,32 +32,35 @@ fn both_entries(
     Ok((before, after))
 }
 
-/// Makes an operation's change in the working set. The owner's item before it lies in one buffer, and the one behind it in another.
+/// Makes the change of an operation, which has this number, in the working set. The owner's item before it lies in one buffer, and the
+/// one behind it in another.
 fn apply<L: Law, N: Named, K>(
     alloc: Global,
     origin: &Name,
     transaction: &mut Transaction<'_, '_, L, N, K>,
+    number: u64,
     operation: &Operation,
     item_before: &mut [u8],
     item_after: &mut [u8],
-) -> Result<(), Stopped>
+) -> Result<(), EditRefusal>
     requires works { IsSomeAnd transaction.old.locked.now.draft WorksOnSome }
     requires room { (item_limit ≤ length item_before.old) × (item_limit ≤ length item_after.old) }
     ensures same_reference { IsOfTheSame transaction.old transaction.new }
     ensures place { transaction.new.locked.now.place ≡ transaction.old.locked.now.place }
     ensures applies { EditedOnce origin.now (operation_view operation.now) result transaction.old.locked.now.draft transaction.new.locked.now.draft }
+    ensures number { (at : _) (request : _) → result ≡ Err (EditRefusal.Full at request) → at ≡ number }
     // Memory is wanted for entries alone, before anything is tried.
-    ensures untried { result ≡ Err Stopped.Memory → Between IsSame transaction.old.locked.now.draft transaction.new.locked.now.draft }
+    ensures untried { result ≡ Err EditRefusal.Memory → Between IsSame transaction.old.locked.now.draft transaction.new.locked.now.draft }
 {
     let owner = operation.owner();
     let key = Key::of(owner);
     let len = read_owned(transaction, owner, &key, item_before);
     let octets = &item_before[..len];
     if let Some(refusal) = refusal(origin, operation, octets) {
-        return Err(Stopped::Refused(refusal));
+        return Err(EditRefusal::Refused(refusal));
     }
     let Ok((before, entry)) = both_entries(alloc, owner, octets, operation) else {
-        return Err(Stopped::Memory);
+        return Err(EditRefusal::Memory);
     };
     match store(
         transaction,
@@ -91,7 +72,10 @@ fn apply<L: Law, N: Named, K>(
         item_after,
     ) {
         Ok(()) => Ok(()),
-        Err(NoRoom) => Err(Stopped::Full),
+        Err(request) => Err(EditRefusal::Full {
+            operation: number,
+            request,
+        }),
     }
 }
 
@@ -102,7 +86,7 @@ pub(crate) fn apply_all<L: Law, N: Named, K>(
     transaction: &mut Transaction<'_, '_, L, N, K>,
     operations: &[Operation],
     buffers: &mut ItemBuffers,
-) -> Result<(), Halt>
+) -> Result<(), EditRefusal>
     requires { IsSomeAnd transaction.old.locked.now.draft WorksOnSome }
     ensures same_reference { IsOfTheSame transaction.old transaction.new }
     ensures place { transaction.new.locked.now.place ≡ transaction.old.locked.now.place }
@@ -110,15 +94,9 @@ pub(crate) fn apply_all<L: Law, N: Named, K>(
 {
     for (index, operation) in operations.iter().enumerate() {
         let (before, after) = (&mut buffers.before, &mut buffers.after);
-        match apply(alloc, origin, transaction, operation, before, after) {
-            Ok(()) => {}
-            Err(Stopped::Memory) => return Err(Halt::Memory),
-            Err(Stopped::Refused(refusal)) => return Err(Halt::Refused(refusal)),
-            Err(Stopped::Full) => {
-                return Err(Halt::Full {
-                    operation: index as u64 + 1,
-                });
-            }
+        let number = index as u64 + 1;
+        if let Err(refusal) = apply(alloc, origin, transaction, number, operation, before, after) {
+            return Err(refusal);
         }
     }
     Ok(())

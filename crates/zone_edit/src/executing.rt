@@ -3,9 +3,10 @@
 ghost use Rattle.std.specs.Prelude.{◌≡◌, IsSomeAnd, map};
 ghost use Rattle.zone_edit.specs.Prelude.{operation_view, prerequisite_view, WorksOnSome, Edited, IsOfTheSame};
 
-use crate::applying::{Halt, apply_all};
+use crate::applying::apply_all;
 use crate::buffers::ItemBuffers;
 use crate::prerequisites::meets_all;
+use crate::refusal::EditRefusal;
 use dns_name::Name;
 use qp_multi::{Law, Named, Transaction};
 use std::alloc::Global;
@@ -21,7 +22,7 @@ pub fn execute<L: Law, N: Named, K>(
     prerequisites: &[Prerequisite],
     operations: &[Operation],
     buffers: &mut ItemBuffers,
-) -> Result<(), Halt>
+) -> Result<(), EditRefusal>
     requires { IsSomeAnd transaction.old.locked.now.draft WorksOnSome }
     ensures same_reference { IsOfTheSame transaction.old transaction.new }
     ensures place { transaction.new.locked.now.place ≡ transaction.old.locked.now.place }
@@ -29,7 +30,7 @@ pub fn execute<L: Law, N: Named, K>(
         transaction.old.locked.now.draft transaction.new.locked.now.draft }
 {
     if !meets_all(transaction, prerequisites, &mut buffers.before) {
-        return Err(Halt::Refused(Refusal::Prereq));
+        return Err(EditRefusal::Refused(Refusal::Prereq));
     }
     apply_all(alloc, origin, transaction, operations, buffers)
 }

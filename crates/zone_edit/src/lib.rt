@@ -6,8 +6,9 @@ mod buffers;
 mod executing;
 mod prerequisites;
 mod reading;
+mod refusal;
 mod storing;
 
-pub use applying::Halt;
 pub use buffers::ItemBuffers;
 pub use executing::execute;
+pub use refusal::EditRefusal;

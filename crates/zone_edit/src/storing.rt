@@ -3,14 +3,11 @@
 ghost use Rattle.std.specs.Prelude.{◌≡◌, ◌<◌, ◌≤◌, [], List, length, IsSomeAnd};
 ghost use Rattle.zone_edit.specs.Prelude.{key_of, item, item_limit, IsItem, owned, SaysEntry, Owns, Stores, Edits, done_by, IsOfTheSame};
 
+use chunk_usage::Full;
 use dns_name::Name;
 use qp_multi::{ChangeRefusal, InsertRefusal, Law, Named, Transaction};
 use rr_data::Entry;
 use shift_key::Key;
-
-/// There is no room for an entry.
-#[derive(Clone, Copy)]
-pub struct NoRoom;
 
 /// A name that owns something loses it.
 fn take_out<L: Law, N: Named, K>(
@@ -18,7 +15,7 @@ fn take_out<L: Law, N: Named, K>(
     name: &Name,
     key: &Key,
     before: &Entry,
-) -> Result<(), NoRoom>
+) -> Result<(), Full>
     requires key { key.now ≡ key_of name.now }
     requires owns { IsSomeAnd transaction.old.locked.now.draft (Owns name.now before.now) }
     requires some { 0 < length before.now }
@@ -31,7 +28,7 @@ fn take_out<L: Law, N: Named, K>(
         Ok(()) => Ok(()),
         // The name owns something, so it is there.
         Err(ChangeRefusal::NotFound) => unreachable!(),
-        Err(ChangeRefusal::Full(_)) => Err(NoRoom),
+        Err(ChangeRefusal::Full(full)) => Err(full.request),
     }
 }
 
@@ -42,7 +39,7 @@ fn put_in<L: Law, N: Named, K>(
     key: &Key,
     entry: &Entry,
     item: &[u8],
-) -> Result<(), NoRoom>
+) -> Result<(), Full>
     requires key { key.now ≡ key_of name.now }
     requires owns { IsSomeAnd transaction.old.locked.now.draft (Owns name.now []) }
     requires item { IsItem item.now name.now entry.now }
@@ -55,7 +52,7 @@ fn put_in<L: Law, N: Named, K>(
         Ok(()) => Ok(()),
         // The name owns nothing, so it isn't there.
         Err(InsertRefusal::Exists) => unreachable!(),
-        Err(InsertRefusal::Full(_)) => Err(NoRoom),
+        Err(InsertRefusal::Full(full)) => Err(full.request),
     }
 }
 
@@ -67,7 +64,7 @@ fn exchange<L: Law, N: Named, K>(
     before: &Entry,
     entry: &Entry,
     item: &[u8],
-) -> Result<(), NoRoom>
+) -> Result<(), Full>
     requires key { key.now ≡ key_of name.now }
     requires owns { IsSomeAnd transaction.old.locked.now.draft (Owns name.now before.now) }
     requires some { 0 < length before.now }
@@ -82,7 +79,7 @@ fn exchange<L: Law, N: Named, K>(
         Ok(()) => Ok(()),
         // The name owns something, so it is there.
         Err(ChangeRefusal::NotFound) => unreachable!(),
-        Err(ChangeRefusal::Full(_)) => Err(NoRoom),
+        Err(ChangeRefusal::Full(full)) => Err(full.request),
     }
 }
 
@@ -96,7 +93,7 @@ pub fn store<L: Law, N: Named, K>(
     before: &Entry,
     entry: &Entry,
     out: &mut [u8],
-) -> Result<(), NoRoom>
+) -> Result<(), Full>
     requires key { key.now ≡ key_of name.now }
     requires says { SaysEntry name.now octets.now before.now }
     requires owns { IsSomeAnd transaction.old.locked.now.draft (Owns name.now before.now) }

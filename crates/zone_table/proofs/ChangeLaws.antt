@@ -1,6 +1,6 @@
 -- What becomes of a change of the table, by what its transaction tells.
 use Rattle.std.proofs.Common.{◌≡◌, ◌⊎◌, ◌∙◌, inl, inr, ⊎_elim, ℕ, ◌+◌, ◌≤◌, Bool, true, false, cond, List, [], ◌∷◌, ◌++◌, length, Option, Some, None, Result, Ok, Err, arith, refl, sym, ap, subst, length-append, append-nil}
-use Rattle.std.specs.Prelude.{◌≢◌, ◌↔◌, IsSome, IsSomeAnd, IfSome, IfOk, IfErr, IsOk, IsErr, unwrap_or}
+use Rattle.std.specs.Prelude.{◌≢◌, ◌↔◌, IsSome, IsSomeAnd, IfSome, IfOk, IfErr, IsOk, IsErr, MatchResult, unwrap_or}
 use Rattle.std.specs.List.{AllByRecursion, filter}
 use Rattle.std.proofs.lemmas.List.Elements.{All-contains}
 use Rattle.std.proofs.lemmas.List.Sums.{fold-append}
@@ -27,9 +27,12 @@ use Rattle.qp_multi.specs.Drafts.{Begins, Commits, IsBack, Operates, Between, ba
 use Rattle.qp_multi.specs.Keepings.{GoesOn}
 use Rattle.qp_multi.specs.Operations.{operated, applied, below, above, AreWithin}
 use Rattle.qp_multi.specs.Passes.{Known, known_at, first_version, version_seen}
+use Rattle.qp_multi.specs.Receipts.{Recycles}
 use Rattle.qp_multi.proofs.GoesLaws.{base_goes_on, first_goes_on}
 use Rattle.qp_multi.proofs.WorkLaws.{Both, both}
-use Rattle.zone_table.specs.Changes.{IsChanged, IsUnchanged, last_number}
+use Rattle.zone_table.specs.Changes.{IsChanged, IsReceipt, IsUnchanged, last_number}
+use Rattle.zone_table.specs.declared.change.TableRefusal.{TableRefusal}
+use Rattle.zone_table.specs.declared.change.TableRefusal.TheVariants.{Spent}
 use Rattle.zone_table.specs.Passes.{IsPassOf, table_known}
 use Rattle.zone_table.specs.Tables.{IsTable, IsAmong}
 use Rattle.zone_table.specs.declared.pass.ZonesPass.{ZonesPass}
@@ -230,6 +233,14 @@ module _ {E X : Type 0} {N : Ghosts X} (refusal : E) (o : Operation) (denied : L
         unchanged origins old x.before told table x.met x.after x.related.known (λ es. denied es → ⊥) seat s.version (accepted x) (there_is (λ d. IsBack d.seat.place.me.0 seat) second x.after x.new_is back) base,
         number ∙ exact.0 refl,
       )
+
+  -- what the index tells of its commit
+  pub receipt_told : (new : Known) (r : Result Receipt NoNumber) (q : Result Receipt TableRefusal) → Calls (Ok tt) → IfOk r (λ t. IfSome second (λ d. Recycles 8 d new t)) → MatchResult r (λ t. q ≡ Ok t) (λ s. q ≡ Err (Spent s.version)) → IfOk q (IsReceipt old new)
+  receipt_told new (Ok t) q calls recycles is =
+      let x = two (Ok tt) calls in
+      subst (λ (z : Result Receipt TableRefusal). IfOk z (IsReceipt old new)) (sym is)
+      (record { first = x.before; begins = x.met; last = x.after; goes_on = x.related.known; recycles = there_is (λ d. Recycles 8 d new t) second x.after x.new_is recycles })
+  receipt_told new (Err s) q calls recycles is = subst (λ (z : Result Receipt TableRefusal). IfOk z (IsReceipt old new)) (sym is) tt
 
   -- the pass of the table is in its place again
   with_table : (t : Pass X N) → IsSome t.seat → t.place ≡ 0 → IsTable origins (first_version (known_at t.seat).seen) → IsPartOf (known_at t.seat).seen old.seen → IsPassOf origins (record p { table = t })

@@ -6,14 +6,18 @@ use Rattle.trie_model.specs.Keys.{Entry}
 use Rattle.shared_cells.specs.declared.view.PassView.{PassView}
 use Rattle.shared_cells.specs.History.{StartsWith, IsPartOf, entries_by, entry_of}
 use Rattle.qp_multi.specs.declared.commit.Receipt.{Receipt}
+use Rattle.qp_multi.specs.declared.desk.Draft.{Draft}
 use Rattle.qp_multi.specs.declared.meaning.Operation.{Operation}
 use Rattle.qp_multi.specs.declared.meaning.Operation.TheVariants.{Insert, Delete}
+use Rattle.qp_multi.specs.Drafts.{Begins}
+use Rattle.qp_multi.specs.Keepings.{GoesOn}
 use Rattle.qp_multi.specs.Operations.{operated}
 use Rattle.qp_multi.specs.Passes.{Known, version_seen}
+use Rattle.qp_multi.specs.Receipts.{Recycles}
 use Rattle.zone_table.specs.declared.change.TableRefusal.{TableRefusal}
 use Rattle.zone_table.specs.declared.change.TableRefusal.TheVariants.{Exists, Missing, Spent}
 use Rattle.zone_table.specs.Notes.{Sighting}
-use Rattle.zone_table.specs.Tables.{IsAttached, entry_for}
+use Rattle.zone_table.specs.Tables.{IsAmong, IsAttached, entry_for}
 
 -- no version has a greater number
 abbrev pub last_number : ℕ
@@ -58,3 +62,11 @@ Detaches origin old new (Ok receipt) = IsChanged (λ es. IsAttached es origin) o
 Detaches origin old new (Err (Exists number)) = ⊥
 Detaches origin old new (Err (Missing number)) = IsUnchanged (λ es. ¬ IsAttached es origin) old new number
 Detaches origin old new (Err (Spent number)) = IsUnchanged (λ es. IsAttached es origin) old new number × (number ≡ last_number)
+
+-- What was freed and kept is what the table's index tells of the commit of a light transaction, which leaves 8 chunks sparse.
+pub record IsReceipt (old new : Known) (receipt : Receipt) : Type 0 where
+  pub first : Draft
+  pub begins : Begins IsAmong old first
+  pub last : Draft
+  pub goes_on : GoesOn first.seat.place.me.0 last.seat.place.me.0
+  pub recycles : Recycles 8 last new receipt

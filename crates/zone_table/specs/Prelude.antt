@@ -9,7 +9,7 @@ pub use Rattle.shared_cells.specs.declared.view.TableSize.{TableSize}
 pub use Rattle.trie_write.specs.Entries.{entries_of_items, entry_of}
 pub use Rattle.qp_multi.specs.Openings.{Refuses}
 pub use Rattle.qp_multi.specs.Passes.{Known, Pinned, known_at, version_seen}
-pub use Rattle.zone_table.specs.Changes.{Attaches, Detaches}
+pub use Rattle.zone_table.specs.Changes.{Attaches, Detaches, IsReceipt}
 pub use Rattle.zone_table.specs.Dealings.{AreMade}
 pub use Rattle.zone_table.specs.Endings.{AreAdded, AreEnded, AreSplit, Belong, EachEnds, IsEnd}
 pub use Rattle.zone_table.specs.Lends.{lends_zone}

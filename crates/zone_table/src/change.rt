@@ -1,6 +1,6 @@
 //! Changes of the table: an origin is put in, or taken out.
-ghost use Rattle.std.specs.Prelude.{◌≡◌, ◌<◌, Ok, Err, IfSome, MatchResult, length, slice_get};
-ghost use Rattle.zone_table.specs.Prelude.{IsPassOf, table_known, Attaches, Detaches};
+ghost use Rattle.std.specs.Prelude.{◌≡◌, ◌<◌, Ok, Err, IfOk, IfSome, MatchResult, length, slice_get};
+ghost use Rattle.zone_table.specs.Prelude.{IsPassOf, table_known, Attaches, Detaches, IsReceipt};
 
 use crate::pass::ZonesPass;
 use crate::zones::Zones;
@@ -44,6 +44,7 @@ impl<L: Law, N: Named> Zones<L, N> {
         ensures pass { IsPassOf self.now.origins.items pass.new }
         ensures others { pass.new.zones ≡ pass.old.zones }
         ensures attaches { IfSome (slice_get self.now.origins.items zone) (λ origin. Attaches origin (table_known pass.old) (table_known pass.new) result) }
+        ensures receipt { IfOk result (IsReceipt (table_known pass.old) (table_known pass.new)) }
     {
         let origin = &self.origins[zone as usize];
         let mut locked = Locked::of(&self.table);
@@ -69,6 +70,7 @@ impl<L: Law, N: Named> Zones<L, N> {
         ensures pass { IsPassOf self.now.origins.items pass.new }
         ensures others { pass.new.zones ≡ pass.old.zones }
         ensures detaches { IfSome (slice_get self.now.origins.items zone) (λ origin. Detaches origin (table_known pass.old) (table_known pass.new) result) }
+        ensures receipt { IfOk result (IsReceipt (table_known pass.old) (table_known pass.new)) }
     {
         let origin = &self.origins[zone as usize];
         let mut locked = Locked::of(&self.table);

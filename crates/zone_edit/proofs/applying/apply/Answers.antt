@@ -9,7 +9,7 @@ use Rattle.job_model.specs.Sizes.{cells_asked}
 use Rattle.chunk_usage.specs.Keeping.{kept_versions}
 use Rattle.zone_edit.specs.Stores.{IsFullOn, WorksOn, Reads, Stores}
 use Rattle.zone_edit.specs.Blocks.{Applies}
-use Rattle.zone_edit.specs.declared.applying.Stopped.TheVariants as stops
+use Rattle.zone_edit.specs.declared.refusal.EditRefusal.TheVariants as refusals
 use Rattle.zone_edit.proofs.EditLaws.{edits_as, edits_on, read_some}
 use Rattle.zone_edit.proofs.applying.apply.Goals as goal
 
@@ -30,7 +30,7 @@ returns-in_default-both_entries-clause-applies g c =
     let operation = operation_view c.args.operation.now in
     let owner = c.owner-owner.result.now in
     let octets = take c.read_owned-len.result c.read_owned-len.new.item in
-    edits_as 0 0 (Reads owner c.read_owned-len.new.item c.read_owned-len.result) (Applies c.args.origin.now operation (Err stops.Memory)) c.args.transaction.now.locked.now.draft c.read_owned-len.new.transaction.locked.now.draft (omega arith)
+    edits_as 0 0 (Reads owner c.read_owned-len.new.item c.read_owned-len.result) (Applies c.args.origin.now operation (Err refusals.Memory)) c.args.transaction.now.locked.now.draft c.read_owned-len.new.transaction.locked.now.draft (omega arith)
     (λ version e r.
     let held = owned owner version in
     (put (owner_of operation) (candidate operation held) version, made_by c.args.origin.now operation owner octets held (candidate operation held) version c.owner-owner.ensures c.in_default.ensures r.read.says refl refl, r.stays)) c.read_owned-len.ensures.read
@@ -51,8 +51,8 @@ returns-clause-applies g c =
     let operation = operation_view c.args.operation.now in
     let owner = c.owner-owner.result.now in
     let octets = take c.read_owned-len.result c.read_owned-len.new.item in
-    edits_on 0 0 0 (Reads owner c.read_owned-len.new.item c.read_owned-len.result) (Stores owner c.in-Ok.before c.in-Ok.entry (Err c.in-Err.field-0)) (Applies c.args.origin.now operation (Err stops.Full))
+    edits_on 0 0 0 (Reads owner c.read_owned-len.new.item c.read_owned-len.result) (Stores owner c.in-Ok.before c.in-Ok.entry (Err c.in-Err.request)) (Applies c.args.origin.now operation (Err (refusals.Full c.args.number c.in-Err.request)))
     c.args.transaction.now.locked.now.draft c.read_owned-len.new.transaction.locked.now.draft c.store.new.transaction.locked.now.draft (omega arith)
     (λ version e f r. let both = c.in-Ok.ensures (owned owner version) r.read.says in
     let made = made_by c.args.origin.now operation owner octets c.in-Ok.before c.in-Ok.entry version c.owner-owner.ensures c.in_default.ensures r.read.says both.0 both.1 in
-    (version, r.stays, λ y. (put (owner_of operation) c.in-Ok.entry version, made, subst (λ (n : Name). put n c.in-Ok.entry version ≡ version → ⊥) c.owner-owner.ensures (y both.0).2, subst (λ (n : Name). IsFullOn f version (cells_asked n version (put n c.in-Ok.entry version)) (kept_versions f.usage)) c.owner-owner.ensures (y both.0).1))) c.read_owned-len.ensures.read c.in-Err.ensures.stores
+    (version, r.stays, λ y. (put (owner_of operation) c.in-Ok.entry version, made, subst (λ (n : Name). put n c.in-Ok.entry version ≡ version → ⊥) c.owner-owner.ensures (y both.0).2, subst (λ (n : Name). IsFullOn f version (cells_asked n version (put n c.in-Ok.entry version)) (kept_versions f.usage)) c.owner-owner.ensures (y both.0).1, (y both.0).3))) c.read_owned-len.ensures.read c.in-Err.ensures.stores

@@ -3,7 +3,7 @@ use Rattle.zone_model.specs.Transactions.{Transaction}
 use Rattle.zone_model.specs.declared.Refusal.TheVariants.{Prereq}
 use Rattle.zone_change.specs.Views.{operation_view, prerequisite_view}
 use Rattle.zone_edit.specs.Blocks.{AppliesAll, MeetsAll, Executes, done_of}
-use Rattle.zone_edit.specs.declared.applying.Halt.TheVariants as halts
+use Rattle.zone_edit.specs.declared.refusal.EditRefusal.TheVariants as refusals
 use Rattle.zone_edit.proofs.MeetLaws.{executed, whole_unmet}
 use Rattle.zone_edit.proofs.WayLaws.{none_in_order, looked_in_order}
 use Rattle.zone_edit.proofs.executing.execute.Goals as goal
@@ -11,7 +11,7 @@ use Rattle.zone_edit.proofs.executing.execute.Goals as goal
 pub returns-then-not-meets_all-clause-executes : goal.returns-then-not-meets_all-clause-executes
 returns-then-not-meets_all-clause-executes g c =
     let asked : Transaction = record { needs = map prerequisite_view c.args.prerequisites.now; operations = map operation_view c.args.operations.now } in
-    none_in_order c.args.origin.now asked.operations (MeetsAll asked.needs c.meets_all.result) (Executes c.args.origin.now asked (Err (halts.Refused Prereq))) c.args.transaction.now.locked.now.draft c.meets_all.new.transaction.locked.now.draft
+    none_in_order c.args.origin.now asked.operations (MeetsAll asked.needs c.meets_all.result) (Executes c.args.origin.now asked (Err (refusals.Refused Prereq))) c.args.transaction.now.locked.now.draft c.meets_all.new.transaction.locked.now.draft
     (λ version e m. (m.0, whole_unmet c.args.origin.now asked version (sym m.1 ∙ c.if-not-meets_all.true))) c.meets_all.ensures.meets
 
 pub returns-clause-executes : goal.returns-clause-executes

@@ -30,7 +30,7 @@ pub returns-in-Err-Full-clause-stores : goal.returns-in-Err-Full-clause-stores
 returns-in-Err-Full-clause-stores g c =
     let full_is = c.in-Err-Full.is ∙ ap (λ x. Err x) c.in-Err-Full.field-0-is in
     no_room (operation.Replace (record_of c.args.key.now c.args.item.now)) (Absent c.args.key.now) (IsOk c.replace.result) (c.replace.result ≡ Err NotFound) c.args.name.now c.args.before.now c.args.entry.now c.args.transaction.now.locked.now.draft c.replace.new.self.locked.now.draft
-    _ c.in-Err-Full.field-0-0 c.args.key.now _ _ (λ ok. absurd (let h = subst (λ r. IsOk r) full_is ok in cc))
+    c.in-Err-Full.full c.args.key.now _ _ (λ ok. absurd (let h = subst (λ r. IsOk r) full_is ok in cc))
     (λ version v is. put_changes c.args.name.now c.args.entry.now version c.requires.item.some (λ e. c.requires.other (e ∙ sym is)))
     (λ version v. written_few c.args.name.now c.args.item.now c.args.entry.now version c.requires.item)
-    c.replace.ensures.replaces (c.replace.ensures.full c.in-Err-Full.field-0-0 full_is) (c.replace.ensures.cause c.in-Err-Full.field-0-0 full_is) c.replace.ensures.spares (c.replace.ensures.cramped c.in-Err-Full.field-0-0 full_is) (c.replace.ensures.crowded c.in-Err-Full.field-0-0 full_is)
+    c.replace.ensures.replaces (c.replace.ensures.full c.in-Err-Full.full full_is) (c.replace.ensures.cause c.in-Err-Full.full full_is) c.replace.ensures.spares (c.replace.ensures.cramped c.in-Err-Full.full full_is) (c.replace.ensures.crowded c.in-Err-Full.full full_is)

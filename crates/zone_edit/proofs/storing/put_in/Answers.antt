@@ -28,7 +28,7 @@ pub returns-in-Err-Full-clause-stores : goal.returns-in-Err-Full-clause-stores
 returns-in-Err-Full-clause-stores g c =
     let full_is = c.in-Err-Full.is ∙ ap (λ x. Err x) c.in-Err-Full.field-0-is in
     no_room (operation.Insert (record_of c.args.key.now c.args.item.now)) (There c.args.key.now) (IsOk c.insert.result) (c.insert.result ≡ Err Exists) c.args.name.now [] c.args.entry.now c.args.transaction.now.locked.now.draft c.insert.new.self.locked.now.draft
-    _ c.in-Err-Full.field-0-0 c.args.key.now _ _ (λ ok. absurd (let h = subst (λ r. IsOk r) full_is ok in cc))
+    c.in-Err-Full.full c.args.key.now _ _ (λ ok. absurd (let h = subst (λ r. IsOk r) full_is ok in cc))
     (λ version v none. put_changes c.args.name.now c.args.entry.now version c.requires.item.some (λ e. nothing_some c.args.entry.now c.requires.item.some (e ∙ sym none)))
     (λ version v. written_few c.args.name.now c.args.item.now c.args.entry.now version c.requires.item)
-    c.insert.ensures.inserts (c.insert.ensures.full c.in-Err-Full.field-0-0 full_is) (c.insert.ensures.cause c.in-Err-Full.field-0-0 full_is) c.insert.ensures.spares (c.insert.ensures.cramped c.in-Err-Full.field-0-0 full_is) (c.insert.ensures.crowded c.in-Err-Full.field-0-0 full_is)
+    c.insert.ensures.inserts (c.insert.ensures.full c.in-Err-Full.full full_is) (c.insert.ensures.cause c.in-Err-Full.full full_is) c.insert.ensures.spares (c.insert.ensures.cramped c.in-Err-Full.full full_is) (c.insert.ensures.crowded c.in-Err-Full.full full_is)

@@ -30,7 +30,7 @@ pub returns-in-Err-Full-clause-stores : goal.returns-in-Err-Full-clause-stores
 returns-in-Err-Full-clause-stores g c =
     let full_is = c.in-Err-Full.is ∙ ap (λ x. Err x) c.in-Err-Full.field-0-is in
     no_room (operation.Delete c.args.key.now) (Absent c.args.key.now) (IsOk c.delete.result) (c.delete.result ≡ Err NotFound) c.args.name.now c.args.before.now [] c.args.transaction.now.locked.now.draft c.delete.new.self.locked.now.draft
-    _ c.in-Err-Full.field-0-0 c.args.key.now 1 _ (λ ok. absurd (let h = subst (λ r. IsOk r) full_is ok in cc))
+    c.in-Err-Full.full c.args.key.now 1 _ (λ ok. absurd (let h = subst (λ r. IsOk r) full_is ok in cc))
     (λ version v is. gone_changes c.args.name.now version v (subst (λ (x : Entry). 0 < length x) is c.requires.some))
     (λ version v. omega arith)
-    c.delete.ensures.deletes (c.delete.ensures.full c.in-Err-Full.field-0-0 full_is) (c.delete.ensures.cause c.in-Err-Full.field-0-0 full_is) c.delete.ensures.spares (c.delete.ensures.cramped c.in-Err-Full.field-0-0 full_is) (c.delete.ensures.crowded c.in-Err-Full.field-0-0 full_is)
+    c.delete.ensures.deletes (c.delete.ensures.full c.in-Err-Full.full full_is) (c.delete.ensures.cause c.in-Err-Full.full full_is) c.delete.ensures.spares (c.delete.ensures.cramped c.in-Err-Full.full full_is) (c.delete.ensures.crowded c.in-Err-Full.full full_is)

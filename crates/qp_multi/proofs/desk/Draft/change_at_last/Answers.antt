@@ -64,7 +64,7 @@ returns-clause-full g c f kept e same =
     let ends = left.ensures.frees.round.kept.ends in
     let fails = tried.ensures.fails f e in
     full_of left.result tried.result.0 f (full_with f kept) tried.ensures.operates.known (rows_stay g c fails) left.ensures.named
-    (ends.0, ends.1 ∙ ap (λ (n : ℕ). ends.0 ++ n ∷ []) (sym left.ensures.numbers.0)) (tried.ensures.full f e) (refl, refl, refl, refl) same
+    (ends.0, ends.1 ∙ ap (λ (n : ℕ). ends.0 ++ n ∷ []) (sym left.ensures.numbers.0)) (tried.ensures.full f e) refl same
 
 pub returns-clause-cause : goal.returns-clause-cause
 returns-clause-cause g c f kept e same =

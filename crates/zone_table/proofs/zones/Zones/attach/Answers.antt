@@ -10,7 +10,7 @@ use Rattle.zone_table.specs.Changes.{Attaches}
 use Rattle.zone_table.specs.Passes.{table_known}
 use Rattle.zone_table.specs.Tables.{IsAttached, entry_for}
 use Rattle.zone_table.proofs.Lists.{read_at, contains_at}
-use Rattle.zone_table.proofs.ChangeLaws.{may_commit, committed, refused, has_room, insert_puts, one_and}
+use Rattle.zone_table.proofs.ChangeLaws.{may_commit, committed, receipt_told, refused, has_room, insert_puts, one_and}
 use Rattle.zone_table.proofs.AttachLaws.{Inserts, inserts_as, attached, if_read}
 use Rattle.zone_table.proofs.zones.Zones.attach.Goals as goal
 
@@ -37,6 +37,8 @@ returns-in-Ok g c =
       others = refl {a = c.args.pass.now.zones};
       attaches = if_read (λ x. Attaches x old (known_at new.seat) c.committed.result) c.args.self.now.origins.items c.args.zone c.index-origin.result.now c.requires.zone c.index-origin.ensures
           (attached c.index-origin.result.now old (known_at new.seat) c.commit.result c.committed.result c.committed.ensures done.ends);
+      receipt = receipt_told IsThere (Insert (entry_for c.index-origin.result.now)) (λ es. IsAttached es c.index-origin.result.now) c.args.self.now.origins.items c.args.pass.now c.requires.pass c.write-write.result.locked.now.draft c.insert.new.self.locked.now.draft c.write-write.ensures.begins (known_at new.seat) c.commit.result c.committed.result
+          (inserts_as IsThere c.write-write.result.locked.now.draft c.insert.new.self.locked.now.draft (Ok tt) c.of.result (key_of c.index-origin.result.now) c.wire.result.now (wire c.index-origin.result.now) c.of.ensures c.wire.ensures.wire c.in-Ok.ensures.inserts) c.commit.ensures.receipt c.committed.ensures;
     }
 
 pub returns-in-Err-Exists : goal.returns-in-Err-Exists
@@ -54,6 +56,7 @@ returns-in-Err-Exists g c =
       others = refl {a = c.args.pass.now.zones};
       attaches = if_read (λ x. Attaches x old (known_at new.seat) (Err (Exists number))) c.args.self.now.origins.items c.args.zone c.index-origin.result.now c.requires.zone c.index-origin.ensures
           done.unchanged;
+      receipt = tt;
     }
 
 pub unreachable-requires : goal.unreachable-requires

@@ -8,7 +8,7 @@ use Rattle.zone_table.specs.declared.change.TableRefusal.TheVariants.{Missing}
 use Rattle.zone_table.specs.Changes.{Detaches}
 use Rattle.zone_table.specs.Passes.{table_known}
 use Rattle.zone_table.specs.Tables.{IsAttached}
-use Rattle.zone_table.proofs.ChangeLaws.{may_commit, committed, refused, has_room, delete_puts, one_and}
+use Rattle.zone_table.proofs.ChangeLaws.{may_commit, committed, receipt_told, refused, has_room, delete_puts, one_and}
 use Rattle.zone_table.proofs.AttachLaws.{Missing', Deletes, deletes_as, detached, if_read, isnt_there, unchanged_as}
 use Rattle.zone_table.proofs.zones.Zones.detach.Goals as goal
 
@@ -33,6 +33,8 @@ returns-in-Ok g c =
       others = refl {a = c.args.pass.now.zones};
       detaches = if_read (λ x. Detaches x old (known_at new.seat) c.committed.result) c.args.self.now.origins.items c.args.zone c.index-origin.result.now c.requires.zone c.index-origin.ensures
           (detached c.index-origin.result.now old (known_at new.seat) c.commit.result c.committed.result c.committed.ensures done.ends);
+      receipt = receipt_told NotFound (Delete (key_of c.index-origin.result.now)) (Missing' (key_of c.index-origin.result.now)) c.args.self.now.origins.items c.args.pass.now c.requires.pass c.write-write.result.locked.now.draft c.delete.new.self.locked.now.draft c.write-write.ensures.begins (known_at new.seat) c.commit.result c.committed.result
+          (deletes_as NotFound c.write-write.result.locked.now.draft c.delete.new.self.locked.now.draft (Ok tt) c.of.result (key_of c.index-origin.result.now) c.of.ensures c.in-Ok.ensures.deletes) c.commit.ensures.receipt c.committed.ensures;
     }
 
 pub returns-in-Err-NotFound : goal.returns-in-Err-NotFound
@@ -50,6 +52,7 @@ returns-in-Err-NotFound g c =
       others = refl {a = c.args.pass.now.zones};
       detaches = if_read (λ x. Detaches x old (known_at new.seat) (Err (Missing number))) c.args.self.now.origins.items c.args.zone c.index-origin.result.now c.requires.zone c.index-origin.ensures
           (unchanged_as (Missing' (key_of c.index-origin.result.now)) (λ es. IsAttached es c.index-origin.result.now → ⊥) old (known_at new.seat) number (isnt_there (key_of c.index-origin.result.now)) done.unchanged);
+      receipt = tt;
     }
 
 pub unreachable-requires : goal.unreachable-requires
