@@ -236,7 +236,9 @@ fn is_cramped(full: &Full) -> bool {
     let versions = full.kept.as_slice().len().saturating_add(1);
     let cells = versions.saturating_mul(VERSION_CELLS);
     let others = (full.request.reserve as usize).saturating_add(8);
-    full.request.free <= full.request.reserve && full.request.left < full.request.needed && others.saturating_add(cells) >= 16
+    full.request.free <= full.request.reserve
+        && full.request.left < full.request.needed
+        && others.saturating_add(cells) >= 16
 }
 
 /// Each commit's version is held until there is no room. When they are released the same exchange is made.
