@@ -14,5 +14,5 @@ all_due i bytes same within = source_due i (Some bytes) (Some []) bytes same (sy
 pub all_too_long : (i : Invocation) (bytes : List ℕ) → input_of i.verb (Some bytes) ≡ Some bytes → length bytes ≡ 16777217 → Due (Some i) (Some bytes) status.TooLong (codes "input over 16777216 bytes\n")
 all_too_long i bytes same long = given_due i (Some bytes) status.TooLong (codes "input over 16777216 bytes\n") same (too_long i (Some bytes) (Some []) bytes (sym (append-nil bytes)) long)
 
-pub given_too_long : (i : Invocation) (before after : List ℕ) (ended : Bool) (bytes : List ℕ) (holds : Option (List ℕ) → Type 0) → after ≡ before ++ bytes → length bytes ≡ 16777217 → holds (Some bytes) → GaveFor (Some i) before after ended holds
-given_too_long i before after ended bytes holds gave long h = record { bytes = bytes; gave = gave; whole = λ reads within. absurd (omega (arith, long, within)); holds = h }
+pub given_too_long : (i : Invocation) (before after : List ℕ) (ended : Bool) (bytes : List ℕ) (so : Option (List ℕ) → Type 0) → after ≡ before ++ bytes → length bytes ≡ 16777217 → so (Some bytes) → GaveFor (Some i) before after ended so
+given_too_long i before after ended bytes so gave long h = record { bytes = bytes; gave = gave; whole = λ reads within. absurd (omega (arith, long, within)); holds = h }

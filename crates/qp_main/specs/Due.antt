@@ -246,11 +246,11 @@ ReadsInput None = ⊥
 ReadsInput (Some invocation) = MakesInput invocation.verb → ⊥
 
 -- Of the bytes that a source gave in this call, which are all up to the end of input where that is to be read and isn't too long.
-pub record GaveFor (i : Option Invocation) (before after : List ℕ) (ended : Bool) (holds : Option (List ℕ) → Type 0) : Type 0 where
+pub record GaveFor (i : Option Invocation) (before after : List ℕ) (ended : Bool) (so : Option (List ℕ) → Type 0) : Type 0 where
   pub bytes : List ℕ
   pub gave : after ≡ before ++ bytes
   pub whole : ReadsInput i → length bytes ≤ input_limit → IsTrue ended
-  pub holds : holds (Some bytes)
+  pub holds : so (Some bytes)
 
 -- The run of a load ends so: it reads nothing, and its text says a job.
 abbrev pub EndsLoad : Status → Type 0
