@@ -1,4 +1,4 @@
-use Rattle.std.proofs.Common.{rules, ◌≡◌, ◌∙◌, Option, Some, ap, codes, map, subst, sym}
+use Rattle.std.proofs.Common.{rules, ◌≡◌, ◌∙◌, List, [], Option, Some, None, ap, append-nil, codes, map, refl, subst, sym}
 use Rattle.std.specs.Option.{option_map}
 use Rattle.std.specs.String.{string_bytes}
 use Rattle.command_line.specs.Invocations.{Invocation, IsUnder}
@@ -6,7 +6,7 @@ use Rattle.command_line.specs.Words.{invocation_of}
 use Rattle.command_line.specs.Views.{invocation_view, verb_view}
 use Rattle.command_line.proofs.OriginLemmas.{AllUnder, words_under}
 use Rattle.qp_main.specs.declared.status.Status.TheVariants as status
-use Rattle.qp_main.specs.Due.{CutShort, Due, MayBeShort, streams}
+use Rattle.qp_main.specs.Due.{CutShort, Due, GaveFor, MayBeShort, Written, streams}
 use Rattle.qp_main.proofs.DueLemmas.{nothing_yet, short_is, some_words}
 use Rattle.qp_main.proofs.program.run.Goals as goal
 
@@ -34,3 +34,39 @@ returns-in-Err-clause-cut_short g c = λ streamed.
     let o = invocation_of (map string_bytes c.args.words.now) in
     let left = g.S.Source.left c.args.source.now in
     nothing_yet (Due o left) (g.K.Sink.held c.args.sink.now) (some_words o left streamed)
+
+-- ---- of the bytes that the source gave
+
+pub returns-in-Ok-None-clause-given : goal.returns-in-Ok-None-clause-given
+returns-in-Ok-None-clause-given g c = λ w.
+    let given = g.S.Source.given c.args.source.now in
+    let is : option_map invocation_view None ≡ invocation_of (map string_bytes c.args.words.now) = sym (ap (option_map invocation_view) c.in-Ok-None.field-0-is) ∙ c.in-Ok-None.ensures in
+    let whole = c.write_due.ensures.whole w in
+    subst (λ (o : Option Invocation). GaveFor o given given (g.S.Source.ended c.args.source.now) (λ left. Written (Due o left) (g.K.Sink.held c.args.sink.now) (g.K.Sink.held c.write_due.new.sink) c.write_due.result)) is (record {
+      bytes = [];
+      gave = sym (append-nil given);
+      whole = λ reads within. absurd reads;
+      holds = record { text = codes "words refused\n"; is_due = (whole.0, refl); grew = search (rules, whole.1) };
+    })
+
+pub returns-in-Ok-None-clause-given_short : goal.returns-in-Ok-None-clause-given_short
+returns-in-Ok-None-clause-given_short g c = λ short some.
+    let given = g.S.Source.given c.args.source.now in
+    let is : option_map invocation_view None ≡ invocation_of (map string_bytes c.args.words.now) = sym (ap (option_map invocation_view) c.in-Ok-None.field-0-is) ∙ c.in-Ok-None.ensures in
+    subst (λ (o : Option Invocation). GaveFor o given given (g.S.Source.ended c.args.source.now) (λ left. CutShort (Due o left) (g.K.Sink.held c.args.sink.now) (g.K.Sink.held c.write_due.new.sink))) is (record {
+      bytes = [];
+      gave = sym (append-nil given);
+      whole = λ reads within. absurd reads;
+      holds = record {
+        status = status.WordsRefused;
+        text = codes "words refused\n";
+        is_due = (refl, refl);
+        grew = search (rules, c.write_due.ensures.front (short_is _ c.write_due.result short c.write_due.ensures.only.1));
+      };
+    })
+
+pub returns-in-Ok-Some-clause-given_short : goal.returns-in-Ok-Some-clause-given_short
+returns-in-Ok-Some-clause-given_short g c =
+    let is : option_map invocation_view (Some c.in-Ok-Some.invocation) ≡ invocation_of (map string_bytes c.args.words.now) = sym (ap (option_map invocation_view) c.in-Ok-Some.field-0-is) ∙ c.in-Ok-Some.ensures in
+    subst (λ (o : Option Invocation). MayBeShort (streams o) c.serve_invocation.result → (g.K.Sink.held c.serve_invocation.new.sink ≡ g.K.Sink.held c.args.sink.now → ⊥)
+    → GaveFor o (g.S.Source.given c.args.source.now) (g.S.Source.given c.serve_invocation.new.source) (g.S.Source.ended c.serve_invocation.new.source) (λ left. CutShort (Due o left) (g.K.Sink.held c.args.sink.now) (g.K.Sink.held c.serve_invocation.new.sink))) is c.serve_invocation.ensures.given_short

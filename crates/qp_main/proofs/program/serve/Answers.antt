@@ -93,8 +93,8 @@ returns-clause-given g c = λ w.
     let bytes = c.in-Ok.bytes.items in
     record {
       bytes = bytes;
-      gave = search rules;
-      whole = λ reads within. search rules;
+      gave = c.in-Ok.ensures.gave;
+      whole = λ reads within. c.in-Ok.ensures.ended;
       holds = written_as (DueInput i.verb i.chunks i.origin bytes) (Due (Some i) (Some bytes)) _ _ c.serve_input.result (all_due i bytes (c.requires (Some bytes)) (search rules)) (c.serve_input.ensures.written w);
     }
 
@@ -104,7 +104,7 @@ returns-clause-given_short g c = λ short some.
     let bytes = c.in-Ok.bytes.items in
     record {
       bytes = bytes;
-      gave = search rules;
-      whole = λ reads within. search rules;
+      gave = c.in-Ok.ensures.gave;
+      whole = λ reads within. c.in-Ok.ensures.ended;
       holds = cut_as (DueInput i.verb i.chunks i.origin bytes) (Due (Some i) (Some bytes)) _ _ (all_due i bytes (c.requires (Some bytes)) (search rules)) (c.serve_input.ensures.cut_short short);
     }
