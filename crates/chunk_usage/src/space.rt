@@ -2,6 +2,7 @@
 
 use chunk_hints::Path;
 use packed_node::Ref;
+use thiserror::Error;
 
 /// Cells side by side.
 #[derive(Clone, Copy, PartialEq, Eq, Debug)]
@@ -13,7 +14,8 @@ pub struct Grant {
 }
 
 /// There is no room: the bump chunk has too few cells left, and no chunk but the reserve is free.
-#[derive(Clone, Copy, PartialEq, Eq, Debug)]
+#[derive(Clone, Copy, PartialEq, Eq, Debug, Error)]
+#[error("no room for {needed} cells: {left} are left in the bump chunk, and {free} chunks are free, where {reserve} are kept free")]
 pub struct Full {
     /// How many cells were wanted.
     pub needed: u32,

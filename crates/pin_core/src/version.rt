@@ -1,11 +1,14 @@
 //! Version numbers.
 ghost use Rattle.std.specs.Prelude.{◌≡◌, ◌+◌, ◌<◌, ◌≤◌, MatchResult};
 
+use thiserror::Error;
+
 /// The greatest version.
 pub const LAST_VERSION: u64 = 0xff_ffff_ffff;
 
 /// There is no version after this one, which is the greatest.
-#[derive(Clone, Copy, Debug, PartialEq)]
+#[derive(Clone, Copy, Debug, PartialEq, Error)]
+#[error("there is no version after {version}")]
 pub struct Spent {
     pub version: u64,
 }

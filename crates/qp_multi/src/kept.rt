@@ -9,7 +9,7 @@ use chunk_usage::Usage;
 const MOST: usize = 65;
 
 /// The versions that are kept, the oldest first.
-#[derive(Clone, Copy)]
+#[derive(Clone, Copy, Debug)]
 pub struct Versions {
     len: usize,
     // The first `len` count.

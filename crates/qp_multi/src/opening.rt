@@ -29,6 +29,7 @@ use shared_cells::{Lent, NewPassSeat, NewTurnSeat, Opening, Shared, TurnSeat};
 use std::alloc::{AllocError, Global};
 use std::marker::{Brand, PhantomData};
 use std::sync::Mutex;
+use thiserror::Error;
 use trie_write::{Item, build, cells_beyond};
 
 // More items than memory holds.
@@ -54,11 +55,13 @@ pub struct Blank<L: Law> {
 }
 
 /// Why no index begins with some items.
-#[derive(Clone, Copy, PartialEq, Eq, Debug)]
+#[derive(Clone, Copy, PartialEq, Eq, Debug, Error)]
 pub enum OpenRefusal {
     /// Their trie has so many cells, over the limit.
+    #[error("{cells} cells, where there is room for {limit}")]
     Full { cells: u64, limit: u64 },
     /// Want of memory, where their trie fits.
+    #[error("out of memory")]
     Memory,
 }
 

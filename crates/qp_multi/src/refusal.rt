@@ -1,10 +1,12 @@
 //! Why a transaction's call changes nothing.
 
 use crate::kept::Versions;
+use thiserror::Error;
 
 /// There is no room: after a round and a freeing in this call the bump chunk has too few cells left, and no chunk but the reserve
 /// is free.
-#[derive(Clone, Copy)]
+#[derive(Clone, Copy, Debug, Error)]
+#[error("{request}")]
 pub struct Full {
     /// The refused request.
     pub request: chunk_usage::Full,
@@ -13,19 +15,23 @@ pub struct Full {
 }
 
 /// Why a name isn't put in.
-#[derive(Clone, Copy)]
+#[derive(Clone, Copy, Debug, Error)]
 pub enum InsertRefusal {
     /// The name is there.
+    #[error("the name is there")]
     Exists,
     /// There is no room.
+    #[error(transparent)]
     Full(Full),
 }
 
 /// Why a name's item isn't changed.
-#[derive(Clone, Copy)]
+#[derive(Clone, Copy, Debug, Error)]
 pub enum ChangeRefusal {
     /// The name isn't there.
+    #[error("the name isn't there")]
     NotFound,
     /// There is no room.
+    #[error(transparent)]
     Full(Full),
 }

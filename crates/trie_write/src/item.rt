@@ -8,6 +8,7 @@ use dns_name::Name;
 use packed_node::ITEM_LIMIT;
 use shift_key::Key;
 use std::alloc::{AllocError, Global};
+use thiserror::Error;
 
 /// The octets of a name and what belongs to it: 1 to 65,535 octets that begin with the name's wire form.
 #[derive(Drop)]
@@ -19,11 +20,13 @@ pub struct Item {
 }
 
 /// Why there is no such item.
-#[derive(Clone, Copy, PartialEq, Eq, Debug)]
+#[derive(Clone, Copy, PartialEq, Eq, Debug, Error)]
 pub enum ItemRefusal {
     /// It would have so many octets, over 65,535.
+    #[error("an item of {bytes} octets, where 65535 are the most")]
     Long { bytes: u64 },
     /// Want of memory.
+    #[error("out of memory")]
     Memory,
 }
 

@@ -7,15 +7,19 @@ use crate::zones::Zones;
 use qp_multi::{ChangeRefusal, InsertRefusal, Law, Locked, Named, Receipt, Spent};
 use shift_key::Key;
 use std::sync::Wait;
+use thiserror::Error;
 
 /// Why the table isn't changed. The number is that of its version then.
-#[derive(Clone, Copy, PartialEq, Eq, Debug)]
+#[derive(Clone, Copy, PartialEq, Eq, Debug, Error)]
 pub enum TableRefusal {
     /// The version has the origin.
+    #[error("version {version} has the origin")]
     Exists { version: u64 },
     /// The version hasn't the origin.
+    #[error("version {version} hasn't the origin")]
     Missing { version: u64 },
     /// There is no next version.
+    #[error("there is no version after {version}")]
     Spent { version: u64 },
 }
 

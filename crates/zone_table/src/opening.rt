@@ -6,6 +6,7 @@ use crate::law::TableLaw;
 use dns_name::Name;
 use qp_multi::{Blank, Index, Law, Named, OpenRefusal, Pass};
 use std::alloc::{AllocError, Global};
+use thiserror::Error;
 use trie_write::Item;
 
 /// A zone that is to be opened: its origin, and the items of its version 0.
@@ -16,12 +17,14 @@ pub struct ZoneItems {
 }
 
 /// Why zones aren't opened.
-#[derive(Clone, Copy, PartialEq, Eq, Debug)]
+#[derive(Clone, Copy, PartialEq, Eq, Debug, Error)]
 pub enum ZonesRefusal {
     /// The trie of the zone of this number has so many cells, over the limit. Of several such zones it is the one whose origin comes first in canonical
     /// order.
+    #[error("zone {zone} has {cells} cells, where there is room for {limit}")]
     Full { zone: u32, cells: u64, limit: u64 },
     /// Want of memory, where each zone's trie fits.
+    #[error("out of memory")]
     Memory,
 }
 
