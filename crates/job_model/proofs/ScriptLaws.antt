@@ -16,7 +16,7 @@ use Rattle.job_model.specs.declared.Weight.{Weight}
 use Rattle.job_model.specs.Commands.{Command, Ask, Hold, AskHeld, Release, Block, Compact, held_after, MayCome, NeedsNoSnapshot}
 use Rattle.job_model.specs.Phrases.{Phrase, Worker, Asks, Holds, AsksHeld, Releases, Opens, Needs, Adds, Deletes, Ends, Compacts, phrase_of, script_tokens}
 use Rattle.job_model.specs.Arguments.{refuse, at_line, prerequisite_of, addition_of, deletion_of}
-use Rattle.job_model.specs.Jobs.{Unfinished, Script, lists_of, is_by_worker, worker_limit, command_limit, need_limit, operation_limit, of_worker, while_held, while_free, with_room, with_command, with_question, with_held_question, holding, released, opened, next_worker, outside, with_asked, with_need, needed_first, with_operation, joined, may_end, inside, may_stand, by_block, taken, tokens_say, script_line, script_from, finished, no_lines, script_of, no_commands, list_finished, list_of}
+use Rattle.job_model.specs.Jobs.{Unfinished, Script, lists_of, is_by_worker, has_snapshots, worker_limit, command_limit, need_limit, operation_limit, of_worker, while_held, while_free, with_room, with_command, with_question, with_held_question, holding, released, opened, next_worker, outside, with_asked, with_need, needed_first, with_operation, joined, may_end, inside, may_stand, by_block, taken, tokens_say, script_line, script_from, finished, no_lines, script_of, no_commands, list_finished, list_of}
 
 -- ---- what a line adds
 
@@ -105,6 +105,9 @@ begun Fact n s next k = if_either Fact s.begun next (refuse n NoWorker) (λ _. k
 pub not_here : (listing : Listing) → is_by_worker listing ≡ true → listing ≡ OneList → ⊥
 not_here listing may one = let no : is_by_worker listing ≡ false = ap is_by_worker one in cc
 
+no_snapshots_here : (listing : Listing) → has_snapshots listing ≡ true → listing ≡ OneList → ⊥
+no_snapshots_here listing may one = let no : has_snapshots listing ≡ false = ap has_snapshots one in cc
+
 outside_kept : (origin : Name) (Line : List ℕ → Type 0) (Fact : Script → Type 0) → IsKept origin Line Fact → (n : ℕ) (phrase : Phrase) (s : Script) → Fact (free s) → may_stand s.listing phrase ≡ true
     → IfRead Fact (outside origin n phrase (free s))
 outside_kept origin Line Fact k n Worker s so_far may =
@@ -115,16 +118,16 @@ outside_kept origin Line Fact k n (Asks asked) s so_far may =
 outside_kept origin Line Fact k n Holds s so_far may =
     begun Fact n (free s) (while_free n (free s) (with_room n (free s) (Ok (holding (free s)))))
     (if_either Fact s.held (refuse n AlreadyHeld) (with_room n (free s) (Ok (holding (free s)))) (λ _. tt) (λ none. roomy Fact n (free s) (Ok (holding (free s)))
-    (λ room. k.command s Hold so_far (record { turn = none; place = not_here s.listing may; room = room }) tt)))
+    (λ room. k.command s Hold so_far (record { turn = none; place = no_snapshots_here s.listing may; room = room }) tt)))
 outside_kept origin Line Fact k n (AsksHeld asked) s so_far may =
     begun Fact n (free s) (while_held n (free s) (with_room n (free s) (at_line n asked >>= with_held_question (free s))))
     (if_either Fact s.held (with_room n (free s) (at_line n asked >>= with_held_question (free s))) (refuse n NotHeld)
     (λ held. roomy Fact n (free s) (at_line n asked >>= with_held_question (free s)) (λ room. if_bound Fact (at_line n asked) (with_held_question (free s))
-    (λ question _. k.command s (AskHeld question) so_far (record { turn = held; place = not_here s.listing may; room = room }) tt))) (λ _. tt))
+    (λ question _. k.command s (AskHeld question) so_far (record { turn = held; place = no_snapshots_here s.listing may; room = room }) tt))) (λ _. tt))
 outside_kept origin Line Fact k n Releases s so_far may =
     begun Fact n (free s) (while_held n (free s) (with_room n (free s) (Ok (released (free s)))))
     (if_either Fact s.held (with_room n (free s) (Ok (released (free s)))) (refuse n NotHeld) (λ held. roomy Fact n (free s) (Ok (released (free s)))
-    (λ room. k.command s Release so_far (record { turn = held; place = not_here s.listing may; room = room }) tt)) (λ _. tt))
+    (λ room. k.command s Release so_far (record { turn = held; place = no_snapshots_here s.listing may; room = room }) tt)) (λ _. tt))
 outside_kept origin Line Fact k n (Opens weight) s so_far may =
     begun Fact n (free s) (with_room n (free s) (Ok (opened n weight (free s)))) (roomy Fact n (free s) (Ok (opened n weight (free s))) (λ room. k.opens n weight s so_far room))
 outside_kept origin Line Fact k n (Needs wanted owner rtype) s so_far may = tt

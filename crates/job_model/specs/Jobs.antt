@@ -13,7 +13,7 @@ use Rattle.zone_model.specs.declared.ZoneKind.{ZoneKind}
 use Rattle.job_model.specs.declared.Ending.{Ending}
 use Rattle.job_model.specs.declared.Ending.TheVariants.{Commit, Rollback}
 use Rattle.job_model.specs.declared.Listing.{Listing}
-use Rattle.job_model.specs.declared.Listing.TheVariants.{ByWorker, OneList}
+use Rattle.job_model.specs.declared.Listing.TheVariants.{ByWorker, OneList, Live}
 use Rattle.job_model.specs.declared.ScriptKind.{ScriptKind}
 use Rattle.job_model.specs.declared.ScriptKind.TheVariants.{NoWorker, BadCommand, OpenBlock, NotHeld, AlreadyHeld, TooMany}
 use Rattle.job_model.specs.declared.Weight.{Weight}
@@ -69,14 +69,21 @@ operation_limit = 10000
 abbrev pub is_by_worker : Listing → Bool
 is_by_worker ByWorker = true
 is_by_worker OneList = false
+is_by_worker Live = false
 
--- Where any worker may run any command, no worker begins, and no snapshot is taken, asked or given back.
+-- a list is one worker's, which may hold a snapshot
+abbrev pub has_snapshots : Listing → Bool
+has_snapshots ByWorker = true
+has_snapshots OneList = false
+has_snapshots Live = true
+
+-- No worker begins where there is one list. Where any worker may run any command of it, no snapshot is taken, asked or given back.
 abbrev pub may_stand : Listing → Phrase → Bool
 may_stand listing Worker = is_by_worker listing
 may_stand listing (Asks asked) = true
-may_stand listing Holds = is_by_worker listing
-may_stand listing (AsksHeld asked) = is_by_worker listing
-may_stand listing Releases = is_by_worker listing
+may_stand listing Holds = has_snapshots listing
+may_stand listing (AsksHeld asked) = has_snapshots listing
+may_stand listing Releases = has_snapshots listing
 may_stand listing (Opens _) = true
 may_stand listing (Needs wanted owner rtype) = true
 may_stand listing (Adds owner ttl rtype tokens) = true
@@ -227,6 +234,10 @@ script_of origin n lines = script_from origin n lines no_lines >>= finished (n +
 -- one list of which no line was read: commands may come at once
 abbrev pub no_commands : Script
 no_commands = record no_lines { listing = OneList; begun = true }
+
+-- the same of one worker's lines, which come one by one
+abbrev pub no_live_lines : Script
+no_live_lines = record no_lines { listing = Live; begun = true }
 
 abbrev pub list_finished : Script → Result (List Command) (Refused ScriptKind)
 list_finished s = while_closed s.block (Ok s.commands)

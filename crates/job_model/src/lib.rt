@@ -12,6 +12,8 @@ pub enum Listing {
     ByWorker,
     /// There is one list, and each command of it is run by some worker.
     OneList,
+    /// There is one worker, whose lines come one by one while it runs.
+    Live,
 }
 
 /// Names that follow a name in one direction.

@@ -13,7 +13,7 @@ use Rattle.job_model.specs.Arguments.{at_line}
 use Rattle.job_model.specs.Jobs as jobs
 use Rattle.job_model.specs.Phrases.{script_tokens}
 use Rattle.job_model.specs.declared.Listing.{Listing}
-use Rattle.job_model.specs.declared.Listing.TheVariants.{ByWorker, OneList}
+use Rattle.job_model.specs.declared.Listing.TheVariants.{ByWorker, OneList, Live}
 use Rattle.job_model.specs.declared.Question.{Question}
 use Rattle.job_model.specs.declared.ScriptKind.{ScriptKind}
 use Rattle.job_model.specs.declared.ScriptKind.TheVariants.{BadCommand}
@@ -47,6 +47,7 @@ script_view s = record {
 abbrev pub first_script : Listing → jobs.Script
 first_script ByWorker = jobs.no_lines
 first_script OneList = jobs.no_commands
+first_script Live = jobs.no_live_lines
 
 -- a question joins the worker's commands where there is room: to the snapshot that is held, or to the current version
 abbrev pub with_asked : ℕ → Bool → Result Question ScriptKind → jobs.Script → Result jobs.Script (Refused ScriptKind)

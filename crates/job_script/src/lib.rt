@@ -32,6 +32,6 @@ pub use printed::{PrintedRows, push_answer, push_rows};
 pub use refusal::{JobRefusal, demand, refused, too_many};
 pub use replies::{push_found, push_list, push_size};
 pub use report::{push_end, push_head, push_pair, push_told};
-pub use script::{Script, Unfinished, read_job, read_line, read_list, script_line};
+pub use script::{Script, Unfinished, first_script, read_job, read_line, read_list, script_line};
 pub use summary::print_summary;
 pub use words::says;

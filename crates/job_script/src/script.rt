@@ -40,13 +40,15 @@ pub struct Script {
     pub block: Option<Unfinished>,
 }
 
-// Whether a line may say this at all. Where any worker may run any command no worker begins, and there are no snapshots.
+// Whether a line may say this at all. No worker begins where there is one list, and where any worker may run any command of it there
+// are no snapshots.
 fn may_stand(listing: Listing, phrase: &Phrase) -> bool
     ensures { (origin : Labels) (bytes : List ℕ) → result ≡ jobs.may_stand listing (phrase_view origin bytes phrase.now) }
 {
     match phrase {
-        Phrase::Worker | Phrase::Holds | Phrase::AsksHeld(_) | Phrase::Releases => {
-            matches!(listing, Listing::ByWorker)
+        Phrase::Worker => matches!(listing, Listing::ByWorker),
+        Phrase::Holds | Phrase::AsksHeld(_) | Phrase::Releases => {
+            matches!(listing, Listing::ByWorker | Listing::Live)
         }
         Phrase::Asks(_)
         | Phrase::Opens(_)
@@ -166,14 +168,14 @@ fn script_from(
     Ok(line)
 }
 
-// A script of which no line was read. In one list commands may come at once.
-fn first_script(alloc: Global, listing: Listing) -> Script
+/// A script of which no line was read. In one list commands may come at once.
+pub fn first_script(alloc: Global, listing: Listing) -> Script
     ensures { script_view result ≡ first_script listing }
 {
     Script {
         listing,
         earlier: Vec::new(alloc),
-        begun: matches!(listing, Listing::OneList),
+        begun: matches!(listing, Listing::OneList | Listing::Live),
         commands: Vec::new(alloc),
         held: false,
         block: None,
