@@ -2,9 +2,10 @@
 //!
 //! A cell leads to cells that were there before it, or that the same transaction hands out. So where a chunk was filled, and a version
 //! frozen, before another chunk was given, no cell of the first leads to the second. This is used to save work and nothing else:
-//! nothing is proved of these numbers, and no answer rests on them.
+//! nothing is proved of these numbers, and no answer rests on them. No call takes memory but `new`.
 
 ghost use Rattle.std.specs.Prelude.{◌≡◌, ◌≤◌, false, length};
+ghost use Rattle.chunk_hints.specs.Rooms.{age_room};
 
 use chunk_sets::ChunkSet;
 use std::alloc::{AllocError, Global};
@@ -52,7 +53,9 @@ impl Ages {
     }
 
     /// A chunk is given.
-    pub fn give(&mut self, chunk: u32) {
+    pub fn give(&mut self, chunk: u32)
+        ensures room { age_room self.new ≡ age_room self.old }
+    {
         self.count = self.count.saturating_add(1);
         put(&mut self.given, chunk, self.count);
         put(&mut self.settled, chunk, u64::MAX);
@@ -61,6 +64,7 @@ impl Ages {
     /// The cells of a bump chunk, and of the chunks that were given since the last freeze, are frozen.
     pub fn settle(&mut self, recent: &ChunkSet, bump: Option<u32>)
         requires { length recent.now ≤ 4096 }
+        ensures room { age_room self.new ≡ age_room self.old }
     {
         if let Some(bump) = bump {
             put(&mut self.settled, bump, self.count);
@@ -75,6 +79,7 @@ impl Ages {
     // The cells of these chunks are frozen.
     fn settle_all(&mut self, chunks: &ChunkSet)
         requires { length chunks.now ≤ 4096 }
+        ensures room { age_room self.new ≡ age_room self.old }
     {
         let mut from = 0;
         while let Some(chunk) = chunks.first_from(from) {

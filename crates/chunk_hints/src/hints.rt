@@ -2,9 +2,10 @@
 //!
 //! Whoever changes a trie tells the path of the key, and each chunk that cells are handed out of meanwhile lists it. So what the trie has
 //! in a chunk is mostly found along the paths of its list. This is used to save work and nothing else: nothing is proved of the lists, and
-//! no answer rests on them.
+//! no answer rests on them. No call takes memory but `new`.
 
-ghost use Rattle.std.specs.Prelude.{◌≤◌};
+ghost use Rattle.std.specs.Prelude.{◌≡◌, ◌≤◌};
+ghost use Rattle.chunk_hints.specs.Rooms.{hint_room};
 
 use crate::listed::Listed;
 use crate::lists::PathLists;
@@ -43,7 +44,9 @@ impl Hints {
     }
 
     /// Cells are handed out of a chunk that was free, and no more of the one before. They lie on the path that is written now.
-    pub fn begin(&mut self, chunk: u32, before: Option<u32>) {
+    pub fn begin(&mut self, chunk: u32, before: Option<u32>)
+        ensures room { hint_room self.new ≡ hint_room self.old }
+    {
         self.left = before;
         self.lists.clear(chunk);
         set(&mut self.lacking, chunk, false);
@@ -51,7 +54,9 @@ impl Hints {
     }
 
     /// A key was put in or taken out, on whose path all twigs were written since the last path was told.
-    pub fn note_change(&mut self, bump: Option<u32>, path: Path) {
+    pub fn note_change(&mut self, bump: Option<u32>, path: Path)
+        ensures room { hint_room self.new ≡ hint_room self.old }
+    {
         if let Some(chunk) = bump {
             self.rows.put_all(path, chunk);
         }
@@ -59,13 +64,17 @@ impl Hints {
     }
 
     /// What is written now lies on a path, and what was written since the last one was told.
-    pub fn note(&mut self, bump: Option<u32>, path: Path) {
+    pub fn note(&mut self, bump: Option<u32>, path: Path)
+        ensures room { hint_room self.new ≡ hint_room self.old }
+    {
         self.write_on(bump, Listed::any(path));
     }
 
     /// Twigs on a path were copied since the last one was told, the last of them those behind so many steps. Where they may lie in two chunks,
     /// both list the path.
-    pub fn note_row(&mut self, bump: Option<u32>, path: Path, steps: u32) {
+    pub fn note_row(&mut self, bump: Option<u32>, path: Path, steps: u32)
+        ensures room { hint_room self.new ≡ hint_room self.old }
+    {
         if let Some(chunk) = bump {
             self.rows.put(path, steps, chunk);
         }
@@ -96,12 +105,16 @@ impl Hints {
     }
 
     /// The list of a chunk lacks something.
-    pub fn mark_lacking(&mut self, chunk: u32) {
+    pub fn mark_lacking(&mut self, chunk: u32)
+        ensures room { hint_room self.new ≡ hint_room self.old }
+    {
         set(&mut self.lacking, chunk, true);
     }
 
     /// A walk over all begins, for the lists that lack something.
-    pub fn begin_walk(&mut self, chunks: u32) {
+    pub fn begin_walk(&mut self, chunks: u32)
+        ensures room { hint_room self.new ≡ hint_room self.old }
+    {
         self.walks = self.walks.saturating_add(1);
         for chunk in 0..chunks {
             if self.is_lacking(chunk) {
@@ -111,14 +124,18 @@ impl Hints {
     }
 
     /// It came to cells of a chunk, on a path. Where that isn't needed now, some room is left for others.
-    pub fn pass(&mut self, chunk: u32, path: Path, needed: bool) {
+    pub fn pass(&mut self, chunk: u32, path: Path, needed: bool)
+        ensures room { hint_room self.new ≡ hint_room self.old }
+    {
         if self.is_lacking(chunk) && (needed || self.lists.has_much_room()) {
             self.lists.push(chunk, Listed::any(path));
         }
     }
 
     /// It came to its end: nothing is lacking, if there was room.
-    pub fn end_walk(&mut self) {
+    pub fn end_walk(&mut self)
+        ensures room { hint_room self.new ≡ hint_room self.old }
+    {
         if self.lists.has_much_room() {
             self.lacking.fill(false);
         }
@@ -135,7 +152,9 @@ impl Hints {
     }
 
     // What is written now is listed so, and what was written since the last path was told.
-    fn write_on(&mut self, bump: Option<u32>, path: Listed) {
+    fn write_on(&mut self, bump: Option<u32>, path: Listed)
+        ensures room { hint_room self.new ≡ hint_room self.old }
+    {
         self.current = path;
         if let Some(left) = self.left {
             self.list(left, path);
@@ -147,7 +166,9 @@ impl Hints {
     }
 
     // Lists a path for a chunk. One that says nothing is of no use.
-    fn list(&mut self, chunk: u32, path: Listed) {
+    fn list(&mut self, chunk: u32, path: Listed)
+        ensures room { hint_room self.new ≡ hint_room self.old }
+    {
         if !self.is_lacking(chunk) && (path.is_none() || !self.lists.push(chunk, path)) {
             self.mark_lacking(chunk);
             self.lists.clear(chunk);

@@ -1,5 +1,8 @@
 //! In which chunks the twigs near the root were written last.
 
+ghost use Rattle.std.specs.Prelude.{◌≡◌};
+ghost use Rattle.chunk_hints.specs.Rooms.{row_room};
+
 use crate::path::Path;
 use std::alloc::{AllocError, Global};
 
@@ -28,13 +31,17 @@ impl Rows {
     }
 
     /// All twigs on a path were written, in this chunk.
-    pub fn put_all(&mut self, path: Path, chunk: u32) {
+    pub fn put_all(&mut self, path: Path, chunk: u32)
+        ensures room { row_room self.new ≡ row_room self.old }
+    {
         put(&mut self.behind_one, path.first_step(), chunk);
         put(&mut self.behind_two, path.first_two(), chunk);
     }
 
     /// The twigs behind one step of a path, or two, were written in a chunk. Of others nothing is known.
-    pub fn put(&mut self, path: Path, steps: u32, chunk: u32) {
+    pub fn put(&mut self, path: Path, steps: u32, chunk: u32)
+        ensures room { row_room self.new ≡ row_room self.old }
+    {
         match steps {
             1 => put(&mut self.behind_one, path.first_step(), chunk),
             2 => put(&mut self.behind_two, path.first_two(), chunk),
