@@ -1,6 +1,6 @@
 -- What the parts of all seats tell of their lists.
-use Rattle.std.proofs.Common.{◌≡◌, ◌≢◌, ℕ, zero, suc, Bool, true, false, ◌||◌, ◌+◌, ◌<◌, ◌≤◌, ⊎_elim, List, [], ◌∷◌, length, get_or, sym, refl, ap, ◌∙◌, subst, arith}
-use Rattle.std.specs.List.{All, Contains, sum_by, list_any}
+use Rattle.std.proofs.Common.{◌≡◌, ◌≢◌, ℕ, zero, suc, true, cond, ◌+◌, ◌<◌, ◌≤◌, ⊎_elim, List, [], ◌∷◌, length, get_or, sym, refl, ap, ◌∙◌, subst, arith}
+use Rattle.std.specs.List.{All, Any, Contains, sum_by}
 use Rattle.std.specs.List.Sorted.{IsStrictlyIncreasing}
 use Rattle.std.proofs.lemmas.List.Sums.{sum_by-cons, get_or-le-sum_by}
 use Rattle.std.proofs.lemmas.List.Folds.{fold-map}
@@ -80,11 +80,15 @@ whole_count_taken feed seats whole count g long same knows = all_taken feed seat
 pub all_rising : (seats : List Takings) → All (λ s. IsStrictlyIncreasing s.taken) seats → All IsStrictlyIncreasing (lists_of seats)
 all_rising seats rising = All-map IsStrictlyIncreasing (λ (s : Takings). s.taken) seats rising
 
-swapped : (a b : Bool) → (a || (b || false)) ≡ (b || a)
-swapped true true = refl
-swapped true false = refl
-swapped false true = refl
-swapped false false = refl
+abbrev one_if_done : Takings → ℕ
+one_if_done s = cond s.done 1 0
+
+-- where none of the seats has had its end mark, none was told that no number is left
+pub none_done : (seats : List Takings) → sum_by one_if_done seats ≡ 0 → Any (λ s. s.done ≡ true) seats → ⊥
+none_done seats none (k, s, there, is, done) =
+    let part = get_or-le-sum_by one_if_done seats k s there in
+    let one : one_if_done (get_or seats k s) ≡ 1 = ap one_if_done is ∙ ap {B = ℕ} (λ b. cond b 1 0) done in
+    omega arith
 
 -- one seat's pass more
 pub gathers : (feed : Handout) (out : List Takings) (s : Takings) (whole pass new : Pass ℕ Knowledge) → IsGathered feed out whole → IsGathered s.feed (s ∷ []) pass → s.feed ≡ feed
@@ -101,6 +105,11 @@ gathers feed out s whole pass new g one is same after = record {
       let p = g.taken number in
       let q = one.taken number in
       omega (arith, times-append number (view whole).taken (view pass).taken, sum_by-cons (λ (t : Takings). times number t.taken) s out, sum_by-cons (λ (t : Takings). times number t.taken) s []);
-  done = ap (λ v. v.done) after ∙ (λ i. g.done i || one.done i) ∙ swapped (list_any (λ t. t.done) out) s.done;
+  marked = ap (λ v. v.marks) after ∙ g.marked ∙ sym (ap (λ v. v.whole) after);
+  ended =
+      let both = ap (λ v. v.ends) after in
+      let p = g.ended in
+      let q = one.ended in
+      omega (arith, sum_by-cons one_if_done s out, sum_by-cons one_if_done s []);
   rising = All-cons (λ (t : Takings). IsStrictlyIncreasing t.taken) s out (All-head (λ (t : Takings). IsStrictlyIncreasing t.taken) s [] one.rising) g.rising;
 }

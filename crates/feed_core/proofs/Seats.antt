@@ -60,3 +60,22 @@ module _ {A : Type 0} where
         let none : f x ≡ 0 = omega (arith, sum_by-cons f x xs) in
         let rest = sum_of_one xs i a at (omega (arith, sum_by-cons f x xs)) (All-tail (λ u. f u ≡ 0 → g u ≡ 0) x xs idle) in
         omega (arith, sum_by-cons g x xs, rest, All-head (λ u. f u ≡ 0 → g u ≡ 0) x xs idle none)
+
+    -- where no seat has more of f than of g, one has what all lack
+    sum_le : (l : List A) → All (λ u. f u ≤ g u) l → sum_by f l ≤ sum_by g l
+    sum_le [] few = omega arith
+    sum_le (x ∷ xs) few =
+        let here = All-head (λ u. f u ≤ g u) x xs few in
+        let rest = sum_le xs (All-tail (λ u. f u ≤ g u) x xs few) in
+        omega (arith, sum_by-cons f x xs, sum_by-cons g x xs)
+
+    pub squeezed : (l : List A) (i : ℕ) (a : A) → get_elem? l i ≡ some a → All (λ u. f u ≤ g u) l → sum_by f l + g a ≤ sum_by g l + f a
+    squeezed [] i a at few = absurd (some-ne-none a (sym at))
+    squeezed (x ∷ xs) zero a at few =
+        let same = some-injective x a at in
+        let rest = sum_le xs (All-tail (λ u. f u ≤ g u) x xs few) in
+        omega (arith, sum_by-cons f x xs, sum_by-cons g x xs, ap f same, ap g same)
+    squeezed (x ∷ xs) (suc i) a at few =
+        let here = All-head (λ u. f u ≤ g u) x xs few in
+        let rest = squeezed xs i a at (All-tail (λ u. f u ≤ g u) x xs few) in
+        omega (arith, sum_by-cons f x xs, sum_by-cons g x xs)

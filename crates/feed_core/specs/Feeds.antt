@@ -1,6 +1,5 @@
 -- What contracts see of a feed and of its seats.
-use Rattle.std.specs.Prelude.{◌≡◌, ◌≢◌, ℕ, ◌-◌, ◌<◌, ◌≤◌, List, [], ◌∷◌, ◌++◌, length, map, sum_by, Bool, false, All, Contains, slice_index_or}
-use Rattle.std.specs.List.{list_any}
+use Rattle.std.specs.Prelude.{◌≡◌, ◌≢◌, ℕ, ◌-◌, ◌<◌, ◌≤◌, List, [], ◌∷◌, ◌++◌, length, map, sum_by, Bool, false, if◌then◌else◌, All, Contains, slice_index_or}
 use Rattle.std.specs.List.Sorted.{IsStrictlyIncreasing}
 use Rattle.atomic_table.specs.Seated.{TableId}
 use Rattle.crossbeam_queue.specs.Passes.{Pass, view}
@@ -56,15 +55,18 @@ pub record StandsOnce (lists : List (List ℕ)) (number : ℕ) : Type 0 where
 abbrev pub feed_of : Pass ℕ Knowledge → Handout
 feed_of pass = record { table = pass.table_id; count = (view pass).put; seats = (view pass).whole }
 
--- a seat as its pass has it
-abbrev pub takings_of : Pass ℕ Knowledge → Takings
-takings_of pass = record { feed = feed_of pass; taken = (view pass).taken; done = (view pass).done }
+-- a seat as its pass has it, by whether it has had its end mark
+abbrev pub takings_of : Pass ℕ Knowledge → Bool → Takings
+takings_of pass done = record { feed = feed_of pass; taken = (view pass).taken; done = done }
 
--- A seat's pass has one part, and puts no numbers. What it took rises, and is within the numbers that were put.
-pub record IsSeated (pass : Pass ℕ Knowledge) : Type 0 where
+-- A seat's pass has one part, and puts nothing. There was one end mark for each part. What it took rises, and is within the numbers that
+-- were put.
+pub record IsSeated (pass : Pass ℕ Knowledge) (done : Bool) : Type 0 where
   pub no_slots : pass.me.1 ≡ []
   pub part : (view pass).parts ≡ 1
   pub filled : (view pass).fills ≡ false
+  pub marked : (view pass).marks ≡ (view pass).whole
+  pub ended : (view pass).ends ≡ (if done then 1 else 0)
   pub rising : IsStrictlyIncreasing (view pass).taken
   pub within : All (λ number. (0 < number) × (number ≤ (view pass).put)) (view pass).taken
 
@@ -76,7 +78,9 @@ pub record IsGathered (feed : Handout) (seats : List Takings) (pass : Pass ℕ K
   pub whole : (view pass).whole ≡ feed.seats
   pub put : (view pass).put ≡ feed.count
   pub filled : (view pass).fills ≡ false
+  pub marked : (view pass).marks ≡ (view pass).whole
   -- a number stands in its list as often as in theirs
   pub taken : (number : ℕ) → times number (view pass).taken ≡ sum_by (λ seat. times number seat.taken) seats
-  pub done : (view pass).done ≡ list_any (λ seat. seat.done) seats
+  -- it took one end mark for each of them that was told that none is left
+  pub ended : (view pass).ends ≡ sum_by (λ seat. if seat.done then 1 else 0) seats
   pub rising : All (λ seat. IsStrictlyIncreasing seat.taken) seats

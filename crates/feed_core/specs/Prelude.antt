@@ -4,4 +4,4 @@ pub use Rattle.crossbeam_queue.specs.Passes.{IsPassOf, IsSamePass, ruled_capacit
 pub use Rattle.feed_core.specs.Feeds.{IsGathered, StandsOnce, TakesNext, feed_of, lists_of, new_seat, remaining}
 pub use Rattle.feed_core.specs.Knowledge.{alone, giver_of, grown, joined, nobody, taker_of}
 pub use Rattle.feed_core.specs.Rule.{IsHandedOut}
-pub use Rattle.feed_core.specs.Steps.{TakesMark, TakesNumber, holds_all, learns_nothing, puts_mark, puts_number, takes}
+pub use Rattle.feed_core.specs.Steps.{FindsNone, TakesNumber, holds_all, leaves_none, puts_mark, puts_number, takes}

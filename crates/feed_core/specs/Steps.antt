@@ -1,8 +1,8 @@
 -- What each step on the queue tells its seat.
-use Rattle.std.specs.Prelude.{◌≡◌, ℕ, ◌+◌, ◌<◌, ◌≤◌, ◌==◌, List, length, false, All, MatchBool}
+use Rattle.std.specs.Prelude.{◌≡◌, ℕ, ◌+◌, ◌<◌, ◌≤◌, ◌==◌, ◌⊎◌, List, length, All, MatchBool}
 use Rattle.feed_core.specs.declared.knowledge.TheConstants.{END}
 use Rattle.feed_core.specs.declared.knowledge.Knowledge.{Knowledge}
-use Rattle.feed_core.specs.Knowledge.{with_put, with_taken, ended}
+use Rattle.feed_core.specs.Knowledge.{with_put, with_mark, with_taken, ended}
 use Rattle.feed_core.specs.Rule.{times, once_below}
 
 -- who has all parts has taken each number below the next one, once, and no other
@@ -15,12 +15,17 @@ pub record TakesNumber (v : Knowledge) (number : ℕ) (w : Knowledge) : Type 0 w
   -- all that the seat took before is below it
   pub above : All (λ before. (0 < before) × (before < number)) v.taken
   pub within : (0 < number) × (number ≤ v.put)
-  pub not_done : v.done ≡ false
+  pub not_done : v.ends ≡ 0
   pub all : KnowsAll v number
 
 -- The seat took an end mark, so no number is left.
 pub record TakesMark (v w : Knowledge) : Type 0 where
   pub after : w ≡ ended v
+  pub all : KnowsAll v (v.put + 1)
+
+-- No number is left, by an end mark that the seat took, or since it has had one for each of its parts.
+pub record FindsNone (v w : Knowledge) : Type 0 where
+  pub after : (w ≡ ended v) ⊎ ((w ≡ v) × (v.parts ≤ v.ends))
   pub all : KnowsAll v (v.put + 1)
 
 -- a pop
@@ -31,14 +36,14 @@ takes v item w = MatchBool (item == END) (TakesMark v w) (TakesNumber v item w)
 abbrev pub puts_number : Knowledge → ℕ → Knowledge → Type 0
 puts_number v number w = w ≡ with_put v
 
--- a queue that would be full, while numbers are put: it holds all that were put, and nothing else
+-- a queue that would be full, while it is filled: it holds all that were put, and nothing else
 abbrev pub holds_all : Knowledge → List ℕ → Type 0
-holds_all v items = length items ≡ v.put
+holds_all v items = length items ≡ v.put + v.marks
 
 -- a push of an end mark
 abbrev pub puts_mark : Knowledge → ℕ → Knowledge → Type 0
-puts_mark v mark w = w ≡ v
+puts_mark v mark w = w ≡ with_mark v
 
--- A queue that was found empty, or full, tells nothing that lasts.
-abbrev pub learns_nothing : Knowledge → List ℕ → Type 0
-learns_nothing v items = Unit {0}
+-- a queue that is found empty: the seat has had an end mark for each of its parts, and no number is left
+abbrev pub leaves_none : Knowledge → List ℕ → Type 0
+leaves_none v items = length items ≡ 0 → (v.parts ≤ v.ends) × KnowsAll v (v.put + 1)

@@ -3,7 +3,7 @@ ghost use Rattle.std.specs.Prelude.{◌≡◌, ℕ, ◌+◌, ◌<◌, ◌≤◌,
 ghost use Rattle.feed_core.specs.Prelude.{IsStrictlyIncreasing, view, IsPassOf, IsSamePass, ruled_capacity};
 ghost use Rattle.feed_core.specs.Prelude.{alone, feed_of, new_seat, lists_of, StandsOnce, IsGathered};
 
-use crate::knowledge::{Gather, Grow, NumberPass, NumberQueue, PutNumber};
+use crate::knowledge::{END, Gather, Grow, NumberPass, NumberQueue, PutMark, PutNumber};
 use crate::seat::{FeedSeat, next_number};
 use std::alloc::{AllocError, Global};
 use std::marker::Model;
@@ -43,9 +43,10 @@ impl Feed {
         ensures feed { IfOk result (λ made. (made.0.count ≡ count) × (made.0.seats ≡ seats)) }
         ensures seats { IfOk result (λ made. made.1.items ≡ replicate seats (new_seat made.0)) }
     {
-        let (queue, mut pass) = NumberQueue::ruled(alloc, count as usize)?;
+        let (queue, mut pass) = NumberQueue::ruled(alloc, (count + seats) as usize)?;
         grow(&queue, &mut pass, seats);
         fill(rt, &queue, &mut pass, count);
+        mark_end(rt, &queue, &mut pass, seats);
         let dealt = deal(alloc, &queue, &mut pass, seats)?;
         let feed = Feed {
             queue,
@@ -93,10 +94,10 @@ impl Feed {
 /// There become as many parts as there are to be seats, and this pass has them all.
 fn grow(queue: &NumberQueue, pass: &mut NumberPass, seats: u32)
     requires queue { IsPassOf queue.now pass.old }
-    requires alone { view pass.old ≡ alone 1 0 }
+    requires alone { view pass.old ≡ alone 1 0 0 }
     requires seats { 1 ≤ seats }
     ensures queue { IsSamePass pass.old pass.new }
-    ensures alone { view pass.new ≡ alone seats 0 }
+    ensures alone { view pass.new ≡ alone seats 0 0 }
 {
     for _ in 1..seats {
         let _nobody = queue.another::<Grow>(pass);
@@ -105,14 +106,29 @@ fn grow(queue: &NumberQueue, pass: &mut NumberPass, seats: u32)
 
 /// Puts the numbers from 1 on.
 fn fill<R: Wait>(rt: &R, queue: &NumberQueue, pass: &mut NumberPass, count: u32)
-    requires queue { IsPassOf queue.now pass.old × (ruled_capacity queue.now ≡ count) }
-    requires alone { (view pass.old ≡ alone (view pass.old).parts 0) × (0 < (view pass.old).parts) }
+    requires queue { IsPassOf queue.now pass.old × (count ≤ ruled_capacity queue.now) }
+    requires alone { (view pass.old ≡ alone (view pass.old).parts 0 0) × (0 < (view pass.old).parts) }
     ensures queue { IsSamePass pass.old pass.new }
-    ensures alone { view pass.new ≡ alone (view pass.old).parts count }
+    ensures alone { view pass.new ≡ alone (view pass.old).parts count 0 }
 {
     for put in 0..count {
         if queue.push_as::<PutNumber, R>(rt, pass, put + 1).is_err() {
-            // A full queue would hold `count` numbers, and `put` were put.
+            // A full queue would hold `count` numbers or more, and `put` were put.
+            unreachable!()
+        }
+    }
+}
+
+/// Puts an end mark for each seat, behind all numbers.
+fn mark_end<R: Wait>(rt: &R, queue: &NumberQueue, pass: &mut NumberPass, seats: u32)
+    requires queue { IsPassOf queue.now pass.old × ((view pass.old).put + seats ≤ ruled_capacity queue.now) }
+    requires alone { (view pass.old ≡ alone (view pass.old).parts (view pass.old).put 0) × (0 < (view pass.old).parts) }
+    ensures queue { IsSamePass pass.old pass.new }
+    ensures alone { view pass.new ≡ alone (view pass.old).parts (view pass.old).put seats }
+{
+    for marks in 0..seats {
+        if queue.push_as::<PutMark, R>(rt, pass, END).is_err() {
+            // A full queue would hold an item more for each mark that is to come.
             unreachable!()
         }
     }
@@ -126,7 +142,7 @@ fn deal(
     seats: u32,
 ) -> Result<Vec<FeedSeat>, AllocError>
     requires queue { IsPassOf queue.now pass.old }
-    requires alone { view pass.old ≡ alone seats (view pass.old).put }
+    requires alone { view pass.old ≡ alone seats (view pass.old).put seats }
     ensures { IfOk result (λ dealt. dealt.items ≡ replicate seats (new_seat (feed_of pass.old))) }
 {
     let mut dealt = Vec::new(alloc);

@@ -2,13 +2,13 @@
 //!
 //! No value of a seat's knowledge is made: it stands in contracts and proofs alone.
 ghost use Rattle.feed_core.specs.Prelude.{alone, grown, nobody, giver_of, taker_of, joined, IsHandedOut};
-ghost use Rattle.feed_core.specs.Prelude.{takes, puts_number, holds_all, puts_mark, learns_nothing};
+ghost use Rattle.feed_core.specs.Prelude.{takes, puts_number, holds_all, puts_mark, leaves_none};
 
 use crossbeam_queue::protocol::{Join, Lesson, Outcome, Protocol, Split};
 use crossbeam_queue::{Pass, RuledArrayQueue};
 use std::collections::LinkedList;
 
-/// An end mark. It is put by who finds the queue empty.
+/// An end mark. Behind the numbers there is one for each seat.
 pub(crate) const END: u32 = 0;
 
 /// What a seat knows.
@@ -19,12 +19,14 @@ pub struct Knowledge {
     pub whole: u32,
     /// How many numbers were put, from 1 on.
     pub put: u32,
-    /// It may still put numbers.
+    /// How many end marks were put behind them.
+    pub marks: u32,
+    /// It may still put numbers and marks.
     pub fills: bool,
     /// The numbers that it took, in order.
     pub taken: LinkedList<u32>,
-    /// It took an end mark.
-    pub done: bool,
+    /// How many end marks it took.
+    pub ends: u32,
 }
 
 /// The rule of the queue: what holds between any two steps.
@@ -33,7 +35,7 @@ pub struct NumberRule;
 impl Protocol<u32, Knowledge> for NumberRule {
     ghost holds = { IsHandedOut };
 
-    ghost first = { alone 1 0 };
+    ghost first = { alone 1 0 0 };
 }
 
 /// The queue of numbers, and of end marks behind them.
@@ -88,7 +90,7 @@ impl Outcome<u32, Knowledge> for PutMark {
 }
 
 impl Lesson<u32, Knowledge> for PutMark {
-    ghost fact = { learns_nothing };
+    ghost fact = { holds_all };
 }
 
 /// A seat takes a number or an end mark.
@@ -99,5 +101,5 @@ impl Outcome<u32, Knowledge> for Take {
 }
 
 impl Lesson<u32, Knowledge> for Take {
-    ghost fact = { learns_nothing };
+    ghost fact = { leaves_none };
 }

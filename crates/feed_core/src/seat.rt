@@ -1,19 +1,21 @@
 //! A seat of a feed: how it takes numbers.
-ghost use Rattle.std.specs.Prelude.{◌≡◌, ◌<◌, [], ◌∷◌, IfSome, IfNone, MatchOption, true, false};
-ghost use Rattle.feed_core.specs.Prelude.{view, IsPassOf, IsSamePass, giver_of, TakesNumber, TakesMark};
+ghost use Rattle.std.specs.Prelude.{◌≡◌, ◌<◌, ◌⊎◌, [], ◌∷◌, IfSome, IfNone, MatchOption, true, false};
+ghost use Rattle.feed_core.specs.Prelude.{view, IsPassOf, IsSamePass, giver_of, TakesNumber, FindsNone};
 ghost use Rattle.feed_core.specs.Prelude.{feed_of, new_seat, TakesNext, remaining, IsGathered};
 
 use crate::feed::Feed;
-use crate::knowledge::{Deal, END, NumberPass, NumberQueue, PutMark, Take};
+use crate::knowledge::{Deal, END, NumberPass, NumberQueue, Take};
 use std::marker::Model;
 use std::sync::Wait;
 
-/// A seat of a feed, for one thread at a time. It has no bytes.
+/// A seat of a feed, for one thread at a time.
 ///
 /// Contracts see of which feed it is, what it took, and whether it was told that no number is left.
 #[derive(Drop)]
 pub struct FeedSeat {
     pass: NumberPass,
+    // It has had its end mark.
+    done: bool,
 }
 
 impl Model for FeedSeat {
@@ -21,22 +23,24 @@ impl Model for FeedSeat {
 
     ghost Value = { Takings };
 
-    ghost view = { λ s. takings_of s.pass };
+    ghost view = { λ s. takings_of s.pass s.done };
 
-    ghost invariant = { λ s. IsSeated s.pass };
+    ghost invariant = { λ s. IsSeated s.pass s.done };
 }
 
 impl FeedSeat {
     /// A new seat, by one of the parts that this pass has.
     pub(crate) fn dealt(queue: &NumberQueue, pass: &mut NumberPass) -> FeedSeat
         requires queue { IsPassOf queue.now pass.old }
-        requires part { (0 < (view pass.old).parts) × ((view pass.old).taken ≡ []) × ((view pass.old).done ≡ false) }
+        requires part { (0 < (view pass.old).parts) × ((view pass.old).taken ≡ []) × ((view pass.old).ends ≡ 0) }
+        requires marked { (view pass.old).marks ≡ (view pass.old).whole }
         ensures queue { IsSamePass pass.old pass.new }
         ensures rest { view pass.new ≡ giver_of (view pass.old) }
         ensures seat { result ≡ new_seat (feed_of pass.old) }
     {
         FeedSeat {
             pass: queue.another::<Deal>(pass),
+            done: false,
         }
     }
 
@@ -44,7 +48,7 @@ impl FeedSeat {
     pub(crate) fn into_pass(self) -> NumberPass
         ensures { IsGathered self.feed (self ∷ []) result }
     {
-        let FeedSeat { pass } = self;
+        let FeedSeat { pass, done: _ } = self;
         pass
     }
 
@@ -57,14 +61,17 @@ impl FeedSeat {
         // A measure of loops that take until there is none.
         ensures fewer { IfSome result (λ _. remaining self.new < remaining self.old) }
     {
-        next_number(rt, &feed.queue, &mut self.pass)
+        if self.done {
+            return None;
+        }
+        let taken = next_number(rt, &feed.queue, &mut self.pass);
+        self.done = taken.is_none();
+        taken
     }
 }
 
-/// The next number; none where the seat took an end mark.
-///
-/// Who finds the queue empty knows it for that moment alone. So it puts an end mark behind all numbers, and tries again: who
-/// takes an end mark knows that no number is left.
+/// The next number; none where no number is left. Nobody asks twice: for each seat there is one end mark behind the numbers, so the queue
+/// isn't empty for who has not had its own.
 pub(crate) fn next_number<R: Wait>(
     rt: &R,
     queue: &NumberQueue,
@@ -72,19 +79,14 @@ pub(crate) fn next_number<R: Wait>(
 ) -> Option<u32>
     requires queue { IsPassOf queue.now pass.old }
     requires part { (0 < (view pass.old).parts) × ((view pass.old).fills ≡ false) }
+    requires marked { (view pass.old).marks ≡ (view pass.old).whole }
+    requires mark { ((view pass.old).ends < (view pass.old).parts) ⊎ ((view pass.old).parts ≡ (view pass.old).whole) }
     ensures queue { IsSamePass pass.old pass.new }
-    ensures taken { MatchOption result (TakesMark (view pass.old) (view pass.new)) (λ number. TakesNumber (view pass.old) number (view pass.new)) }
+    ensures taken { MatchOption result (FindsNone (view pass.old) (view pass.new)) (λ number. TakesNumber (view pass.old) number (view pass.new)) }
 {
-    for _ in rt.forever() {
-        match queue.pop_as::<Take, R>(rt, pass) {
-            Some(END) => return None,
-            Some(number) => return Some(number),
-            None => {
-                // A full queue has one.
-                let _ = queue.push_as::<PutMark, R>(rt, pass, END);
-            }
-        }
+    match queue.pop_as::<Take, R>(rt, pass) {
+        Some(END) => None,
+        Some(number) => Some(number),
+        None => None,
     }
-    // The loop has no end but its returns.
-    unreachable!()
 }

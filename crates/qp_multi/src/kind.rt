@@ -52,3 +52,21 @@ impl Kind for Heavy {
 
     const MOST_SPARSE: u32 = 0;
 }
+
+/// A transaction that only moves what lies in sparse chunks: it goes on in the bump chunk, and leaves none sparse.
+pub(crate) struct Compaction;
+
+impl Kind for Compaction {
+    ghost use Rattle.std.specs.Prelude.{false};
+    ghost use Rattle.std.proofs.Common.{zero-le};
+
+    ghost OWN_CHUNK = { false };
+
+    ghost MOST_SPARSE = { 0 };
+
+    ghost few = { zero-le };
+
+    const OWN_CHUNK: bool = false;
+
+    const MOST_SPARSE: u32 = 0;
+}

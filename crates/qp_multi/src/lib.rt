@@ -32,6 +32,7 @@ mod index;
 mod keeping;
 mod kept;
 mod kind;
+mod lock;
 mod log;
 mod meaning;
 mod note;

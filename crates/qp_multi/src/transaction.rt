@@ -1,5 +1,5 @@
 //! Transactions: one at a time, each of a pass that has joined the turn.
-ghost use Rattle.std.specs.Prelude.{◌≡◌, ◌≢◌, ◌↔◌, ◌+◌, ◌≤◌, true, false, Some, Err, IsSome, IsNone, IfSome, IsSomeAnd, IsOk, IsErr, IfOk, IfErr, length, slice_get};
+ghost use Rattle.std.specs.Prelude.{◌≡◌, ◌≢◌, ◌↔◌, ◌+◌, ◌≤◌, true, false, Some, Err, IsSome, IsNone, IfSome, IfNone, is_some, IsSomeAnd, IsOk, IsErr, IfOk, IfErr, length, slice_get};
 ghost use Rattle.zone_model.specs.Keys.{most_item_octets};
 ghost use Rattle.trie_model.specs.Extents.{cells_in};
 ghost use Rattle.qp_multi.specs.Passes.{known_at};
@@ -12,7 +12,8 @@ use crate::commit::Receipt;
 use crate::desk::{Desk, Draft};
 use crate::index::{Index, Turn};
 use crate::kept::Versions;
-use crate::kind::{Heavy, Kind, Light};
+use crate::kind::{Compaction, Heavy, Kind, Light};
+use crate::lock::HeldLock;
 use crate::meaning::{Law, Meaning, Named, Operations, Version};
 use crate::pass::Pass;
 use crate::refusal::{ChangeRefusal, Full, InsertRefusal};
@@ -20,13 +21,13 @@ use pin_core::{LAST_VERSION, Spent};
 use shared_cells::{PassSeat, Shared};
 use shift_key::Key;
 use std::marker::PhantomData;
-use std::sync::{MutexGuard, Wait};
+use std::sync::Wait;
 use trie_write::Unchanged;
 
-/// Where a transaction keeps the lock and its working set: a local of the caller, which outlives the transaction.
-#[derive(Drop)]
+/// Where a transaction keeps the lock and its working set: a local of the caller, which outlives the transaction. Where the transaction
+/// was forgotten, dropping this rolls it back.
 pub struct Locked<'i, L: Law, N: Named> {
-    guard: Option<MutexGuard<'i, Option<Turn<N>>>>,
+    lock: Option<HeldLock<'i, N>>,
     pub(crate) place: u32,
     pub(crate) shared: &'i Shared<Version, Operations, Meaning<L>>,
     /// It is away while a call works on it, and between transactions.
@@ -34,6 +35,38 @@ pub struct Locked<'i, L: Law, N: Named> {
     ghost named: { slice_get N.tables place ≡ Some shared.now.table.shared.table_id },
     ghost here: { ForSome draft (λ d. d.seat.place.table_id ≡ shared.now.table.shared.table_id) },
     ghost room: { ForSome draft HasRoom } by { Prim.hlevel props },
+    ghost both: { is_some lock ≡ is_some draft },
+}
+
+/// Gives the turn back with this desk, and lets the lock go.
+fn leave<N: Named>(lock: HeldLock<'_, N>, place: u32, desk: Desk)
+    requires { slice_get N.tables place ≡ Some desk.seat.place.table_id }
+{
+    let _there = lock.put_back(Turn {
+        place,
+        desk,
+        names: PhantomData,
+    });
+}
+
+impl<L: Law, N: Named> Drop for Locked<'_, L, N> {
+    fn drop(self) {
+        let Self {
+            lock,
+            place,
+            shared,
+            draft,
+        } = self;
+        let Some(lock) = lock else {
+            return;
+        };
+        let Some(draft) = draft else {
+            // The lock is held by a transaction, which has a draft.
+            unreachable!()
+        };
+        let (desk, _seat) = draft.undo(shared);
+        leave(lock, place, desk);
+    }
 }
 
 /// A transaction on the current version, its base. Until it commits, what it writes is seen by nobody else. Dropping it rolls
@@ -64,35 +97,26 @@ impl<'i, L: Law, N: Named> Locked<'i, L, N> {
         ensures none { IsNone result.draft }
     {
         Locked {
-            guard: None,
+            lock: None,
             place: index.place,
             shared: &index.shared,
             draft: None,
         }
     }
 
-    // The turn goes back, and the lock with it.
-    fn put_back(&mut self, turn: Turn<N>)
-        ensures same { (self.new.place ≡ self.old.place) × (self.new.draft ≡ self.old.draft) }
-        ensures unlocked { IsNone self.new.guard }
+    // The lock and the working set, where there is a transaction.
+    fn take(&mut self) -> Option<(HeldLock<'i, N>, Draft)>
+        ensures place { self.new.place ≡ self.old.place }
+        ensures some { IfSome result (λ held. self.old.draft ≡ Some held.1) }
+        ensures none { IfNone result (IsNone self.old.draft) }
+        ensures gone { IsNone self.new.draft }
     {
-        if let Some(mut guard) = self.guard.take() {
-            *guard = Some(turn);
-        }
-    }
-
-    // Gives the turn back with this desk.
-    fn leave(&mut self, desk: Desk)
-        requires { desk.seat.place.table_id ≡ self.old.shared.now.table.shared.table_id }
-        ensures same { (self.new.place ≡ self.old.place) × (self.new.draft ≡ self.old.draft) }
-        ensures unlocked { IsNone self.new.guard }
-    {
-        let place = self.place;
-        self.put_back(Turn {
-            place,
-            desk,
-            names: PhantomData,
-        });
+        let draft = self.draft.take()?;
+        let Some(lock) = self.lock.take() else {
+            // Where there is a working set, the lock is held.
+            unreachable!()
+        };
+        Some((lock, draft))
     }
 
     // The pass of this seat, in its place.
@@ -183,18 +207,17 @@ impl<L: Law, N: Named> Index<L, N> {
     ghost use Rattle.qp_multi.specs.Kinds.{StartsAs};
 
     // The lock, and the turn out of it.
-    fn wait<'i, R: Wait>(&'i self, rt: &R) -> (MutexGuard<'i, Option<Turn<N>>>, Desk)
+    fn wait<'i, R: Wait>(&'i self, rt: &R) -> (HeldLock<'i, N>, Desk)
         ensures table { slice_get N.tables self.now.place ≡ Some result.1.seat.place.table_id }
         ensures passes { result.1.seat.passes ≡ self.now.passes }
     {
         for _ in rt.forever() {
-            let mut guard = self.turn.lock(rt);
-            if let Some(turn) = guard.take() {
+            if let Some((lock, turn)) = HeldLock::take(self.turn.lock(rt)) {
                 let Turn { place, desk, names } = turn;
                 if place == self.place && desk.seat.passes == self.passes {
-                    return (guard, desk);
+                    return (lock, desk);
                 }
-                *guard = Some(Turn { place, desk, names });
+                let _there = lock.put_back(Turn { place, desk, names });
             }
         }
         // The loop has no end but that return.
@@ -202,11 +225,7 @@ impl<L: Law, N: Named> Index<L, N> {
     }
 
     // Waits for the turn, and joins the pass to it. The pass is then away.
-    fn join<'i, R: Wait>(
-        &'i self,
-        rt: &R,
-        pass: &mut Pass<N>,
-    ) -> (MutexGuard<'i, Option<Turn<N>>>, Draft)
+    fn join<'i, R: Wait>(&'i self, rt: &R, pass: &mut Pass<N>) -> (HeldLock<'i, N>, Draft)
         requires here { IsSome pass.old.seat }
         requires place { pass.old.place ≡ self.now.place }
         ensures table { result.1.seat.place.table_id ≡ self.now.shared.table.shared.table_id }
@@ -222,8 +241,8 @@ impl<L: Law, N: Named> Index<L, N> {
             // No query and no transaction of this pass has its seat.
             unreachable!()
         };
-        let (guard, desk) = self.wait(rt);
-        (guard, desk.begin(&self.shared, seat))
+        let (lock, desk) = self.wait(rt);
+        (lock, desk.begin(&self.shared, seat))
     }
 
     /// Waits for the turn, and begins a transaction of a kind.
@@ -243,9 +262,9 @@ impl<L: Law, N: Named> Index<L, N> {
         ensures chunks { IsSomeAnd result.locked.now.draft (λ d. length d.usage.given ≡ self.now.shared.table.shared.key.chunks) }
         ensures starts { IsSomeAnd result.locked.now.draft (λ d. StartsAs K.OWN_CHUNK d.usage) }
     {
-        let (guard, draft) = self.join(rt, pass);
+        let (lock, draft) = self.join(rt, pass);
         *locked = Locked {
-            guard: Some(guard),
+            lock: Some(lock),
             place: self.place,
             shared: &self.shared,
             draft: Some(draft.start::<K>()),
@@ -314,17 +333,8 @@ impl<L: Law, N: Named> Index<L, N> {
         ensures back { IfErr result (IsLast L.lawful (known_at pass.old.seat) (known_at pass.new.seat)) }
         ensures last { IfErr result (λ s. s.version ≡ LAST_VERSION) }
     {
-        let (guard, draft) = self.join(rt, pass);
-        let (desk, seat, outcome) = draft.commit(&self.shared, 0);
-        let mut locked = Locked {
-            guard: Some(guard),
-            place: self.place,
-            shared: &self.shared,
-            draft: None,
-        };
-        locked.leave(desk);
-        *pass = locked.pass_of(seat);
-        outcome
+        let mut locked = Locked::of(self);
+        self.begin::<Compaction, R>(rt, &mut locked, pass).commit()
     }
 }
 
@@ -340,10 +350,9 @@ impl<L: Law, N: Named, K> Drop for Transaction<'_, '_, L, N, K> {
             locked,
             kind: _,
         } = self;
-        let shared = locked.shared;
-        if let Some(draft) = locked.draft.take() {
-            let (desk, seat) = draft.undo(shared);
-            locked.leave(desk);
+        if let Some((lock, draft)) = locked.take() {
+            let (desk, seat) = draft.undo(locked.shared);
+            leave(lock, locked.place, desk);
             *home = locked.pass_of(seat);
         }
     }
@@ -499,12 +508,12 @@ impl<L: Law, N: Named, K: Kind> Transaction<'_, '_, L, N, K> {
             locked,
             kind: _,
         } = self;
-        let Some(draft) = locked.draft.take() else {
+        let Some((lock, draft)) = locked.take() else {
             // A transaction's draft is there between two calls.
             unreachable!()
         };
         let (desk, seat, outcome) = draft.commit(locked.shared, K::MOST_SPARSE);
-        locked.leave(desk);
+        leave(lock, locked.place, desk);
         *home = locked.pass_of(seat);
         outcome
     }

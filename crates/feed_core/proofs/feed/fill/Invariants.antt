@@ -4,4 +4,4 @@ use Rattle.feed_core.specs.Knowledge.{alone}
 use Rattle.feed_core.proofs.feed.fill.Given as goal
 
 abbrev pub invariant-loop-put : goal.invariant-loop-put
-invariant-loop-put g l = IsSamePass l.initial.pass l.pass × (view l.pass ≡ alone (view l.initial.pass).parts l.put)
+invariant-loop-put g l = IsSamePass l.initial.pass l.pass × (view l.pass ≡ alone (view l.initial.pass).parts l.put 0)

@@ -4,4 +4,4 @@ use Rattle.feed_core.specs.Knowledge.{alone}
 use Rattle.feed_core.proofs.feed.grow.Given as goal
 
 abbrev pub invariant-loop : goal.invariant-loop
-invariant-loop l = IsSamePass l.initial.pass l.pass × (view l.pass ≡ alone l.counter 0)
+invariant-loop l = IsSamePass l.initial.pass l.pass × (view l.pass ≡ alone l.counter 0 0)

@@ -5,4 +5,7 @@ use Rattle.feed_core.proofs.seat.FeedSeat.take.Goals as goal
 
 pub returns-clause-fewer : goal.returns-clause-fewer
 returns-clause-fewer g c =
-    subst (λ old. IfSome c.next_number.result (λ _. remaining (takings_of c.next_number.new.pass) < remaining old)) c.self.view_is (fewer c.self.inside.pass c.next_number.new.pass c.next_number.result c.self.invariant c.next_number.ensures.taken)
+    let taken = c.next_number-taken in
+    let after = c.is_none-self-inside.result in
+    subst (λ old. IfSome taken.result (λ _. remaining (takings_of taken.new.pass after) < remaining old)) c.self.view_is
+    (fewer c.self.inside.pass taken.new.pass c.self.inside.done after taken.result c.self.invariant taken.ensures.taken)
