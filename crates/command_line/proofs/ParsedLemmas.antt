@@ -1,5 +1,7 @@
 -- What clap says of the program's command line.
-use Rattle.std.proofs.Common.{◌≡◌, ◌∙◌, ℕ, Bool, true, false, cond, List, [], ◌∷◌, refl, sym, ap, subst, arith, None, inl, inr}
+use Rattle.std.proofs.Common.{◌≡◌, ◌∙◌, ℕ, Bool, true, false, cond, List, [], ◌∷◌, refl, sym, ap, subst, arith, Option, None, Result, Ok, Err, IfOk, IsErr, inl, inr}
+use Rattle.std.specs.Option.{option_map}
+use Rattle.std.specs.declared.alloc.AllocError.{AllocError}
 use Rattle.clap.proofs.OnLiterals.{clap_on_literals}
 use Rattle.clap.specs.Faults.{fault_of, is_simple_and_free}
 use Rattle.clap.specs.Kinds.{HasKind, IsAmong, Kinds}
@@ -11,6 +13,8 @@ use Rattle.clap.specs.declared.error.kind.ErrorKind.{ErrorKind}
 use Rattle.clap.specs.declared.error.kind.ErrorKind.TheVariants as kind
 use Rattle.clap.specs.declared.parser.matches.ArgMatches.{ArgMatches}
 use Rattle.command_line.specs.Parsed.{asked_in, parsed_of, program_app}
+use Rattle.command_line.specs.Views.{invocation_view}
+use Rattle.command_line.specs.declared.invocation.Invocation.{Invocation}
 
 simple_app : is_simple program_app ≡ true
 unfolding clap_on_literals
@@ -39,3 +43,13 @@ refused app words e is other h =
       | inl memory ↦ absurd (other memory)
       | inr among ↦ ap (λ (b : Bool). cond b (asked_in (subcommand_of program_app words)) None) (some_kind (kind_of e) (fault_of program_app words) among)
     ]
+
+-- what is told of words that clap doesn't take
+pub told : (words : List (List ℕ)) (e : Error) (r : Result (Option Invocation) AllocError) → ((kind_of e ≡ kind.OutOfMemory → ⊥) → r ≡ Ok None) → (kind_of e ≡ kind.OutOfMemory → IsErr r)
+    → ((kind_of e ≡ kind.OutOfMemory → ⊥) → parsed_of words ≡ None) → IfOk r (λ i. option_map invocation_view i ≡ parsed_of words)
+told words e (Ok i) refuses memory f =
+    let other : kind_of e ≡ kind.OutOfMemory → ⊥ = λ k. true≢false (sym (memory k)) in
+    let same : ◌≡◌ {A = Result (Option Invocation) AllocError} (Ok i) (Ok None) = refuses other in
+    let none : i ≡ None = cc in
+    ap (option_map invocation_view) none ∙ sym (f other)
+told words e (Err x) refuses memory f = tt

@@ -3,8 +3,10 @@ pub use Rattle.std.specs.Option.{option_map}
 pub use Rattle.std.specs.String.{string_bytes}
 pub use Rattle.clap.specs.Matches.{found_of}
 pub use Rattle.clap.specs.Simple.{app_of, new_app, new_shape, subcommand_rows_of}
+pub use Rattle.clap.specs.Values.{kind_of}
 pub use Rattle.clap.specs.Walk.{first_of, rows_of, rule_of}
 pub use Rattle.clap.specs.declared.builder.command.Command.TheViews.{out-Command as fields_of}
+pub use Rattle.clap.specs.declared.error.kind.ErrorKind.TheVariants.{OutOfMemory}
 pub use Rattle.zone_model.specs.Texts.{digits_from, number}
 pub use Rattle.job_model.specs.Loads.{made_origin}
 pub use Rattle.job_make.specs.Views.{load_view}

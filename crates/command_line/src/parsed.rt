@@ -1,7 +1,7 @@
 //! Words that aren't plain, as clap reads them.
-ghost use Rattle.std.specs.Prelude.{◌≡◌, ◌≤◌, ℕ, List, map, codes, Some, None, Option, IfOk, IfSome, option_and_then};
+ghost use Rattle.std.specs.Prelude.{◌≡◌, ◌≤◌, ℕ, List, map, codes, Some, None, Option, Ok, IfOk, IsErr, IfSome, option_and_then};
 ghost use Rattle.command_line.specs.Prelude.{option_map, string_bytes, found_of, subcommand_rows_of};
-ghost use Rattle.command_line.specs.Prelude.{first_of, rows_of, load_view, invocation_view, verb_view};
+ghost use Rattle.command_line.specs.Prelude.{first_of, rows_of, kind_of, OutOfMemory, load_view, invocation_view, verb_view};
 ghost use Rattle.command_line.specs.Invocations as lines;
 ghost use Rattle.command_line.specs.Parsed as parsed;
 ghost use Rattle.command_line.specs.Numbers as numbers;
@@ -14,7 +14,7 @@ use crate::numbers::{
 use crate::options::style_of;
 use crate::program::program;
 use clap::ArgMatches;
-use clap::error::ErrorKind;
+use clap::error::{Error, ErrorKind};
 use dns_name::Name;
 use job_make::Load;
 use std::alloc::{AllocError, Global};
@@ -168,6 +168,18 @@ fn asked_in(matches: &ArgMatches<'_>) -> Option<Invocation>
     asked_by(name, inner)
 }
 
+// What is told of words that clap doesn't take: that they are refused, but where clap wanted memory.
+fn refused_by(error: &Error) -> Result<Option<Invocation>, AllocError>
+    ensures refused { (kind_of error.now ≡ OutOfMemory → ⊥) → result ≡ Ok None }
+    ensures memory { kind_of error.now ≡ OutOfMemory → IsErr result }
+{
+    if error.kind() == ErrorKind::OutOfMemory {
+        Err(AllocError)
+    } else {
+        Ok(None)
+    }
+}
+
 /// What words say as clap reads them; None where it refuses them, or an origin isn't a name, or a number isn't decimal digits
 /// within its limits.
 pub fn parsed_of(alloc: Global, words: &[String]) -> Result<Option<Invocation>, AllocError>
@@ -176,7 +188,6 @@ pub fn parsed_of(alloc: Global, words: &[String]) -> Result<Option<Invocation>, 
     let command = program(alloc)?;
     match command.try_get_matches_from(words) {
         Ok(matches) => Ok(asked_in(&matches)),
-        Err(error) if error.kind() == ErrorKind::OutOfMemory => Err(AllocError),
-        Err(_) => Ok(None),
+        Err(error) => refused_by(&error),
     }
 }

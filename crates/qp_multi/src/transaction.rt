@@ -334,7 +334,8 @@ impl<L: Law, N: Named> Index<L, N> {
         ensures last { IfErr result (λ s. s.version ≡ LAST_VERSION) }
     {
         let mut locked = Locked::of(self);
-        self.begin::<Compaction, R>(rt, &mut locked, pass).commit()
+        let transaction = self.begin::<Compaction, R>(rt, &mut locked, pass);
+        transaction.commit()
     }
 }
 
