@@ -1,5 +1,5 @@
 -- Records whose data are names alone name nobody twice.
-use Rattle.std.proofs.Common.{◌≡◌, ◌∙◌, ℕ, zero, suc, eqb, Bool, true, false, cond, not, List, [], ◌∷◌, ◌++◌, length, filter, filter_map, flat_map, Option, Some, None, option_and_then, refl, sym, ap, subst, append_assoc, append-nil, unwrap_or, arith, eqb-true}
+use Rattle.std.proofs.Common.{◌≡◌, ◌∙◌, ℕ, zero, suc, eqb, Bool, true, false, cond, not, List, [], ◌∷◌, ◌++◌, length, filter, filter_map, flat_map, Option, Some, None, option_and_then, refl, sym, ap, subst, append_assoc, append-nil, unwrap_or, eqb-true}
 use Rattle.std.proofs.lemmas.Cmp.{nat_list_cmp_total}
 use Rattle.std.specs.List.{AllByRecursion, IsDistinct, cons_option}
 use Rattle.std.specs.BTreeMap.{is_at}
@@ -7,7 +7,7 @@ use Rattle.std.specs.Option.{option_map}
 use Rattle.std.specs.declared.cmp.Ordering.TheVariants.{Less, Greater}
 use Rattle.std.specs.Ordering.{ordering_reverse}
 use Rattle.zone_model.specs.Names.{Name, name_cmp, same_name, star_under, wire}
-use Rattle.zone_model.specs.Records.{Rrset, Entry, AboveOctets, IsEntry, IsRrset, RisingOctets, RisingSets, octets_cmp, rrset_of}
+use Rattle.zone_model.specs.Records.{Rrset, Entry, IsEntry, IsRrset, RisingOctets, RisingSets, octets_cmp, rrset_of}
 use Rattle.zone_model.specs.Rows.{rows_of}
 use Rattle.zone_model.specs.Splits.{is_label_of, split_labels, split_name, split_octets, under_label}
 use Rattle.zone_model.specs.Versions.{Version, entry_of, exists, owned}
