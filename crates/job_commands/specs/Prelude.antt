@@ -2,8 +2,9 @@
 pub use Rattle.zone_model.specs.Dumps.{all_rows}
 pub use Rattle.zone_answer.specs.Around.{find}
 pub use Rattle.zone_answer.specs.Prelude.{Shows, ShowsSome, Version, most_item_octets}
+pub use Rattle.zone_answer.specs.Responses.{respond}
 pub use Rattle.job_model.specs.Outcomes.{Committed, Refused, Spent as NoNumber}
-pub use Rattle.job_model.specs.Replies.{found_text, reply_of, reply_text, size_text}
+pub use Rattle.job_model.specs.Replies.{found_text, reply_of, reply_text, response_text, size_text}
 pub use Rattle.job_model.specs.Sizes.{node_count}
 pub use Rattle.job_script.specs.Outcomes.{EndsBlock, EndsCompaction}
 pub use Rattle.job_script.specs.Prelude.{NeedsNoSnapshot, command_view, ended_view, rows_text}

@@ -1,15 +1,17 @@
 //! Questions to one version.
 ghost use Rattle.std.specs.Prelude.{◌≡◌, ◌≤◌, ◌++◌, length, IfOk, OnOk, codes};
 ghost use Rattle.job_commands.specs.Prelude.{all_rows, most_item_octets, Version, find, Shows, ShowsSome};
-ghost use Rattle.job_commands.specs.Prelude.{found_text, reply_of, reply_text, rows_text, size_text, node_count};
+ghost use Rattle.job_commands.specs.Prelude.{found_text, reply_of, reply_text, respond, response_text, rows_text, size_text, node_count};
 
 use crate::room::Room;
 use dns_name::Name;
 use job_model::Question;
-use job_script::{PrintedRows, push_answer, push_found, push_list, push_rows, push_size};
+use job_script::{
+    PrintedRows, push_answer, push_found, push_list, push_response, push_rows, push_size,
+};
 use std::alloc::{AllocError, Global};
 use trie_read::Reading;
-use zone_answer::{Walker, answer_into, back, find, walk};
+use zone_answer::{Scratch, Sections, answer_into, back, find, respond_into, walk};
 use zone_dump::dump_text;
 
 // Pushes all records of a version.
@@ -58,28 +60,60 @@ fn push_around<V: Reading>(
     push_found(out, &found)
 }
 
+// Pushes the response for a name and a type.
+#[inline(never)]
+fn push_whole<V: Reading>(
+    alloc: Global,
+    origin: &Name,
+    version: &mut V,
+    name: &Name,
+    rtype: u16,
+    scratch: &mut Scratch,
+    rows: &mut Sections<PrintedRows>,
+    out: &mut Vec<u8>,
+) -> Result<(), AllocError>
+    requires { ShowsSome (V.holds version.old) }
+    ensures same { version.new ≡ version.old }
+    ensures reply { (zone : Version) → Shows (V.holds version.old) zone
+        → OnOk result (out.new.items ≡ out.old.items ++ response_text (respond origin.now zone name.now rtype)) }
+{
+    rows.rows.clear();
+    let header = respond_into(alloc, version, origin, name, rtype, scratch, rows)?;
+    push_response(out, &header, &rows.rows)
+}
+
 // Pushes what is printed of a version's reply to a question.
 fn push_reply<V: Reading>(
     alloc: Global,
     origin: &Name,
     version: &mut V,
     question: &Question,
-    item: &mut [u8],
-    walker: &mut Walker,
-    rows: &mut PrintedRows,
+    scratch: &mut Scratch,
+    rows: &mut Sections<PrintedRows>,
     out: &mut Vec<u8>,
 ) -> Result<(), AllocError>
-    requires shown { ShowsSome (V.holds version.old) }
-    requires room { most_item_octets ≤ length item.old }
+    requires { ShowsSome (V.holds version.old) }
     ensures same { version.new ≡ version.old }
     ensures reply { (zone : Version) → Shows (V.holds version.old) zone
         → OnOk result (out.new.items ≡ out.old.items ++ reply_text (reply_of origin.now zone question.now)) }
 {
     match question {
         Question::Get(name, rtype) => {
-            rows.clear();
-            let kind = answer_into(alloc, version, origin, name, *rtype, item, walker, rows)?;
-            push_answer(out, kind, rows)
+            rows.rows.clear();
+            let kind = answer_into(
+                alloc,
+                version,
+                origin,
+                name,
+                *rtype,
+                &mut scratch.item,
+                &mut scratch.walker,
+                &mut rows.rows,
+            )?;
+            push_answer(out, kind, &rows.rows)
+        }
+        Question::Respond(name, rtype) => {
+            push_whole(alloc, origin, version, name, *rtype, scratch, rows, out)
         }
         Question::Find(name) => push_around(alloc, version, name, out),
         Question::Walk(stretch) => {
@@ -90,7 +124,7 @@ fn push_reply<V: Reading>(
             let names = back(alloc, version, &stretch.start, stretch.most as usize)?;
             push_list(out, b"BACK", &names)
         }
-        Question::Dump => push_all(alloc, version, item, out),
+        Question::Dump => push_all(alloc, version, &mut scratch.item, out),
         Question::Stat => push_numbers(version, out),
     }
 }
@@ -114,8 +148,7 @@ pub fn reply_text<V: Reading>(
         origin,
         version,
         question,
-        &mut room.items.before,
-        &mut room.walker,
+        &mut room.scratch,
         &mut room.rows,
         &mut room.text,
     )?;

@@ -2,16 +2,16 @@
 
 use job_script::PrintedRows;
 use std::alloc::{AllocError, Global};
-use zone_answer::Walker;
+use zone_answer::{Scratch, Sections};
 use zone_edit::ItemBuffers;
 
-/// Room for items, for a way through a trie, for an answer's records, and for a reply that is printed. One value serves all
-/// commands of a worker.
+/// Room for the items of transactions, for what questions go through a version with, for the records of an answer or a response, and
+/// for a reply that is printed. One value serves all commands of a worker.
 #[derive(Drop)]
 pub struct Room {
     pub items: ItemBuffers,
-    pub walker: Walker,
-    pub rows: PrintedRows,
+    pub scratch: Scratch,
+    pub rows: Sections<PrintedRows>,
     pub text: Vec<u8>,
 }
 
@@ -19,10 +19,11 @@ impl Room {
     /// With nothing in it. `AllocError` is want of memory.
     pub fn new(alloc: Global) -> Result<Room, AllocError> {
         let items = ItemBuffers::new(alloc)?;
+        let scratch = Scratch::new(alloc)?;
         Ok(Room {
             items,
-            walker: Walker::new(),
-            rows: PrintedRows::new(alloc),
+            scratch,
+            rows: Sections::new(PrintedRows::new(alloc)),
             text: Vec::new(alloc),
         })
     }

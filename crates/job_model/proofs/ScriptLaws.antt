@@ -13,10 +13,11 @@ use Rattle.job_model.specs.declared.ScriptKind.{ScriptKind}
 use Rattle.job_model.specs.declared.ScriptKind.TheVariants.{NoWorker, BadCommand, NotHeld, AlreadyHeld, TooMany}
 use Rattle.job_model.specs.declared.Ending.{Ending}
 use Rattle.job_model.specs.declared.Weight.{Weight}
+use Rattle.job_model.specs.declared.Question.{Question}
 use Rattle.job_model.specs.Commands.{Command, Ask, Hold, AskHeld, Release, Block, Compact, held_after, MayCome, NeedsNoSnapshot}
-use Rattle.job_model.specs.Phrases.{Phrase, Worker, Asks, Holds, AsksHeld, Releases, Opens, Needs, Adds, Deletes, Ends, Compacts, phrase_of, script_tokens}
+use Rattle.job_model.specs.Phrases.{Phrase, Worker, Asks, AsksWhole, Holds, AsksHeld, AsksHeldWhole, Releases, Opens, Needs, Adds, Deletes, Ends, Compacts, phrase_of, script_tokens}
 use Rattle.job_model.specs.Arguments.{refuse, at_line, prerequisite_of, addition_of, deletion_of}
-use Rattle.job_model.specs.Jobs.{Unfinished, Script, lists_of, is_by_worker, has_snapshots, worker_limit, command_limit, need_limit, operation_limit, of_worker, while_held, while_free, with_room, with_command, with_question, with_held_question, holding, released, opened, next_worker, outside, with_asked, with_need, needed_first, with_operation, joined, may_end, inside, may_stand, by_block, taken, tokens_say, script_line, script_from, finished, no_lines, script_of, no_commands, list_finished, list_of}
+use Rattle.job_model.specs.Jobs.{Unfinished, Script, lists_of, is_by_worker, has_snapshots, is_live, worker_limit, command_limit, need_limit, operation_limit, of_worker, while_held, while_free, with_room, with_command, with_question, with_held_question, asking, asking_held, holding, released, opened, next_worker, outside, with_asked, with_need, needed_first, with_operation, joined, may_end, inside, may_stand, by_block, taken, tokens_say, script_line, script_from, finished, no_lines, script_of, no_commands, list_finished, list_of}
 
 -- ---- what a line adds
 
@@ -49,8 +50,10 @@ IsLone Compact = Unit {0}
 abbrev pub operation_of : Name → ℕ → Phrase → Result Operation (Refused ScriptKind)
 operation_of origin n Worker = refuse n BadCommand
 operation_of origin n (Asks asked) = refuse n BadCommand
+operation_of origin n (AsksWhole asked) = refuse n BadCommand
 operation_of origin n Holds = refuse n BadCommand
 operation_of origin n (AsksHeld asked) = refuse n BadCommand
+operation_of origin n (AsksHeldWhole asked) = refuse n BadCommand
 operation_of origin n Releases = refuse n BadCommand
 operation_of origin n (Opens _) = refuse n BadCommand
 operation_of origin n (Needs wanted owner rtype) = refuse n BadCommand
@@ -108,22 +111,34 @@ not_here listing may one = let no : is_by_worker listing ≡ false = ap is_by_wo
 no_snapshots_here : (listing : Listing) → has_snapshots listing ≡ true → listing ≡ OneList → ⊥
 no_snapshots_here listing may one = let no : has_snapshots listing ≡ false = ap has_snapshots one in cc
 
+not_live_here : (listing : Listing) → is_live listing ≡ true → listing ≡ OneList → ⊥
+not_live_here listing may one = let no : is_live listing ≡ false = ap is_live one in cc
+
+asking_kept : (origin : Name) (Line : List ℕ → Type 0) (Fact : Script → Type 0) → IsKept origin Line Fact → (n : ℕ) (asked : Result Question ScriptKind) (s : Script) → Fact (free s) → IfRead Fact (asking n (free s) asked)
+asking_kept origin Line Fact k n asked s so_far =
+    begun Fact n (free s) (with_room n (free s) (at_line n asked >>= with_question (free s))) (roomy Fact n (free s) (at_line n asked >>= with_question (free s))
+    (λ room. if_bound Fact (at_line n asked) (with_question (free s)) (λ question _. k.command s (Ask question) so_far (record { turn = tt; place = λ _. tt; room = room }) tt)))
+
+asking_held_kept : (origin : Name) (Line : List ℕ → Type 0) (Fact : Script → Type 0) → IsKept origin Line Fact → (n : ℕ) (asked : Result Question ScriptKind) (s : Script) → Fact (free s) → (s.listing ≡ OneList → ⊥)
+    → IfRead Fact (asking_held n (free s) asked)
+asking_held_kept origin Line Fact k n asked s so_far place =
+    begun Fact n (free s) (while_held n (free s) (with_room n (free s) (at_line n asked >>= with_held_question (free s))))
+    (if_either Fact s.held (with_room n (free s) (at_line n asked >>= with_held_question (free s))) (refuse n NotHeld)
+    (λ held. roomy Fact n (free s) (at_line n asked >>= with_held_question (free s)) (λ room. if_bound Fact (at_line n asked) (with_held_question (free s))
+    (λ question _. k.command s (AskHeld question) so_far (record { turn = held; place = place; room = room }) tt))) (λ _. tt))
+
 outside_kept : (origin : Name) (Line : List ℕ → Type 0) (Fact : Script → Type 0) → IsKept origin Line Fact → (n : ℕ) (phrase : Phrase) (s : Script) → Fact (free s) → may_stand s.listing phrase ≡ true
     → IfRead Fact (outside origin n phrase (free s))
 outside_kept origin Line Fact k n Worker s so_far may =
     if_either Fact (nat_lt (length (lists_of s)) worker_limit) (Ok (next_worker (free s))) (refuse n (TooMany worker_limit)) (λ room. k.worker s so_far room may) (λ _. tt)
-outside_kept origin Line Fact k n (Asks asked) s so_far may =
-    begun Fact n (free s) (with_room n (free s) (at_line n asked >>= with_question (free s))) (roomy Fact n (free s) (at_line n asked >>= with_question (free s))
-    (λ room. if_bound Fact (at_line n asked) (with_question (free s)) (λ question _. k.command s (Ask question) so_far (record { turn = tt; place = λ _. tt; room = room }) tt)))
+outside_kept origin Line Fact k n (Asks asked) s so_far may = asking_kept origin Line Fact k n asked s so_far
+outside_kept origin Line Fact k n (AsksWhole asked) s so_far may = asking_kept origin Line Fact k n asked s so_far
 outside_kept origin Line Fact k n Holds s so_far may =
     begun Fact n (free s) (while_free n (free s) (with_room n (free s) (Ok (holding (free s)))))
     (if_either Fact s.held (refuse n AlreadyHeld) (with_room n (free s) (Ok (holding (free s)))) (λ _. tt) (λ none. roomy Fact n (free s) (Ok (holding (free s)))
     (λ room. k.command s Hold so_far (record { turn = none; place = no_snapshots_here s.listing may; room = room }) tt)))
-outside_kept origin Line Fact k n (AsksHeld asked) s so_far may =
-    begun Fact n (free s) (while_held n (free s) (with_room n (free s) (at_line n asked >>= with_held_question (free s))))
-    (if_either Fact s.held (with_room n (free s) (at_line n asked >>= with_held_question (free s))) (refuse n NotHeld)
-    (λ held. roomy Fact n (free s) (at_line n asked >>= with_held_question (free s)) (λ room. if_bound Fact (at_line n asked) (with_held_question (free s))
-    (λ question _. k.command s (AskHeld question) so_far (record { turn = held; place = no_snapshots_here s.listing may; room = room }) tt))) (λ _. tt))
+outside_kept origin Line Fact k n (AsksHeld asked) s so_far may = asking_held_kept origin Line Fact k n asked s so_far (no_snapshots_here s.listing may)
+outside_kept origin Line Fact k n (AsksHeldWhole asked) s so_far may = asking_held_kept origin Line Fact k n asked s so_far (not_live_here s.listing may)
 outside_kept origin Line Fact k n Releases s so_far may =
     begun Fact n (free s) (while_held n (free s) (with_room n (free s) (Ok (released (free s)))))
     (if_either Fact s.held (with_room n (free s) (Ok (released (free s)))) (refuse n NotHeld) (λ held. roomy Fact n (free s) (Ok (released (free s)))
@@ -156,8 +171,10 @@ inside_kept : (origin : Name) (Line : List ℕ → Type 0) (Fact : Script → Ty
     → Line line → IsOn origin n line phrase → Fact (busy b s) → IfRead Fact (inside origin n b phrase (busy b s))
 inside_kept origin Line Fact k n line b Worker s known on so_far = tt
 inside_kept origin Line Fact k n line b (Asks asked) s known on so_far = tt
+inside_kept origin Line Fact k n line b (AsksWhole asked) s known on so_far = tt
 inside_kept origin Line Fact k n line b Holds s known on so_far = tt
 inside_kept origin Line Fact k n line b (AsksHeld asked) s known on so_far = tt
+inside_kept origin Line Fact k n line b (AsksHeldWhole asked) s known on so_far = tt
 inside_kept origin Line Fact k n line b Releases s known on so_far = tt
 inside_kept origin Line Fact k n line b (Opens _) s known on so_far = tt
 inside_kept origin Line Fact k n line b (Needs wanted owner rtype) s known on so_far =

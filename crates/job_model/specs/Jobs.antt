@@ -20,7 +20,7 @@ use Rattle.job_model.specs.declared.Weight.{Weight}
 use Rattle.job_model.specs.declared.Weight.TheVariants.{Light, Heavy}
 use Rattle.job_model.specs.declared.Question.{Question}
 use Rattle.job_model.specs.Commands.{Command, Ask, Hold, AskHeld, Release, Block, Compact, Job, FedJob}
-use Rattle.job_model.specs.Phrases.{Phrase, Worker, Asks, Holds, AsksHeld, Releases, Opens, Needs, Adds, Deletes, Ends, Compacts, phrase_of, script_tokens}
+use Rattle.job_model.specs.Phrases.{Phrase, Worker, Asks, AsksWhole, Holds, AsksHeld, AsksHeldWhole, Releases, Opens, Needs, Adds, Deletes, Ends, Compacts, phrase_of, script_tokens}
 use Rattle.job_model.specs.Arguments.{refuse, at_line, prerequisite_of, addition_of, deletion_of}
 
 -- why bytes are no job
@@ -77,12 +77,21 @@ has_snapshots ByWorker = true
 has_snapshots OneList = false
 has_snapshots Live = true
 
--- No worker begins where there is one list. Where any worker may run any command of it, no snapshot is taken, asked or given back.
+-- lines come while they are answered
+abbrev pub is_live : Listing → Bool
+is_live ByWorker = false
+is_live OneList = false
+is_live Live = true
+
+-- No worker begins where there is one list. Where any worker may run any command of it, no snapshot is taken, asked or given back. A
+-- whole response is for who waits for it.
 abbrev pub may_stand : Listing → Phrase → Bool
 may_stand listing Worker = is_by_worker listing
 may_stand listing (Asks asked) = true
+may_stand listing (AsksWhole asked) = is_live listing
 may_stand listing Holds = has_snapshots listing
 may_stand listing (AsksHeld asked) = has_snapshots listing
+may_stand listing (AsksHeldWhole asked) = is_live listing
 may_stand listing Releases = has_snapshots listing
 may_stand listing (Opens _) = true
 may_stand listing (Needs wanted owner rtype) = true
@@ -130,11 +139,20 @@ opened n weight s = record s { block = Some (record { start = n; weight = weight
 abbrev pub next_worker : Script → Script
 next_worker s = if s.begun then record s { earlier = s.earlier ++ s.commands ∷ []; commands = []; held = false } else record s { begun = true }
 
+-- a question to the current version, and one to the snapshot
+abbrev pub asking : ℕ → Script → Result Question ScriptKind → Result Script (Refused ScriptKind)
+asking n s asked = of_worker n s (with_room n s (at_line n asked >>= with_question s))
+
+abbrev pub asking_held : ℕ → Script → Result Question ScriptKind → Result Script (Refused ScriptKind)
+asking_held n s asked = of_worker n s (while_held n s (with_room n s (at_line n asked >>= with_held_question s)))
+
 abbrev pub outside : Name → ℕ → Phrase → Script → Result Script (Refused ScriptKind)
 outside origin n Worker s = if nat_lt (length (lists_of s)) worker_limit then Ok (next_worker s) else refuse n (TooMany worker_limit)
-outside origin n (Asks asked) s = of_worker n s (with_room n s (at_line n asked >>= with_question s))
+outside origin n (Asks asked) s = asking n s asked
+outside origin n (AsksWhole asked) s = asking n s asked
 outside origin n Holds s = of_worker n s (while_free n s (with_room n s (Ok (holding s))))
-outside origin n (AsksHeld asked) s = of_worker n s (while_held n s (with_room n s (at_line n asked >>= with_held_question s)))
+outside origin n (AsksHeld asked) s = asking_held n s asked
+outside origin n (AsksHeldWhole asked) s = asking_held n s asked
 outside origin n Releases s = of_worker n s (while_held n s (with_room n s (Ok (released s))))
 outside origin n (Opens weight) s = of_worker n s (with_room n s (Ok (opened n weight s)))
 outside origin n (Needs wanted owner rtype) s = refuse n BadCommand
@@ -180,8 +198,10 @@ ended n b ending s =
 abbrev pub inside : Name → ℕ → Unfinished → Phrase → Script → Result Script (Refused ScriptKind)
 inside origin n b Worker s = refuse b.start OpenBlock
 inside origin n b (Asks asked) s = refuse n BadCommand
+inside origin n b (AsksWhole asked) s = refuse n BadCommand
 inside origin n b Holds s = refuse n BadCommand
 inside origin n b (AsksHeld asked) s = refuse n BadCommand
+inside origin n b (AsksHeldWhole asked) s = refuse n BadCommand
 inside origin n b Releases s = refuse n BadCommand
 inside origin n b (Opens _) s = refuse n BadCommand
 inside origin n b (Needs wanted owner rtype) s = needed_first n b s (prerequisite_of origin n wanted owner rtype)

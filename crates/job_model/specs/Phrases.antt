@@ -12,7 +12,7 @@ use Rattle.job_model.specs.declared.Question.{Question}
 use Rattle.job_model.specs.declared.ScriptKind.{ScriptKind}
 use Rattle.job_model.specs.declared.Weight.TheVariants.{Light, Heavy}
 use Rattle.job_model.specs.Words.{says}
-use Rattle.job_model.specs.Questions.{asked_of}
+use Rattle.job_model.specs.Questions.{asked_of, response_wanted}
 
 -- ---- the tokens of a line
 
@@ -26,12 +26,15 @@ script_tokens n line = without_parens (single_line n line)
 
 -- ---- phrases
 
--- what a line says; of a question also what its operands say, or why they are refused
+-- What a line says; of a question also what its operands say, or why they are refused. A whole response is asked for by a phrase of
+-- its own.
 pub data Phrase : Type 0 where
   Worker : Phrase
   Asks : (asked : Result Question ScriptKind) → Phrase
+  AsksWhole : (asked : Result Question ScriptKind) → Phrase
   Holds : Phrase
   AsksHeld : (asked : Result Question ScriptKind) → Phrase
+  AsksHeldWhole : (asked : Result Question ScriptKind) → Phrase
   Releases : Phrase
   Opens : (weight : Weight) → Phrase
   Needs : (wanted : Bool) (owner : Token) (rtype : Option Token) → Phrase
@@ -65,12 +68,19 @@ needs wanted owner [] = Some (Needs wanted owner None)
 needs wanted owner (rtype ∷ []) = Some (Needs wanted owner (Some rtype))
 needs wanted owner (rtype ∷ other ∷ rest) = None
 
--- a word that asks no question, with an argument and what stands behind that
+-- what is asked of the snapshot
+abbrev pub asks_held : Name → Token → List Token → Option Phrase
+asks_held origin w operands =
+    if says w (codes "ask") then option_map AsksHeldWhole (response_wanted origin operands)
+    else option_map AsksHeld (asked_of origin w operands)
+
+-- what another word says, with an argument and what stands behind that
 abbrev pub argued : Name → Token → Token → List Token → Option Phrase
 argued origin w first rest =
     if says w (codes "add") then adds first rest
     else if says w (codes "del") then Some (Deletes first rest)
-    else if says w (codes "at") then option_map AsksHeld (asked_of origin first rest)
+    else if says w (codes "ask") then option_map AsksWhole (response_wanted origin (first ∷ rest))
+    else if says w (codes "at") then asks_held origin first rest
     else if says w (codes "need") then needs true first rest
     else if says w (codes "neednot") then needs false first rest
     else None

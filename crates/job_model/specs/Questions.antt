@@ -9,10 +9,11 @@ use Rattle.zone_model.specs.Rows.{Row}
 use Rattle.zone_model.specs.Dumps.{all_rows}
 use Rattle.zone_model.specs.Versions.{Version}
 use Rattle.zone_answer.specs.Answers.{Answer, answer}
+use Rattle.zone_answer.specs.Responses.{Response, respond}
 use Rattle.zone_answer.specs.Around.{Found, find, walk, back}
 use Rattle.job_model.specs.Sizes.{node_count}
 use Rattle.job_model.specs.declared.Question.{Question}
-use Rattle.job_model.specs.declared.Question.TheVariants.{Get, Find, Walk, Back, Stat, Dump}
+use Rattle.job_model.specs.declared.Question.TheVariants.{Get, Respond, Find, Walk, Back, Stat, Dump}
 use Rattle.job_model.specs.declared.Stretch.{Stretch}
 use Rattle.job_model.specs.declared.ScriptKind.{ScriptKind}
 use Rattle.job_model.specs.declared.ScriptKind.TheVariants.{BadName, BadType, BadNumber}
@@ -63,12 +64,17 @@ asked_of origin w operands =
     else if says w (codes "dump") then bare Dump operands
     else None
 
+-- the question for a whole response
+abbrev pub response_wanted : Name → List Token → Option (Result Question ScriptKind)
+response_wanted origin operands = asks (λ p. Respond p.0 p.1) (typed origin operands)
+
 -- ---- what they ask of a version
 
--- The form of a reply, and what fills it from a version: an answer; what there is of a name; a word with names, or with records; how many
--- names and nodes.
+-- The form of a reply, and what fills it from a version: an answer; a response; what there is of a name; a word with names, or with
+-- records; how many names and nodes.
 pub data Form : Type 0 where
   OfAnswer : (answer : Version → Answer) → Form
+  OfResponse : (response : Version → Response) → Form
   OfFound : (found : Version → Found) → Form
   OfNames : (word : List ℕ) (names : Version → List Name) → Form
   OfRows : (word : List ℕ) (rows : Version → List Row) → Form
@@ -77,6 +83,7 @@ pub data Form : Type 0 where
 -- what a question asks of the versions of the zone of an origin
 abbrev pub form_of : Name → Question → Form
 form_of origin (Get name rtype) = OfAnswer (λ version. answer origin version name rtype)
+form_of origin (Respond name rtype) = OfResponse (λ version. respond origin version name rtype)
 form_of origin (Find name) = OfFound (λ version. find name version)
 form_of origin (Walk s) = OfNames (codes "WALK") (λ version. walk s.start s.most version)
 form_of origin (Back s) = OfNames (codes "BACK") (λ version. back s.start s.most version)

@@ -1,5 +1,5 @@
 -- How what versions reply to questions is printed.
-use Rattle.std.specs.Prelude.{ℕ, List, [], ◌++◌, length, ◌==◌, if◌then◌else◌, Option, Some, None, codes}
+use Rattle.std.specs.Prelude.{ℕ, Bool, List, [], ◌++◌, length, ◌==◌, if◌then◌else◌, Option, Some, None, codes}
 use Rattle.std.specs.List.{flat_map}
 use Rattle.std.specs.Fmt.{decimal}
 use Rattle.zone_model.specs.Names.{Name}
@@ -9,11 +9,14 @@ use Rattle.zone_model.specs.Versions.{Version}
 use Rattle.zone_answer.specs.Answers.{Answer}
 use Rattle.zone_answer.specs.declared.kind.Kind.{Kind}
 use Rattle.zone_answer.specs.declared.kind.Kind.TheVariants.{Answered, Nodata, Nxdomain, Referral, Outside}
+use Rattle.zone_answer.specs.Responses.{Response}
+use Rattle.zone_answer.specs.declared.header.Code.{Code}
+use Rattle.zone_answer.specs.declared.header.Code.TheVariants.{NoError, NxDomain, Refused}
 use Rattle.zone_answer.specs.Around.{Found}
 use Rattle.trie_read.specs.declared.found.Kind.{Kind as FoundKind}
 use Rattle.trie_read.specs.declared.found.Kind.TheVariants as there
 use Rattle.job_model.specs.declared.Question.{Question}
-use Rattle.job_model.specs.Questions.{Form, OfAnswer, OfFound, OfNames, OfRows, OfSize, form_of}
+use Rattle.job_model.specs.Questions.{Form, OfAnswer, OfResponse, OfFound, OfNames, OfRows, OfSize, form_of}
 
 -- ---- answers
 
@@ -34,6 +37,29 @@ rows_text word rows = word ++ count_text (length rows) ++ codes "\n" ++ flat_map
 
 abbrev pub answer_text : Answer → List ℕ
 answer_text a = rows_text (kind_text a.kind) a.rows
+
+-- ---- responses
+
+abbrev pub code_text : Code → List ℕ
+code_text NoError = codes "NOERROR"
+code_text NxDomain = codes "NXDOMAIN"
+code_text Refused = codes "REFUSED"
+
+-- whether it is authoritative
+abbrev pub flag_text : Bool → List ℕ
+flag_text authoritative = if authoritative then codes "aa" else codes "-"
+
+-- the code, the flag, and how many records each section has
+abbrev pub header_text : Code → Bool → ℕ → ℕ → ℕ → List ℕ
+header_text code authoritative answer authority additional =
+    codes "ask " ++ code_text code ++ codes " " ++ flag_text authoritative ++ codes " " ++ decimal answer ++ codes " " ++ decimal authority ++ codes " " ++ decimal additional ++ codes "\n"
+
+-- the records of its sections, one section behind the other
+abbrev pub response_rows : Response → List Row
+response_rows r = r.answer ++ r.authority ++ r.additional
+
+abbrev pub response_text : Response → List ℕ
+response_text r = header_text r.code r.authoritative (length r.answer) (length r.authority) (length r.additional) ++ flat_map row_text (response_rows r)
 
 -- ---- names
 
@@ -65,6 +91,7 @@ size_text names nodes = codes "names " ++ decimal names ++ codes " nodes " ++ de
 -- what is printed of a form that a version fills
 abbrev pub form_text : Form → Version → List ℕ
 form_text (OfAnswer answer) version = answer_text (answer version)
+form_text (OfResponse response) version = response_text (response version)
 form_text (OfFound found) version = found_text (found version)
 form_text (OfNames word names) version = names_text word (names version)
 form_text (OfRows word rows) version = rows_text word (rows version)

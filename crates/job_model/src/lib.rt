@@ -30,6 +30,8 @@ pub struct Stretch {
 pub enum Question {
     /// The answer for a name and a type.
     Get(Name, u16),
+    /// The whole response for a name and a type.
+    Respond(Name, u16),
     /// What there is of a name.
     Find(Name),
     /// The names at or after a name.

@@ -4,7 +4,7 @@ use Rattle.std.specs.List.{AllByRecursion}
 use Rattle.std.proofs.lemmas.List.{length-map}
 use Rattle.zone_model.specs.Names.{Name}
 use Rattle.zone_model.specs.Tokens.{Token}
-use Rattle.job_model.specs.Phrases.{Phrase, Worker, Asks, Holds, AsksHeld, Releases, Opens, Needs, Adds, Deletes, Ends, Compacts, phrase_of}
+use Rattle.job_model.specs.Phrases.{Phrase, Worker, Asks, AsksWhole, Holds, AsksHeld, AsksHeldWhole, Releases, Opens, Needs, Adds, Deletes, Ends, Compacts, phrase_of}
 use Rattle.job_model.specs.declared.ScriptKind.TheVariants.{BadCommand}
 use Rattle.job_model.specs.Arguments.{refuse}
 use Rattle.job_model.specs.Commands.{InTurn, NeedsNoSnapshot}
@@ -22,8 +22,10 @@ use Rattle.job_script.specs.declared.refusal.JobRefusal.{JobRefusal}
 pub inside_alike : (origin : Name) (n : ℕ) (b : Unfinished) (p : Phrase) (s : Script) (block : Option Unfinished) → inside origin n b p (record s { block = block }) ≡ inside origin n b p s
 inside_alike origin n b Worker s block = refl
 inside_alike origin n b (Asks asked) s block = refl
+inside_alike origin n b (AsksWhole asked) s block = refl
 inside_alike origin n b Holds s block = refl
 inside_alike origin n b (AsksHeld asked) s block = refl
+inside_alike origin n b (AsksHeldWhole asked) s block = refl
 inside_alike origin n b Releases s block = refl
 inside_alike origin n b (Opens _) s block = refl
 inside_alike origin n b (Needs wanted owner rtype) s block = refl

@@ -17,8 +17,10 @@ use Rattle.job_script.specs.declared.phrases.Phrase.TheVariants as phrase
 abbrev pub phrase_view : Name → List ℕ → Phrase → phrases.Phrase
 phrase_view origin bytes phrase.Worker = phrases.Worker
 phrase_view origin bytes (phrase.Asks asked) = phrases.Asks (asked_view origin bytes asked)
+phrase_view origin bytes (phrase.AsksWhole asked) = phrases.AsksWhole (asked_view origin bytes asked)
 phrase_view origin bytes phrase.Holds = phrases.Holds
 phrase_view origin bytes (phrase.AsksHeld asked) = phrases.AsksHeld (asked_view origin bytes asked)
+phrase_view origin bytes (phrase.AsksHeldWhole asked) = phrases.AsksHeldWhole (asked_view origin bytes asked)
 phrase_view origin bytes phrase.Releases = phrases.Releases
 phrase_view origin bytes (phrase.Opens weight) = phrases.Opens weight
 phrase_view origin bytes (phrase.Needs wanted owner rtype) = phrases.Needs wanted (token_view bytes owner) (option_map (token_view bytes) rtype)
@@ -31,8 +33,10 @@ phrase_view origin bytes phrase.Compacts = phrases.Compacts
 abbrev pub PhrasePlaced : List ℕ → Phrase → Type 0
 PhrasePlaced bytes phrase.Worker = Unit {0}
 PhrasePlaced bytes (phrase.Asks asked) = AskedPlaced bytes asked
+PhrasePlaced bytes (phrase.AsksWhole asked) = AskedPlaced bytes asked
 PhrasePlaced bytes phrase.Holds = Unit {0}
 PhrasePlaced bytes (phrase.AsksHeld asked) = AskedPlaced bytes asked
+PhrasePlaced bytes (phrase.AsksHeldWhole asked) = AskedPlaced bytes asked
 PhrasePlaced bytes phrase.Releases = Unit {0}
 PhrasePlaced bytes (phrase.Opens _) = Unit {0}
 PhrasePlaced bytes (phrase.Needs wanted owner rtype) = IsPlaced bytes owner × IfSome rtype (IsPlaced bytes)

@@ -8,6 +8,8 @@ pub use Rattle.zone_model.specs.Rows.{Row, row_text, rows_of}
 pub use Rattle.zone_text.specs.Tokens.{IsPlaced, token_view}
 pub use Rattle.zone_change.specs.Views.{operation_view, prerequisite_view}
 pub use Rattle.zone_model.specs.MasterFile.{type_word}
+pub use Rattle.zone_answer.specs.Responses.{Response}
+pub use Rattle.zone_answer.specs.Sections.{IsResponded}
 pub use Rattle.job_model.specs.Arguments.{prerequisite_of}
 pub use Rattle.job_model.specs.Commands.{InTurn, Job, NeedsNoSnapshot}
 pub use Rattle.job_model.specs.Jobs.{JobRefusal, job_of, script_lines, script_start, zone_lines}

@@ -22,12 +22,12 @@ pub fn outside(script: &mut Script, line: Line, phrase: &Phrase) -> Result<(), J
 {
     match phrase {
         Phrase::Worker => begin_worker(script, line),
-        Phrase::Asks(asked) => {
+        Phrase::Asks(asked) | Phrase::AsksWhole(asked) => {
             demand(script.begun, line.number, ScriptKind::NoWorker)?;
             add_question(script, line, asked, false)
         }
         Phrase::Holds => hold(script, line.number),
-        Phrase::AsksHeld(asked) => {
+        Phrase::AsksHeld(asked) | Phrase::AsksHeldWhole(asked) => {
             demand(script.begun, line.number, ScriptKind::NoWorker)?;
             demand(script.held, line.number, ScriptKind::NotHeld)?;
             add_question(script, line, asked, true)

@@ -4,7 +4,7 @@ ghost use Rattle.job_script.specs.Prelude.{option_map, All, Labels, IsPlaced, to
 ghost use Rattle.job_model.specs.Phrases as phrases;
 
 use crate::questions::{Asked, asked_of};
-use crate::words::says;
+use crate::words::{lone, pair, says};
 use job_model::{Ending, Weight};
 use zone_text::Token;
 
@@ -15,10 +15,14 @@ pub enum Phrase<'a> {
     Worker,
     /// A question.
     Asks(Asked),
+    /// A question for a whole response.
+    AsksWhole(Asked),
     /// A snapshot is taken.
     Holds,
     /// A question to the snapshot.
     AsksHeld(Asked),
+    /// A question for a whole response to the snapshot.
+    AsksHeldWhole(Asked),
     /// The snapshot is given back.
     Releases,
     /// A block begins.
@@ -104,7 +108,25 @@ fn needs<'a>(bytes: &[u8], wanted: bool, owner: Token, rest: &[Token]) -> Option
     }
 }
 
-// What a word that asks no question says with an argument and what stands behind that.
+// What is asked of the snapshot.
+fn asks_held<'a>(bytes: &[u8], word: Token, operands: &[Token]) -> Option<Phrase<'a>>
+    requires word { IsPlaced bytes.now word }
+    requires operands { All (IsPlaced bytes.now) operands.now }
+    ensures said { (origin : Labels) → option_map (phrase_view origin bytes.now) result
+        ≡ phrases.asks_held origin (token_view bytes.now word) (map (token_view bytes.now) operands.now) }
+    ensures placed { IfSome result (PhrasePlaced bytes.now) }
+{
+    if says(bytes, word, b"ask") {
+        let (name, rtype) = pair(operands)?;
+        return Some(Phrase::AsksHeldWhole(Asked::Respond(name, rtype)));
+    }
+    match asked_of(bytes, word, operands) {
+        Some(asked) => Some(Phrase::AsksHeld(asked)),
+        None => None,
+    }
+}
+
+// What another word says with an argument and what stands behind that.
 fn argued<'a>(bytes: &[u8], word: Token, first: Token, rest: &'a [Token]) -> Option<Phrase<'a>>
     requires word { IsPlaced bytes.now word }
     requires first { IsPlaced bytes.now first }
@@ -119,11 +141,12 @@ fn argued<'a>(bytes: &[u8], word: Token, first: Token, rest: &'a [Token]) -> Opt
     if says(bytes, word, b"del") {
         return Some(Phrase::Deletes(first, rest));
     }
+    if says(bytes, word, b"ask") {
+        let rtype = lone(rest)?;
+        return Some(Phrase::AsksWhole(Asked::Respond(first, rtype)));
+    }
     if says(bytes, word, b"at") {
-        return match asked_of(bytes, first, rest) {
-            Some(asked) => Some(Phrase::AsksHeld(asked)),
-            None => None,
-        };
+        return asks_held(bytes, first, rest);
     }
     if says(bytes, word, b"need") {
         return needs(bytes, true, first, rest);

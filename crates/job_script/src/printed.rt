@@ -38,6 +38,13 @@ impl PrintedRows {
         }
     }
 
+    /// Pushes their lines.
+    pub(crate) fn push_lines(&self, out: &mut Vec<u8>) -> Result<(), AllocError>
+        ensures { OnOk result (out.new.items ≡ out.old.items ++ self.now.text.items) }
+    {
+        out.extend_from_slice(&self.text)
+    }
+
     /// Leaves none, and keeps their memory.
     pub fn clear(&mut self)
         ensures { HasPrinted self.new [] }
@@ -88,5 +95,5 @@ pub fn push_answer(out: &mut Vec<u8>, kind: Kind, rows: &PrintedRows) -> Result<
         → OnOk result (out.new.items ≡ out.old.items ++ answer_text (record { kind = kind; rows = records })) }
 {
     push_kind(out, kind_name(kind), rows.count)?;
-    out.extend_from_slice(&rows.text)
+    rows.push_lines(out)
 }

@@ -41,12 +41,13 @@ pub struct Script {
 }
 
 // Whether a line may say this at all. No worker begins where there is one list, and where any worker may run any command of it there
-// are no snapshots.
+// are no snapshots. A whole response is for who waits for it.
 fn may_stand(listing: Listing, phrase: &Phrase) -> bool
     ensures { (origin : Labels) (bytes : List ℕ) → result ≡ jobs.may_stand listing (phrase_view origin bytes phrase.now) }
 {
     match phrase {
         Phrase::Worker => matches!(listing, Listing::ByWorker),
+        Phrase::AsksWhole(_) | Phrase::AsksHeldWhole(_) => matches!(listing, Listing::Live),
         Phrase::Holds | Phrase::AsksHeld(_) | Phrase::Releases => {
             matches!(listing, Listing::ByWorker | Listing::Live)
         }

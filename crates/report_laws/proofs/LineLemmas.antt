@@ -35,7 +35,7 @@ lines_cut f each (x ∷ xs) (y ∷ ys) s t n e =
 line_some : (text : List ℕ) → IsLine text → 0 < length text
 line_some text l = subst (λ (t : List ℕ). 0 < length t) (sym l.is) (omega (arith, length-append l.front (10 ∷ [])))
 
-lines_some : {A : Type 0} (f : A → List ℕ) → ((a : A) → IsLine (f a)) → (xs : List A) → length xs ≤ length (flat_map f xs)
+pub lines_some : {A : Type 0} (f : A → List ℕ) → ((a : A) → IsLine (f a)) → (xs : List A) → length xs ≤ length (flat_map f xs)
 lines_some f each [] = omega arith
 lines_some f each (x ∷ xs) =
     let some = line_some (f x) (each x) in

@@ -1,7 +1,8 @@
 -- Where the text of a reply ends is told by what it begins with.
-use Rattle.std.proofs.Common.{◌≡◌, ◌∙◌, ℕ, ◌<◌, ◌^◌, List, [], ◌++◌, length, Option, Some, None, refl, sym, ap, arith, append_assoc, length-append, codes}
+use Rattle.std.proofs.Common.{◌≡◌, ◌∙◌, ℕ, ◌+◌, ◌<◌, ◌≤◌, ◌^◌, Bool, true, false, List, [], ◌++◌, length, drop, subst, Option, Some, None, refl, sym, ap, arith, append_assoc, length-append, codes}
 use Rattle.std.specs.Fmt.{decimal}
 use Rattle.std.specs.List.{flat_map}
+use Rattle.std.proofs.lemmas.Fmt.{decimal_injective}
 use Rattle.std.proofs.lemmas.List.{append_cancel_left}
 use Rattle.zone_model.specs.Names.{Name}
 use Rattle.zone_model.specs.NameText.{text_of}
@@ -11,15 +12,18 @@ use Rattle.zone_model.specs.Versions.{Version}
 use Rattle.zone_answer.specs.Answers.{Answer}
 use Rattle.zone_answer.specs.declared.kind.Kind.{Kind}
 use Rattle.zone_answer.specs.declared.kind.Kind.TheVariants.{Answered, Nodata, Nxdomain, Referral, Outside}
+use Rattle.zone_answer.specs.Responses.{Response}
+use Rattle.zone_answer.specs.declared.header.Code.{Code}
+use Rattle.zone_answer.specs.declared.header.Code.TheVariants.{NoError, NxDomain, Refused}
 use Rattle.zone_answer.specs.Around.{Found}
 use Rattle.trie_read.specs.declared.found.Kind.{Kind as FoundKind}
 use Rattle.trie_read.specs.declared.found.Kind.TheVariants as there
 use Rattle.job_model.specs.declared.Question.{Question}
-use Rattle.job_model.specs.Questions.{Form, OfAnswer, OfFound, OfNames, OfRows, OfSize, form_of}
-use Rattle.job_model.specs.Replies.{form_text, reply_of, reply_text, count_text, kind_text, answer_text, name_line, names_text, found_kind_text, name_or_none, found_text, size_text}
-use Rattle.report_laws.proofs.CutLemmas.{Free, free_append}
+use Rattle.job_model.specs.Questions.{Form, OfAnswer, OfResponse, OfFound, OfNames, OfRows, OfSize, form_of}
+use Rattle.job_model.specs.Replies.{form_text, reply_of, reply_text, count_text, kind_text, answer_text, code_text, flag_text, header_text, response_rows, response_text, name_line, names_text, found_kind_text, name_or_none, found_text, size_text}
+use Rattle.report_laws.proofs.CutLemmas.{Free, free_append, cut}
 use Rattle.report_laws.proofs.TextLemmas.{spaced_free, decimal_free, name_free, type_free, data_free}
-use Rattle.report_laws.proofs.LineLemmas.{IsLine, line, line_cut, IsWord, counted_cut}
+use Rattle.report_laws.proofs.LineLemmas.{IsLine, line, line_cut, lines_cut, lines_some, IsWord, counted_cut}
 
 -- ---- lines
 
@@ -60,6 +64,86 @@ found_word there.Absent = record { in_line = refl; in_one = refl }
 
 answer_cut : (a b : Answer) (s t : List ℕ) → length (answer_text a ++ s) < 2 ^ 64 → answer_text a ++ s ≡ answer_text b ++ t → s ≡ t
 answer_cut a b s t small e = counted_cut row_text row_line (kind_text a.kind) (kind_text b.kind) (kind_word a.kind) (kind_word b.kind) a.rows b.rows s t small e
+
+-- ---- responses
+
+code_word : (code : Code) → IsWord (code_text code)
+code_word NoError = record { in_line = refl; in_one = refl }
+code_word NxDomain = record { in_line = refl; in_one = refl }
+code_word Refused = record { in_line = refl; in_one = refl }
+
+flag_word : (authoritative : Bool) → IsWord (flag_text authoritative)
+flag_word true = record { in_line = refl; in_one = refl }
+flag_word false = record { in_line = refl; in_one = refl }
+
+decimal_word : (n : ℕ) → IsWord (decimal n)
+decimal_word n = record { in_line = decimal_free 10 n (omega arith); in_one = decimal_free 32 n (omega arith) }
+
+header_line : (code : Code) (flag : Bool) (a n x : ℕ) → IsLine (header_text code flag a n x)
+header_line code flag a n x =
+    let first = free_append 10 (codes "ask ") (code_text code) refl (code_word code).in_line in
+    let second = spaced_free (codes "ask " ++ code_text code) (codes " ") (flag_text flag) first refl (flag_word flag).in_line in
+    let third = spaced_free (codes "ask " ++ code_text code ++ codes " " ++ flag_text flag) (codes " ") (decimal a) second refl (decimal_word a).in_line in
+    let fourth = spaced_free (codes "ask " ++ code_text code ++ codes " " ++ flag_text flag ++ codes " " ++ decimal a) (codes " ") (decimal n) third refl (decimal_word n).in_line in
+    line (codes "ask " ++ code_text code ++ codes " " ++ flag_text flag ++ codes " " ++ decimal a ++ codes " " ++ decimal n ++ codes " " ++ decimal x)
+    (spaced_free (codes "ask " ++ code_text code ++ codes " " ++ flag_text flag ++ codes " " ++ decimal a ++ codes " " ++ decimal n) (codes " ") (decimal x) fourth refl (decimal_word x).in_line)
+
+-- a header word by word
+by_words : (word c space f a n x end : List ℕ)
+    → word ++ c ++ space ++ f ++ space ++ a ++ space ++ n ++ space ++ x ++ end ≡ word ++ (c ++ (space ++ (f ++ (space ++ (a ++ (space ++ (n ++ (space ++ (x ++ end)))))))))
+by_words word c space f a n x end = simp append_assoc
+
+-- words that each stand before a space are told, and what is behind the space
+worded : (a b x y : List ℕ) → IsWord a → IsWord b → a ++ (codes " " ++ x) ≡ b ++ (codes " " ++ y) → (a ≡ b) × (x ≡ y)
+worded a b x y v w e = let parts = cut 32 a b (codes " " ++ x) (codes " " ++ y) v.in_one w.in_one refl refl e in (parts.0, ap (drop 1) parts.1)
+
+-- the numbers of a header are told by its text
+record SameNumbers (a b n m x y : ℕ) : Type 0 where
+  answer : decimal a ≡ decimal b
+  authority : decimal n ≡ decimal m
+  additional : decimal x ≡ decimal y
+
+numbers_told : (code coded : Code) (flag flagged : Bool) (a b n m x y : ℕ) → header_text code flag a n x ≡ header_text coded flagged b m y → SameNumbers a b n m x y
+numbers_told code coded flag flagged a b n m x y e =
+    let apart = append_cancel_left (codes "ask ") (code_text code ++ (codes " " ++ (flag_text flag ++ (codes " " ++ (decimal a ++ (codes " " ++ (decimal n ++ (codes " " ++ (decimal x ++ codes "\n")))))))))
+        (code_text coded ++ (codes " " ++ (flag_text flagged ++ (codes " " ++ (decimal b ++ (codes " " ++ (decimal m ++ (codes " " ++ (decimal y ++ codes "\n")))))))))
+        (sym (by_words (codes "ask ") (code_text code) (codes " ") (flag_text flag) (decimal a) (decimal n) (decimal x) (codes "\n")) ∙ e
+        ∙ by_words (codes "ask ") (code_text coded) (codes " ") (flag_text flagged) (decimal b) (decimal m) (decimal y) (codes "\n")) in
+    let flags = worded (code_text code) (code_text coded) _ _ (code_word code) (code_word coded) apart in
+    let first = worded (flag_text flag) (flag_text flagged) _ _ (flag_word flag) (flag_word flagged) flags.1 in
+    let second = worded (decimal a) (decimal b) _ _ (decimal_word a) (decimal_word b) first.1 in
+    let third = worded (decimal n) (decimal m) _ _ (decimal_word n) (decimal_word m) second.1 in
+    record {
+      answer = second.0;
+      authority = third.0;
+      additional = (cut 10 (decimal x) (decimal y) (codes "\n") (codes "\n") (decimal_word x).in_line (decimal_word y).in_line refl refl third.1).0;
+    }
+
+-- all records of a response
+records_counted : (r : Response) → length (response_rows r) ≡ length r.answer + length r.authority + length r.additional
+records_counted r = omega (arith, length-append (r.answer ++ r.authority) r.additional, length-append r.answer r.authority)
+
+few_records : (r : Response) (s : List ℕ) → length (response_text r ++ s) < 2 ^ 64 → length r.answer + length r.authority + length r.additional < 2 ^ 64
+few_records r s small =
+    let rows = flat_map row_text (response_rows r) in
+    let first = header_text r.code r.authoritative (length r.answer) (length r.authority) (length r.additional) in
+    omega (arith, small, records_counted r, lines_some row_text row_line (response_rows r), length-append first rows, length-append (first ++ rows) s)
+
+response_cut : (a b : Response) (s t : List ℕ) → length (response_text a ++ s) < 2 ^ 64 → response_text a ++ s ≡ response_text b ++ t → s ≡ t
+response_cut a b s t small e =
+    let first = header_text a.code a.authoritative (length a.answer) (length a.authority) (length a.additional) in
+    let second = header_text b.code b.authoritative (length b.answer) (length b.authority) (length b.additional) in
+    let behind = flat_map row_text (response_rows a) in
+    let after = flat_map row_text (response_rows b) in
+    let parts = line_cut first second (behind ++ s) (after ++ t) (header_line a.code a.authoritative (length a.answer) (length a.authority) (length a.additional))
+        (header_line b.code b.authoritative (length b.answer) (length b.authority) (length b.additional)) (sym (append_assoc first behind s) ∙ e ∙ append_assoc second after t) in
+    let told = numbers_told a.code b.code a.authoritative b.authoritative (length a.answer) (length b.answer) (length a.authority) (length b.authority) (length a.additional) (length b.additional) parts.0 in
+    let few = few_records a s small in
+    let few_too = few_records b t (subst (λ (l : List ℕ). length l < 2 ^ 64) e small) in
+    let answer = decimal_injective (length a.answer) (length b.answer) (omega (arith, few)) (omega (arith, few_too)) told.answer in
+    let authority = decimal_injective (length a.authority) (length b.authority) (omega (arith, few)) (omega (arith, few_too)) told.authority in
+    let additional = decimal_injective (length a.additional) (length b.additional) (omega (arith, few)) (omega (arith, few_too)) told.additional in
+    lines_cut row_text row_line (response_rows a) (response_rows b) s t (omega (arith, answer, authority, additional, records_counted a, records_counted b)) parts.1
 
 names_cut : (v w : List ℕ) → IsWord v → IsWord w → (xs ys : List Name) (s t : List ℕ) → length (names_text v xs ++ s) < 2 ^ 64 → names_text v xs ++ s ≡ names_text w ys ++ t → s ≡ t
 names_cut v w is_v is_w xs ys s t small e = counted_cut name_line named_line v w is_v is_w xs ys s t small e
@@ -102,6 +186,7 @@ worded_cut f each word xs ys s t small e =
 -- what is behind a form that two versions fill is told
 form_cut : (form : Form) (v w : Version) (s t : List ℕ) → length (form_text form v ++ s) < 2 ^ 64 → form_text form v ++ s ≡ form_text form w ++ t → s ≡ t
 form_cut (OfAnswer answer) v w s t small e = answer_cut (answer v) (answer w) s t small e
+form_cut (OfResponse response) v w s t small e = response_cut (response v) (response w) s t small e
 form_cut (OfFound found) v w s t small e = found_cut (found v) (found w) s t small e
 form_cut (OfNames word names) v w s t small e = worded_cut name_line named_line word (names v) (names w) s t small e
 form_cut (OfRows word rows) v w s t small e = worded_cut row_text row_line word (rows v) (rows w) s t small e

@@ -17,8 +17,8 @@ use Rattle.job_model.specs.declared.ScriptKind.TheVariants.{BadName, BadType, Ba
 use Rattle.job_model.specs.Commands.{Command, Ask, Hold, AskHeld, Release, Block, Compact}
 use Rattle.job_model.specs.declared.Question.{Question}
 use Rattle.job_model.specs.Words.{says}
-use Rattle.job_model.specs.Questions.{asked_of}
-use Rattle.job_model.specs.Phrases.{Phrase, Worker, Asks, Holds, AsksHeld, Releases, Opens, Needs, Adds, Deletes, Ends, Compacts, without_parens, script_tokens, lone_word, adds, needs, argued, no_question, phrase_of}
+use Rattle.job_model.specs.Questions.{asked_of, response_wanted}
+use Rattle.job_model.specs.Phrases.{Phrase, Worker, Asks, AsksWhole, Holds, AsksHeld, AsksHeldWhole, asks_held, Releases, Opens, Needs, Adds, Deletes, Ends, Compacts, without_parens, script_tokens, lone_word, adds, needs, argued, no_question, phrase_of}
 use Rattle.job_model.specs.Arguments.{needed, inner_name, octets_needed, addition_of, deletion_of}
 use Rattle.job_model.proofs.ScriptLaws.{IsKept, IsLone, IsOn, free, operation_of, script_whole, list_whole}
 use Rattle.job_model.specs.Jobs.{Unfinished, Script, next_worker, script_of, list_of}
@@ -42,8 +42,10 @@ tokens_are n line tokens l e = by_line (line_tokens n line fresh) refl e
 abbrev IsPhrase : Phrase → Type 0
 IsPhrase Worker = Unit {0}
 IsPhrase (Asks asked) = Unit {0}
+IsPhrase (AsksWhole asked) = Unit {0}
 IsPhrase Holds = Unit {0}
 IsPhrase (AsksHeld asked) = Unit {0}
+IsPhrase (AsksHeldWhole asked) = Unit {0}
 IsPhrase Releases = Unit {0}
 IsPhrase (Opens _) = Unit {0}
 IsPhrase (Needs wanted owner rtype) = Unit {0}
@@ -58,8 +60,14 @@ so_is x phrase p h = let is : x ≡ phrase = cc in subst IsPhrase is p
 never : (phrase : Phrase) → ◌≡◌ {A = Option Phrase} None (Some phrase) → IsPhrase phrase
 never phrase h = absurd cc
 
-held_is : (o : Option (Result Question ScriptKind)) (phrase : Phrase) → option_map AsksHeld o ≡ Some phrase → IsPhrase phrase
-held_is o phrase h = let m = map_some AsksHeld o phrase h in subst IsPhrase m.2 tt
+-- a question alone
+question_is : (asks : Result Question ScriptKind → Phrase) → ((asked : Result Question ScriptKind) → IsPhrase (asks asked)) → (o : Option (Result Question ScriptKind)) (phrase : Phrase) → option_map asks o ≡ Some phrase → IsPhrase phrase
+question_is asks all o phrase h = let m = map_some asks o phrase h in subst IsPhrase m.2 (all m.0)
+
+held_is : (origin : Name) (w : Token) (operands : List Token) (phrase : Phrase) → asks_held origin w operands ≡ Some phrase → IsPhrase phrase
+held_is origin w operands phrase h =
+    either (says w (codes "ask")) _ _ (Some phrase) (question_is AsksHeldWhole (λ asked. tt) (response_wanted origin operands) phrase)
+    (question_is AsksHeld (λ asked. tt) (asked_of origin w operands) phrase) h
 
 word_is : (w : Token) (phrase : Phrase) → lone_word w ≡ Some phrase → IsPhrase phrase
 word_is w phrase h =
@@ -88,10 +96,11 @@ argued_is : (origin : Name) (w first : Token) (rest : List Token) (phrase : Phra
 argued_is origin w first rest phrase f t h =
     either (says w (codes "add")) _ _ (Some phrase) (adds_is first rest phrase f t)
     (either (says w (codes "del")) _ _ (Some phrase) (so_is (Deletes first rest) phrase f)
-    (either (says w (codes "at")) _ _ (Some phrase) (held_is (asked_of origin first rest) phrase)
+    (either (says w (codes "ask")) _ _ (Some phrase) (question_is AsksWhole (λ asked. tt) (response_wanted origin (first ∷ rest)) phrase)
+    (either (says w (codes "at")) _ _ (Some phrase) (held_is origin first rest phrase)
     (either (says w (codes "need")) _ _ (Some phrase) (needs_is true first rest phrase)
     (either (says w (codes "neednot")) _ _ (Some phrase) (needs_is false first rest phrase)
-    (never phrase))))) h
+    (never phrase)))))) h
 
 other_is : (origin : Name) (w : Token) (arguments : List Token) (phrase : Phrase) → AllTexts arguments → no_question origin w arguments ≡ Some phrase → IsPhrase phrase
 other_is origin w [] phrase t h = word_is w phrase h
@@ -196,8 +205,10 @@ next_is origin s false h = record { earlier = h.earlier; commands = h.commands; 
 operation_said : (origin : Name) (n : ℕ) (phrase : Phrase) (operation : Operation) → IsName origin → IsPhrase phrase → operation_of origin n phrase ≡ Ok operation → IsSaid origin operation
 operation_said origin n Worker operation o p e = absurd cc
 operation_said origin n (Asks asked) operation o p e = absurd cc
+operation_said origin n (AsksWhole asked) operation o p e = absurd cc
 operation_said origin n Holds operation o p e = absurd cc
 operation_said origin n (AsksHeld asked) operation o p e = absurd cc
+operation_said origin n (AsksHeldWhole asked) operation o p e = absurd cc
 operation_said origin n Releases operation o p e = absurd cc
 operation_said origin n (Opens _) operation o p e = absurd cc
 operation_said origin n (Needs wanted owner rtype) operation o p e = absurd cc

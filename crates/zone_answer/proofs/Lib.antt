@@ -18,3 +18,4 @@ pub mod SectionLaws
 pub mod AddressLaws
 pub mod HeaderLaws
 pub mod OnceLaws
+pub mod ServerLaws

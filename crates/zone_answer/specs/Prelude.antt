@@ -5,7 +5,7 @@ pub use Rattle.std.specs.Option.{option_map}
 pub use Rattle.zone_model.specs.Keys.{key_of, most_item_octets}
 pub use Rattle.zone_model.specs.MasterFile.{minimum_of}
 pub use Rattle.zone_model.specs.Names.{Name as Labels, ancestor, is_under, name_cmp}
-pub use Rattle.zone_model.specs.Records.{Entry as Records, rrset_of}
+pub use Rattle.zone_model.specs.Records.{Entry as Records, RisingOctets, rrset_of}
 pub use Rattle.zone_model.specs.Rows.{Row, rows_of}
 pub use Rattle.zone_model.specs.Splits.{split_name}
 pub use Rattle.zone_model.specs.Versions.{Version, cname_type, exists, owned}

@@ -1,8 +1,8 @@
 //! The addresses of names that records name (RFC 1034, section 4.3.2, step 6; RFC 9471).
 
-ghost use Rattle.std.specs.Prelude.{◌≡◌, ◌≤◌, length, OnOk, Some, filter_map, flat_map};
+ghost use Rattle.std.specs.Prelude.{◌≡◌, ◌≤◌, length, None, OnOk, Some, filter_map, flat_map};
 ghost use Rattle.std.specs.BTreeSet.{contains};
-ghost use Rattle.zone_answer.specs.Prelude.{most_item_octets, Version, Adds, Shows, ShowsSome, name_cmp, rows_of, rrset_of};
+ghost use Rattle.zone_answer.specs.Prelude.{most_item_octets, Version, Adds, Shows, ShowsSome, RisingOctets, name_cmp, rows_of, rrset_of};
 ghost use Rattle.zone_answer.specs.Prelude.{GoesTo, addresses, addresses_for, addresses_of, name_from, once, owned_rows, with_owner};
 
 use crate::named::{A, AAAA, name_from, octets_before};
@@ -170,7 +170,7 @@ fn push_once<V: Reading, S: RowSink>(
 }
 
 /// Hands on the addresses of the names that the records of an RRset name, each name once. Which were gone to is kept only where there
-/// are several records.
+/// are several records that have more in them than a name: no two NS records have the same server.
 pub fn push_for<V: Reading, S: RowSink>(
     alloc: Global,
     version: &mut V,
@@ -183,6 +183,7 @@ pub fn push_for<V: Reading, S: RowSink>(
 ) -> Result<(), AllocError>
     requires shown { ShowsSome (V.holds version.old) }
     requires room { most_item_octets ≤ length item.old }
+    requires rising { RisingOctets None set.now.records }
     ensures same { version.new ≡ version.old }
     ensures adds { (zone : Version) → Shows (V.holds version.old) zone
         → OnOk result (Adds (S.has rows.old) (S.has rows.new) (owned_rows (addresses_for origin.now zone (rows_of owner.now set.now)))) }
@@ -190,7 +191,7 @@ pub fn push_for<V: Reading, S: RowSink>(
     let Some(place) = octets_before(set.rtype()) else {
         return Ok(());
     };
-    if set.len() < 2 {
+    if place == 0 || set.len() < 2 {
         return push_each(alloc, version, origin, set, place, walker, item, rows);
     }
     push_once(alloc, version, origin, set, place, walker, item, rows)

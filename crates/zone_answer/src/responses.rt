@@ -12,11 +12,12 @@ use crate::negative::push_soa;
 use crate::node::node;
 use crate::question::answer_into;
 use crate::rows::Rows;
+use crate::scratch::Scratch;
 use crate::sections::Sections;
 use crate::sink::RowSink;
 use crate::walker::Walker;
 use dns_name::Name;
-use rr_data::{NS, item_buffer};
+use rr_data::NS;
 use std::alloc::{AllocError, Global};
 use trie_read::Reading;
 
@@ -40,9 +41,7 @@ pub fn respond<V: Reading>(
     ensures response { (zone : Version) → Shows (V.holds version.old) zone
         → IfOk result (λ r. IsResponded (λ rows. r.rows ≡ rows) (respond origin.now zone name.now rtype) r.header) }
 {
-    let mut item = item_buffer(alloc)?;
-    let mut other = item_buffer(alloc)?;
-    let mut walker = Walker::new();
+    let mut scratch = Scratch::new(alloc)?;
     let mut sections = Sections::new(Rows::new(alloc));
     let header = respond_into(
         alloc,
@@ -50,9 +49,7 @@ pub fn respond<V: Reading>(
         origin,
         name,
         rtype,
-        &mut item,
-        &mut other,
-        &mut walker,
+        &mut scratch,
         &mut sections,
     )?;
     Ok(Response {
@@ -61,34 +58,38 @@ pub fn respond<V: Reading>(
     })
 }
 
-/// Hands the records of a response to a sink that has none yet, section by section, and tells the response's header. A run of questions may share the
-/// buffers that items are read into, the one for the answer and the other for addresses, and the walker: they take longer to clear than a name to find.
+/// Hands the records of a response to a sink that has none yet, section by section, and tells the response's header.
 pub fn respond_into<V: Reading, S: RowSink + Drop>(
     alloc: Global,
     version: &mut V,
     origin: &Name,
     name: &Name,
     rtype: u16,
-    item: &mut [u8],
-    other: &mut [u8],
-    walker: &mut Walker,
+    scratch: &mut Scratch,
     rows: &mut Sections<S>,
 ) -> Result<Header, AllocError>
     requires shown { ShowsSome (V.holds version.old) }
     requires none { S.has rows.old.rows [] }
-    requires room { most_item_octets ≤ length item.old }
-    requires other_room { most_item_octets ≤ length other.old }
     ensures same { version.new ≡ version.old }
     ensures response { (zone : Version) → Shows (V.holds version.old) zone
         → IfOk result (IsResponded (S.has rows.new.rows) (respond origin.now zone name.now rtype)) }
 {
     rows.begin();
-    let kind = answer_into(alloc, version, origin, name, rtype, item, walker, rows)?;
+    let kind = answer_into(
+        alloc,
+        version,
+        origin,
+        name,
+        rtype,
+        &mut scratch.item,
+        &mut scratch.walker,
+        rows,
+    )?;
     match kind {
-        Kind::Answered => answered(alloc, version, origin, rtype, item, other, walker, rows),
-        Kind::Nodata => denied(alloc, version, origin, Code::NoError, item, walker, rows),
-        Kind::Nxdomain => denied(alloc, version, origin, Code::NxDomain, item, walker, rows),
-        Kind::Referral => referred(alloc, version, origin, item, other, walker, rows),
+        Kind::Answered => answered(alloc, version, origin, rtype, scratch, rows),
+        Kind::Nodata => denied(alloc, version, origin, Code::NoError, scratch, rows),
+        Kind::Nxdomain => denied(alloc, version, origin, Code::NxDomain, scratch, rows),
+        Kind::Referral => referred(alloc, version, origin, scratch, rows),
         Kind::Outside => Ok(Header {
             code: Code::Refused,
             authoritative: false,
@@ -143,21 +144,26 @@ fn answered<V: Reading, S: RowSink + Drop>(
     version: &mut V,
     origin: &Name,
     rtype: u16,
-    item: &mut [u8],
-    other: &mut [u8],
-    walker: &mut Walker,
+    scratch: &mut Scratch,
     rows: &mut Sections<S>,
 ) -> Result<Header, AllocError>
     requires shown { ShowsSome (V.holds version.old) }
-    requires room { most_item_octets ≤ length item.old }
-    requires other_room { most_item_octets ≤ length other.old }
     ensures same { version.new ≡ version.old }
     ensures response { (zone : Version) (given : List Row) → Shows (V.holds version.old) zone → EndsWith zone rtype given
         → AreCounted (S.has rows.old.rows) rows.old.count rows.old.aliases rows.old.last given
         → IfOk result (IsResponded (S.has rows.new.rows) (by_kind origin.now zone Kind.Answered given)) }
 {
     let answer = rows.count;
-    push_additional(alloc, version, origin, rtype, item, other, walker, rows)?;
+    push_additional(
+        alloc,
+        version,
+        origin,
+        rtype,
+        &mut scratch.item,
+        &mut scratch.other,
+        &mut scratch.walker,
+        rows,
+    )?;
     Ok(Header {
         code: Code::NoError,
         authoritative: true,
@@ -172,14 +178,10 @@ fn referred<V: Reading, S: RowSink + Drop>(
     alloc: Global,
     version: &mut V,
     origin: &Name,
-    item: &mut [u8],
-    other: &mut [u8],
-    walker: &mut Walker,
+    scratch: &mut Scratch,
     rows: &mut Sections<S>,
 ) -> Result<Header, AllocError>
     requires shown { ShowsSome (V.holds version.old) }
-    requires room { most_item_octets ≤ length item.old }
-    requires other_room { most_item_octets ≤ length other.old }
     ensures same { version.new ≡ version.old }
     ensures response { (zone : Version) (given : List Row) → Shows (V.holds version.old) zone → EndsWith zone 2 given
         → AreCounted (S.has rows.old.rows) rows.old.count rows.old.aliases rows.old.last given
@@ -187,7 +189,16 @@ fn referred<V: Reading, S: RowSink + Drop>(
 {
     let given = rows.count;
     let aliases = rows.aliases;
-    push_additional(alloc, version, origin, NS, item, other, walker, rows)?;
+    push_additional(
+        alloc,
+        version,
+        origin,
+        NS,
+        &mut scratch.item,
+        &mut scratch.other,
+        &mut scratch.walker,
+        rows,
+    )?;
     Ok(Header {
         code: Code::NoError,
         authoritative: aliases > 0,
@@ -203,19 +214,24 @@ fn denied<V: Reading, S: RowSink + Drop>(
     version: &mut V,
     origin: &Name,
     code: Code,
-    item: &mut [u8],
-    walker: &mut Walker,
+    scratch: &mut Scratch,
     rows: &mut Sections<S>,
 ) -> Result<Header, AllocError>
     requires shown { ShowsSome (V.holds version.old) }
-    requires room { most_item_octets ≤ length item.old }
     ensures same { version.new ≡ version.old }
     ensures response { (zone : Version) (given : List Row) → Shows (V.holds version.old) zone
         → AreCounted (S.has rows.old.rows) rows.old.count rows.old.aliases rows.old.last given
         → IfOk result (IsResponded (S.has rows.new.rows) (negative origin.now zone code given)) }
 {
     let answer = rows.count;
-    push_soa(alloc, version, origin, walker, item, rows)?;
+    push_soa(
+        alloc,
+        version,
+        origin,
+        &mut scratch.walker,
+        &mut scratch.item,
+        rows,
+    )?;
     Ok(Header {
         code,
         authoritative: true,

@@ -12,7 +12,7 @@ use Rattle.job_model.specs.declared.Ending.{Ending}
 use Rattle.job_model.specs.declared.Weight.{Weight}
 use Rattle.job_model.specs.declared.Weight.TheVariants.{Light, Heavy}
 use Rattle.job_model.specs.Commands.{Command, Block}
-use Rattle.job_model.specs.Phrases.{Phrase, Worker, Asks, Holds, AsksHeld, Releases, Opens, Needs, Adds, Deletes, Ends, Compacts, phrase_of, script_tokens}
+use Rattle.job_model.specs.Phrases.{Phrase, Worker, Asks, AsksWhole, Holds, AsksHeld, AsksHeldWhole, Releases, Opens, Needs, Adds, Deletes, Ends, Compacts, phrase_of, script_tokens}
 use Rattle.job_model.specs.Questions.{asked_of}
 use Rattle.job_model.specs.Arguments.{refuse, prerequisite_of, addition_of, deletion_of}
 use Rattle.job_model.specs.Jobs.{Unfinished, Script, need_limit, operation_limit, with_command, with_need, needed_first, with_operation, joined, may_end, ended, inside, may_stand, by_block, taken, tokens_say, script_line, script_from, opened, no_lines}
@@ -84,8 +84,10 @@ ended_kept w n b ending s here =
 inside_kept : (w : Weight) (origin : Name) (n : ℕ) (b : Unfinished) (phrase : Phrase) (s : Script) → IsHere w b s → Kept w (inside origin n b phrase s)
 inside_kept w origin n b Worker s here = tt
 inside_kept w origin n b (Asks asked) s here = tt
+inside_kept w origin n b (AsksWhole asked) s here = tt
 inside_kept w origin n b Holds s here = tt
 inside_kept w origin n b (AsksHeld asked) s here = tt
+inside_kept w origin n b (AsksHeldWhole asked) s here = tt
 inside_kept w origin n b Releases s here = tt
 inside_kept w origin n b (Opens _) s here = tt
 inside_kept w origin n b (Needs wanted owner rtype) s here = needed_kept w n b s (prerequisite_of origin n wanted owner rtype) here

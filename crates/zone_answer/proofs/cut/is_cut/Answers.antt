@@ -1,4 +1,4 @@
-use Rattle.std.proofs.Common.{◌≡◌, ◌∙◌, ◌<◌, ◌≤◌, List, ℕ, length, ap, sym, arith}
+use Rattle.std.proofs.Common.{◌∙◌, ◌<◌, ◌≤◌, List, ℕ, length, ap, sym, arith}
 use Rattle.zone_model.specs.Names.{wire}
 use Rattle.zone_answer.proofs.AncestorLaws.{as_short, longer, never_cut}
 use Rattle.zone_answer.proofs.CutLaws.{own_by_set}

@@ -1,7 +1,6 @@
-use Rattle.std.proofs.Common.{rules, ◌≡◌, ◌∙◌, ◌<◌, ◌≤◌, ◌+◌, List, ℕ, length, get_or, ap, sym, subst, true, arith}
+use Rattle.std.proofs.Common.{rules, ◌<◌, ◌≤◌, ◌+◌, List, ℕ, length, ap, sym, subst, arith}
 use Rattle.std.proofs.lemmas.Bool.{leb-true}
 use Rattle.std.specs.Prelude.{slice_index_or}
-use Rattle.zone_model.specs.Names.{wire}
 use Rattle.zone_answer.proofs.AncestorLaws.{right_under, some_octets}
 use Rattle.zone_answer.proofs.cut.is_right_under.Goals as goal
 

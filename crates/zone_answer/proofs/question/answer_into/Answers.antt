@@ -1,4 +1,4 @@
-use Rattle.std.proofs.Common.{◌≡◌, ◌∙◌, [], ◌++◌, refl, sym, ap, subst, IfOk}
+use Rattle.std.proofs.Common.{◌∙◌, [], refl, sym, ap, subst, IfOk}
 use Rattle.zone_answer.specs.Answers.{Answer, answer, step}
 use Rattle.zone_answer.specs.Parts.{IsGiven, next_view}
 use Rattle.zone_answer.specs.Standing.{Shows}

@@ -1,4 +1,4 @@
-use Rattle.std.proofs.Common.{◌≡◌, ◌∙◌, ℕ, suc, ◌-◌, ◌+◌, ◌++◌, Option, Some, None, refl, sym, ap, subst, arith}
+use Rattle.std.proofs.Common.{◌≡◌, ◌∙◌, ℕ, suc, ◌-◌, ◌+◌, ◌++◌, Option, refl, sym, ap, subst, arith}
 use Rattle.zone_model.specs.Names.{Name}
 use Rattle.zone_answer.specs.Answers.{LeadsTo, behind, followed, going_on, step}
 use Rattle.zone_answer.specs.Standing.{Shows, ShowsSome}

@@ -8,6 +8,7 @@ use Rattle.zone_answer.specs.Responses.{OwnedSet, addresses, addresses_for, name
 use Rattle.zone_answer.specs.Sections.{AreCounted}
 use Rattle.zone_answer.specs.Standing.{Shows}
 use Rattle.zone_answer.proofs.AddressLaws.{no_addresses, no_alias_names}
+use Rattle.zone_answer.proofs.ServerLaws.{node_set_rises}
 use Rattle.zone_answer.proofs.HeaderLaws.{all_aliases, found_names, known, no_names}
 use Rattle.zone_answer.proofs.responses.push_additional.Goals as goal
 
@@ -59,3 +60,11 @@ returns-in-None-clause-adds g c zone given shows ends counted =
     let same : k.owner ≡ c.in-Some-last.owner = (let e : Some k.owner ≡ Some c.in-Some-last.owner = sym k.last_is ∙ c.in-Some-last.is in cc) in
     let again : k.entry ≡ n.0 = (let e : Some k.entry ≡ Some n.0 = sym k.node_is ∙ ap (node zone) same ∙ n.1 in cc) in
     let never : Some k.set ≡ None = sym k.set_is ∙ ap (rrset_of c.args.rtype) (again ∙ sym seen) ∙ c.in-None.ensures in absurd cc
+
+pub push_for-requires-clause-rising : goal.push_for-requires-clause-rising
+push_for-requires-clause-rising g c =
+    let zone = c.requires.shown.0 in
+    let shows = c.requires.shown.1 in
+    let n = c.in-Some-node.ensures.node zone shows in
+    let seen = c.view.ensures n.0 n.2 in
+    node_set_rises zone c.in-Some-last.owner c.args.rtype n.0 c.in-Some-find_set.set shows.version_is n.1 (ap (rrset_of c.args.rtype) (sym seen) ∙ c.in-Some-find_set.ensures)

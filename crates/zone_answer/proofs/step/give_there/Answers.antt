@@ -1,4 +1,4 @@
-use Rattle.std.proofs.Common.{◌∙◌, ◌-◌, length, sym, refl, arith}
+use Rattle.std.proofs.Common.{◌-◌, length, refl, arith}
 use Rattle.zone_model.specs.Versions.{owned}
 use Rattle.zone_answer.proofs.CutLaws.{none_to_origin, none_over}
 use Rattle.zone_answer.proofs.step.give_there.Goals as goal
