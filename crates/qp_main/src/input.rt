@@ -74,6 +74,7 @@ impl Input {
     pub fn zone(&self, alloc: Global, origin: &Name) -> Result<Zone, Stop>
         ensures zone { IfOk result (λ z. zone_said origin.now self.now ≡ Ok z.pairs) }
         ensures of_origin { IfOk result (λ z. CanBeDumped origin.now z.pairs) }
+        ensures origin { IfOk result (λ z. z.origin ≡ origin.now) }
         ensures stops { IfErr result (IsStop (ZoneStops (zone_said origin.now self.now))) }
     {
         match zone_in(alloc, self.zone_bytes(), origin) {

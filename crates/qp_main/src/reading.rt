@@ -17,6 +17,7 @@ pub fn zone_in(alloc: Global, bytes: &[u8], origin: &Name) -> Result<Zone, ZoneR
     requires short { length bytes.now ≤ 2 ^ 24 }
     ensures zone { Reads result (λ z. z.pairs) (zone_of origin.now (lines_of bytes.now)) }
     ensures of_origin { IfOk result (λ z. CanBeDumped origin.now z.pairs) }
+    ensures origin { IfOk result (λ z. z.origin ≡ origin.now) }
 {
     let _wire = origin.wire(); // for the proof: it is a name
     read_zone(alloc, bytes, origin)
