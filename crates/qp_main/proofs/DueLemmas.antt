@@ -1,8 +1,9 @@
 -- What is due for an input.
 use Rattle.std.proofs.Common.{◌≡◌, ◌∙◌, ℕ, ◌+◌, Bool, true, false, cond, leb, List, [], length, Option, Some, None, Result, Ok, Err, IfOk, refl, sym, ap, subst, arith, codes, length-append, append-nil, ◌++◌, ◌<◌, ◌≤◌}
 use Rattle.std.proofs.lemmas.Bool.Decides.{nat_tests}
+use Rattle.std.specs.Fmt.{decimal}
 use Rattle.std.specs.Io.KnownBytes.{Consumes, IsAtEnd}
-use Rattle.outer_io.specs.Bytes.{Held}
+use Rattle.outer_io.specs.Bytes.{Held, GrowsByFront}
 use Rattle.outer_io.proofs.GrowsLemmas.{Grows-nil}
 use Rattle.zone_model.specs.Dumps.{dump}
 use Rattle.zone_model.specs.declared.Style.{Style}
@@ -148,9 +149,14 @@ no_room_left : (n m : ℕ) → m < n → leb n m ≡ false
 no_room_left n m h = grind (arith, nat_tests)
 
 -- of one that doesn't fit both numbers are
-pub refused_dump : (chunks : ℕ) (style : Style) (origin : Name) (zone : Version) (text : List ℕ) → room_in chunks < cell_count zone → text ≡ no_room_text chunks zone → Dumps chunks style origin (Ok zone) status.DoesNotFit text
-refused_dump chunks style origin zone text over e =
-    subst (λ (b : Bool). IfFits b chunks zone (Ends status.Done (dump style origin zone)) status.DoesNotFit text) (sym (no_room_left (cell_count zone) (room_in chunks) over)) (refl, e)
+pub refused_dump : (chunks : ℕ) (style : Style) (origin : Name) (zone : Version) (counted limit : ℕ) (text : List ℕ) → counted ≡ cell_count zone → limit ≡ room_in chunks → limit < counted
+    → text ≡ codes "zone does not fit: " ++ decimal counted ++ codes " cells over " ++ decimal limit ++ codes "\n" → Dumps chunks style origin (Ok zone) status.DoesNotFit text
+refused_dump chunks style origin zone counted limit text is_count is_limit over e =
+    let said : text ≡ no_room_text chunks zone =
+    e ∙ ap (λ (n : ℕ). codes "zone does not fit: " ++ decimal n ++ codes " cells over " ++ decimal limit ++ codes "\n") is_count
+    ∙ ap (λ (n : ℕ). codes "zone does not fit: " ++ decimal (cell_count zone) ++ codes " cells over " ++ decimal n ++ codes "\n") is_limit in
+    let more : room_in chunks < cell_count zone = omega (arith, is_count, is_limit, over) in
+    subst (λ (b : Bool). IfFits b chunks zone (Ends status.Done (dump style origin zone)) status.DoesNotFit text) (sym (no_room_left (cell_count zone) (room_in chunks) more)) (refl, said)
 
 -- ---- jobs
 

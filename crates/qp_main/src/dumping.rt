@@ -1,5 +1,5 @@
 //! A zone that is written as a master file.
-ghost use Rattle.std.specs.Prelude.{◌≡◌, Ok};
+ghost use Rattle.std.specs.Prelude.{◌≡◌, Ok, true};
 ghost use Rattle.qp_main.specs.Prelude.{Rose, CanBeDumped, zone_said, CutShort, Dumps, IsWritten, MayBeShort, Written};
 
 use crate::input::Input;
