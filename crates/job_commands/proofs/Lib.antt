@@ -13,3 +13,4 @@ pub mod CompactionLaws
 pub mod GatherLaws
 pub mod OpenLaws
 pub mod EndLaws
+pub mod SittingLaws
