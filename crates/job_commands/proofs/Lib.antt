@@ -14,3 +14,4 @@ pub mod GatherLaws
 pub mod OpenLaws
 pub mod EndLaws
 pub mod SittingLaws
+mod SittingExamples
