@@ -149,10 +149,10 @@ pub fn measure_last<N: Named>(index: &Index<ZoneLaw, N>, passes: Passes<'_, N>) 
     ensures { (s : Setup) (zone : Version) (commands : _) (os : _) → IsIndex s s.origin (table_size index.now) → StandsAs s.opening zone
         → Sits s (station_of passes.entry) commands os → EndsAt s zone commands os result }
 {
-    let (mut asks, mut second) = second_pass(passes);
+    let (mut asks, mut spare) = second_pass(passes);
     let last = measure(index, &mut asks);
     asks.account(index);
     let seen = asks.note(index);
-    second.account_beside(index, seen);
+    spare.account_beside(index, seen);
     last
 }
