@@ -65,7 +65,7 @@ completed (command ∷ commands) = Runs command ∷ []
 -- line n was taken, and the script has come this far: the command in it is run
 abbrev pub went_on : ℕ → Session → Script → Step
 went_on n s script = record {
-  session = record { held = script.held; block = script.block; opened = (if is_some s.block then s.opened else n); given_up = false };
+  session = record s { held = script.held; block = script.block; opened = (if is_some s.block then s.opened else n) };
   said = completed script.commands;
 }
 

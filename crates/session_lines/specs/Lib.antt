@@ -1,0 +1,4 @@
+pub mod Taking
+pub mod Views
+pub mod Printing
+pub mod Prelude
