@@ -8,4 +8,5 @@ pub mod Works
 pub mod Closings
 pub mod Runs
 pub mod Endings
+pub mod Sittings
 pub mod Prelude

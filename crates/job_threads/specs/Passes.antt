@@ -1,5 +1,5 @@
 -- A worker's two passes as a station.
-use Rattle.std.specs.Prelude.{Bool, Option}
+use Rattle.std.specs.Prelude.{◌≡◌, ℕ, Bool, Option, IfSome, IsSome}
 use Rattle.std.specs.Option.{is_some, option_map}
 use Rattle.qp_multi.specs.declared.meaning.Named.{Ghosts}
 use Rattle.qp_multi.specs.Passes.{Known}
@@ -29,3 +29,11 @@ module _ {Y : Type 0} {N : Ghosts Y} where
 
   abbrev pub station_of : Passes Y N → Station
   station_of passes = station passes.asks.seat (spare_seat passes) (held_seat passes)
+
+  -- both are of the index at this place
+  pub record AreAt (place : ℕ) (passes : Passes Y N) : Type 0 where
+    pub here : IsSome passes.asks.seat
+    pub asks : passes.asks.place ≡ place
+    pub spare : IfSome passes.spare (λ p. p.place ≡ place)
+    pub held : IfSome passes.held (λ s. s.place ≡ place)
+    pub placed : ArePlaced passes

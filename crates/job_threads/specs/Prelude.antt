@@ -3,14 +3,19 @@ pub use Rattle.std.specs.List.{AllByRecursion}
 pub use Rattle.std.specs.Thread.{IsSync}
 pub use Rattle.outer_io.specs.Faults.{Rose}
 pub use Rattle.job_model.specs.Commands.{AskHeld, Hold, InTurn, MayCome, Release, held_after}
+pub use Rattle.job_model.specs.Feeds.{passes_fed}
 pub use Rattle.job_model.specs.Outcomes.{passes_for}
+pub use Rattle.trie_model.specs.Shape.{cells as cells_in_trie}
 pub use Rattle.shared_cells.specs.History.{IsPartOf}
+pub use Rattle.shared_cells.specs.Views.{with_note}
+pub use Rattle.qp_multi.specs.Openings.{Refuses, room_in}
+pub use Rattle.qp_multi.specs.Prelude.{Accounts, AllSeen}
 pub use Rattle.job_script.specs.Views.{job_view, worker_view, workers_view}
-pub use Rattle.job_commands.specs.Prelude.{AllAsked, AllHeard, AreAll, AreHeard, AreNew, Begins, Entries, IsHeld, IsIndex, IsRun, IsSetup, IsUnder}
-pub use Rattle.job_commands.specs.Prelude.{IsZone, Learnt, Numbers, OpensAt, Setup, StandsAs, Step, Version, command_view}
+pub use Rattle.job_commands.specs.Prelude.{AllAsked, AllHeard, AreAll, AreHeard, AreNew, AreVersions, Begins, ComesTo, EndsAt, Entries, IsHeld, IsIndex, IsRun, IsSetup, IsUnder}
+pub use Rattle.job_commands.specs.Prelude.{IsZone, Learnt, Numbers, OpensAt, Setup, Sits, StandsAs, Step, Version, command_view, versions_by}
 pub use Rattle.job_commands.specs.Prelude.{entries_of_items, first_version, known_at, known_in, table_size}
 pub use Rattle.job_threads.specs.Dumps.{DumpedOn, StopsOn, Visited, Writes, WritesSeen}
 pub use Rattle.job_threads.specs.Gatherings.{AreGathered, DoneRan}
-pub use Rattle.job_threads.specs.Passes.{ArePlaced, holder_of, holds_one, station_of}
+pub use Rattle.job_threads.specs.Passes.{AreAt, ArePlaced, holder_of, holds_one, station_of}
 pub use Rattle.job_threads.specs.Snapshots.{AskedHeld, Held, Released}
 pub use Rattle.job_threads.specs.Zones.{RanOn}

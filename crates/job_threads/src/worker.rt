@@ -29,8 +29,8 @@ pub struct Done<N: Named> {
     pub spare: Pass<N>,
 }
 
-// Runs one command.
-fn run_command<'i, R: Wait, N: Named>(
+/// Runs one command of a worker, which may take a snapshot, ask it or give it back.
+pub fn run_command<'i, R: Wait, N: Named>(
     rt: &R,
     alloc: Global,
     origin: &Name,

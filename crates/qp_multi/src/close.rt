@@ -4,46 +4,11 @@
 //! The turn isn't asked where there is a pass, since a lock's type doesn't say that the turn is there: a transaction that was
 //! forgotten has kept it.
 ghost use Rattle.std.specs.Prelude.{◌≡◌, [], IsSome, All, map};
-ghost use Rattle.qp_multi.specs.Prelude.{Accounts, known_at, AllSeen, Ends, Gathers, IsOfTurn};
+ghost use Rattle.qp_multi.specs.Prelude.{known_at, AllSeen, Ends, Gathers, IsOfTurn};
 
 use crate::index::Index;
-use crate::meaning::{Law, Meaning, Named, Operations, Version};
+use crate::meaning::{Law, Named};
 use crate::pass::Pass;
-use shared_cells::{Counted, PassSeat, Shared};
-use std::marker::Brand;
-
-/// A seat looks, which tells what is known of its pass. The number of the index's passes is named.
-fn look<L: Law, M: Counted>(
-    shared: &Shared<Version, Operations, Meaning<L>>,
-    seat: &mut PassSeat<Version, Operations>,
-)
-    requires table { seat.old.place.table_id ≡ shared.now.table.shared.table_id }
-    requires passes { M.passes ≡ shared.now.table.shared.key.passes }
-    ensures table { seat.new.place.table_id ≡ seat.old.place.table_id }
-    ensures same { seat.new.place.me.0 ≡ seat.old.place.me.0 }
-    ensures accounted { (all : AllSeen) × Accounts M.passes seat.old.place.me.0 all }
-{
-    seat.look::<Meaning<L>, M>(shared);
-}
-
-impl<N: Named> Pass<N> {
-    // Looks, which tells what is known of this pass.
-    fn account<L: Law>(&mut self, index: &Index<L, N>)
-        requires here { IsSome self.old.seat }
-        requires place { self.old.place ≡ index.now.place }
-        ensures here { IsSome self.new.seat }
-        ensures place { self.new.place ≡ self.old.place }
-        ensures same { known_at self.new.seat ≡ known_at self.old.seat }
-        ensures accounted { (all : AllSeen) × Accounts index.now.shared.table.shared.key.passes (known_at self.old.seat) all }
-    {
-        let Some(mut seat) = self.seat.take() else {
-            // No query and no transaction of this pass has its seat.
-            unreachable!()
-        };
-        look::<L, Brand>(&index.shared, &mut seat);
-        self.seat = Some(seat);
-    }
-}
 
 impl<L: Law, N: Named> Index<L, N> {
     // The pass takes the current version's number.

@@ -20,6 +20,7 @@
 //! place, and an index, a pass, a note and the turn have the place of their table.
 #![tactic(auto)]
 
+mod accounts;
 mod attempt;
 mod change;
 mod close;

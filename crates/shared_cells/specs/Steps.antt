@@ -130,9 +130,11 @@ module _ {O E : Type 0} where
   abbrev pub Learns : View O E → View O E → Type 0
   Learns v w = (w ≡ learnt_view v) × IsPartOf w.seen v.seen × IsPartOf w.seen v.told
 
-  -- What the rule tells of an idle pass: all that was published and named so far, the beginning of which the pass has seen.
+  -- What the rule tells of a pass that is idle or pinned: all that was published and named so far. It begins with what the pass has
+  -- seen, and with what it was told.
   pub record Accounts (passes : ℕ) (v : View O E) (all : Seen O E) : Type 0 where
     pub seen : IsPartOf all v.seen
+    pub told : IsPartOf all v.told
     -- the history has the pass's entries, and no others of it
     pub entries : (own : PassView E) → v.pass ≡ Some own → own.entries ≡ entries_by own.number all.history
     -- its namings are of versions that it has pinned
@@ -141,7 +143,7 @@ module _ {O E : Type 0} where
     pub authors : All (λ e. e.author < passes) all.history
     pub namers : All (λ n. n.pass < passes) all.namings
 
-  -- an idle pass looks at CUR
+  -- a pass that is idle or pinned looks at CUR
   abbrev pub accounted : ℕ → WordStep → Knower O E → ℕ → Knower O E → Type 0
   accounted passes step m word m' = (m' ≡ m) × ((all : Seen O E) × Accounts passes m.0 all)
 

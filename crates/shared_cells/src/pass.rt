@@ -95,6 +95,24 @@ impl<O, E> PassSeat<O, E> {
     {
         shared.table.shared.load::<Account<M>>(&mut self.place, CUR);
     }
+
+    /// The same beside what the note tells, which isn't learnt.
+    pub fn look_beside<L: Law<O, E>, M: Counted>(
+        &mut self,
+        shared: &Shared<O, E, L>,
+        note: SeatNote<O, E>,
+    )
+        requires table { (self.old.place.table_id ≡ shared.now.table.shared.table_id) × (note.place.table_id ≡ shared.now.table.shared.table_id) }
+        requires passes { M.passes ≡ shared.now.table.shared.key.passes }
+        ensures table { self.new.place.table_id ≡ self.old.place.table_id }
+        ensures number { self.new.number ≡ self.old.number }
+        ensures told { self.new.place.me.0 ≡ with_note self.old.place.me.0 note.place.me.0 }
+        ensures accounted { (all : _) × Accounts M.passes (with_note self.old.place.me.0 note.place.me.0) all }
+    {
+        let SeatNote { place: told } = note;
+        shared.table.shared.join_seat::<Hear>(&mut self.place, told);
+        shared.table.shared.load::<Account<M>>(&mut self.place, CUR);
+    }
 }
 
 /// Joins the note to the pass, and looks, which tells that what both have seen are beginnings of one history.

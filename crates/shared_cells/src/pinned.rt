@@ -2,12 +2,12 @@
 ghost use Rattle.std.specs.Prelude.{◌≡◌, ◌+◌, ◌-◌, ◌*◌, ◌%◌, ◌^◌, ◌<◌, ◌≤◌, All, length, true, false, []};
 ghost use Rattle.std.proofs.Props.{props};
 ghost use Rattle.shared_cells.specs.Prelude.{words_for, IsPartOf, number_of, has_turn, is_told, is_idle, is_pinned, pinned_version};
-ghost use Rattle.shared_cells.specs.Prelude.{pinned_root, pinned_image, chunks_of, root_of, with_progress, note_of, IsWordOf, Pins, Settles};
+ghost use Rattle.shared_cells.specs.Prelude.{pinned_root, pinned_image, chunks_of, root_of, with_note, with_progress, note_of, Accounts, IsWordOf, Pins, Settles};
 ghost use Rattle.shared_cells.specs.declared.view.Progress.TheVariants as progress;
 
-use crate::law::Law;
+use crate::law::{Counted, Law};
 use crate::pass::{PassSeat, SeatNote};
-use crate::plays::{Enter, Glance, Leave, Read, Settle, Tell};
+use crate::plays::{Account, Enter, Glance, Hear, Leave, Read, Settle, Tell};
 use crate::shared::Shared;
 use crate::view::Place;
 use pin_core::words::{
@@ -97,6 +97,25 @@ impl<O, E> PinnedSeat<O, E> {
     {
         let place = shared.table.shared.split_seat::<Tell>(&mut self.place);
         SeatNote { place }
+    }
+
+    /// Looks at the current version's word, which tells what the rule knows of this pass, beside what the note tells. That isn't learnt:
+    /// the pass is still pinned at its version, and has seen no more.
+    pub fn look_beside<L: Law<O, E>, M: Counted>(
+        &mut self,
+        shared: &Shared<O, E, L>,
+        note: SeatNote<O, E>,
+    )
+        requires table { (self.old.place.table_id ≡ shared.now.table.shared.table_id) × (note.place.table_id ≡ shared.now.table.shared.table_id) }
+        requires passes { M.passes ≡ shared.now.table.shared.key.passes }
+        ensures table { self.new.place.table_id ≡ self.old.place.table_id }
+        ensures same { (self.new.number ≡ self.old.number) × (self.new.version ≡ self.old.version) × (self.new.root ≡ self.old.root) }
+        ensures told { self.new.place.me.0 ≡ with_note self.old.place.me.0 note.place.me.0 }
+        ensures accounted { (all : _) × Accounts M.passes (with_note self.old.place.me.0 note.place.me.0) all }
+    {
+        let SeatNote { place: told } = note;
+        shared.table.shared.join_seat::<Hear>(&mut self.place, told);
+        shared.table.shared.load::<Account<M>>(&mut self.place, CUR);
     }
 }
 

@@ -41,7 +41,7 @@ impl<O, E> Play<(), View<O, E>> for Learn {
     ghost then = { learnt };
 }
 
-/// An idle pass loads the current version's word.
+/// A pass that is idle or pinned loads the current version's word.
 pub(crate) struct Account<M> {
     count: PhantomData<M>,
 }
