@@ -8,7 +8,7 @@ use Rattle.zone_model.specs.Tokens.{Token}
 use Rattle.zone_model.specs.Versions.{Version}
 use Rattle.job_model.specs.declared.ScriptKind.{ScriptKind}
 use Rattle.job_model.specs.declared.ScriptKind.TheVariants.{NoWorker, BadCommand, BadName, BadType, BadRdata, BadNumber, OpenBlock, NotHeld, AlreadyHeld, TooMany}
-use Rattle.job_model.specs.Commands.{Command}
+use Rattle.job_model.specs.Commands.{Command, held_after}
 use Rattle.job_model.specs.Words.{says}
 use Rattle.job_model.specs.Phrases.{script_tokens}
 use Rattle.job_model.specs.Jobs.{Script, Unfinished, no_live_lines, script_line}
@@ -62,10 +62,15 @@ abbrev pub completed : List Command → List Said
 completed [] = []
 completed (command ∷ commands) = Runs command ∷ []
 
+-- whether a snapshot is held behind it
+abbrev pub held_by : Bool → List Command → Bool
+held_by held [] = held
+held_by held (command ∷ commands) = held_after held command
+
 -- line n was taken, and the script has come this far: the command in it is run
 abbrev pub went_on : ℕ → Session → Script → Step
 went_on n s script = record {
-  session = record s { held = script.held; block = script.block; opened = (if is_some s.block then s.opened else n) };
+  session = record s { held = held_by s.held script.commands; block = script.block; opened = (if is_some s.block then s.opened else n) };
   said = completed script.commands;
 }
 

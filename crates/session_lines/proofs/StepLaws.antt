@@ -10,7 +10,7 @@ use Rattle.session_lines.specs.declared.session.Session.{Session as Now}
 use Rattle.session_lines.specs.declared.session.Said.{Said as Said'}
 use Rattle.session_lines.specs.Views.{StepsTo}
 use Rattle.job_model.specs.Jobs.{Script, script_line}
-use Rattle.job_model.specs.Sessions.{Said, Session, Step, completed, is_last_word, refused_in, script_at, session_line, step_of, took, went_on}
+use Rattle.job_model.specs.Sessions.{Said, Session, Step, completed, held_by, is_last_word, refused_in, script_at, session_line, step_of, took, went_on}
 
 same_there : {A B : Type 0} (f : A → B) (o : Option A) → is_some (option_map f o) ≡ is_some o
 same_there f None = refl
@@ -40,7 +40,7 @@ refuses origin n line text rest lines s script e kind step alone one here at err
     read_alone origin n line s alone ∙ ap (took n line s) (same_script origin line text rest lines s script one here at ∙ err)
     ∙ ap (λ (x : ScriptKind). refused_in n x s (is_last_word line) s.block) k ∙ is
 
-pub went : (n : ℕ) (s now : Session) (script : Script) (said : List Said) → now.held ≡ script.held → now.block ≡ script.block → now.opened ≡ cond (is_some s.block) s.opened n → now.given_up ≡ s.given_up
+pub went : (n : ℕ) (s now : Session) (script : Script) (said : List Said) → now.held ≡ held_by s.held script.commands → now.block ≡ script.block → now.opened ≡ cond (is_some s.block) s.opened n → now.given_up ≡ s.given_up
     → completed script.commands ≡ said → went_on n s script ≡ step_of now said
 went n s now script said held block opened given is = rw (is, sym held, sym block, sym opened, sym given) refl
 

@@ -2,7 +2,7 @@
 ghost use Rattle.std.specs.Prelude.{◌≡◌, ◌<◌, ◌≤◌, ◌∷◌, ◌++◌, ◌^◌, [], ℕ, Bool, true, false, List, length, map, IfOk, Some, None, Option};
 ghost use Rattle.session_lines.specs.Prelude.{is_some, lines_of, script_view, first_session, left_open, passed_over, refused_in, script_at, session_line, went_on};
 ghost use Rattle.session_lines.specs.Views.{StepsTo, open_view, said_view, session_view};
-ghost use Rattle.session_lines.specs.Prelude.{State, command_view, completed, is_last_word as ends_line};
+ghost use Rattle.session_lines.specs.Prelude.{Asked, State, command_view, completed, held_by, is_last_word as ends_line};
 
 use crate::words::is_last_word;
 use dns_name::Name;
@@ -46,6 +46,17 @@ fn said_by(commands: Vec<Command>) -> Said
     }
 }
 
+// Whether a snapshot is held behind what a line says.
+fn held_behind(held: bool, said: &Said) -> bool
+    ensures { (n : ℕ) (commands : List Asked) → said_view n said.now ≡ completed commands → result ≡ held_by held commands }
+{
+    match said {
+        Said::Runs(Command::Hold) => true,
+        Said::Runs(Command::Release) => false,
+        _ => held,
+    }
+}
+
 impl Session {
     /// No line has come yet.
     pub fn new() -> Session
@@ -84,13 +95,14 @@ impl Session {
             earlier: _,
             begun: _,
             commands,
-            held,
+            held: _,
             block,
         } = script;
-        self.held = held;
+        let said = said_by(commands);
+        self.held = held_behind(self.held, &said);
         self.block = block;
         self.opened = if was_open { self.opened } else { number };
-        said_by(commands)
+        said
     }
 
     // A line is refused. What was open is given up.

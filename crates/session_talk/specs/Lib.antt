@@ -1,0 +1,4 @@
+pub mod Workers
+pub mod Entries
+pub mod Answering
+pub mod Prelude
