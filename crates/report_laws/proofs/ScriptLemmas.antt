@@ -23,7 +23,7 @@ use Rattle.job_model.specs.Arguments.{needed, inner_name, octets_needed, additio
 use Rattle.job_model.proofs.ScriptLaws.{IsKept, IsLone, IsOn, free, operation_of, line_taken, script_whole, list_whole}
 use Rattle.job_model.specs.Jobs.{Unfinished, Script, next_worker, script_line, script_of, list_of}
 use Rattle.report_laws.specs.Octets.{AllOctets}
-use Rattle.report_laws.specs.Changes.{IsInside, IsSaid, AllSaid, AllAsked}
+use Rattle.report_laws.specs.Changes.{IsInside, IsSaid, IsBlock, AllSaid, AllAsked}
 use Rattle.report_laws.proofs.DataLemmas.{IsTokenText, AllTexts, data_is, bound}
 use Rattle.report_laws.proofs.TokenLemmas.{either, line_is, fresh_is}
 use Rattle.report_laws.proofs.ReaderLemmas.{name_said, time_said, type_said}
@@ -162,10 +162,6 @@ deletion_is origin n owner (rtype ∷ first ∷ rest) operation b o h =
     operation_is origin (DeleteRecord a.0 c.0 d.0) operation (owner_given origin n owner a.0 b o a.1) d.2
 
 -- ---- scripts
-
-abbrev pub IsBlock : Name → Option Unfinished → Type 0
-IsBlock origin None = Unit {0}
-IsBlock origin (Some b) = AllSaid origin b.asked
 
 abbrev pub AllCommands : Name → List Command → Type 0
 AllCommands origin commands = AllByRecursion (AllAsked origin) commands

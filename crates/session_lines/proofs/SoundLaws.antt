@@ -9,20 +9,10 @@ use Rattle.job_model.specs.Jobs.{Script, Unfinished, is_by_worker, script_line}
 use Rattle.job_model.specs.Sessions.{Said, Runs, Refuses, GivesUp, Session, Step, completed, gave_up, held_by, is_last_word, passed_over, refused_in, script_at, session_line, took, went_on}
 use Rattle.job_model.proofs.ScriptLaws.{IsKept, AnyLine, line_taken}
 use Rattle.job_model.proofs.TurnLemmas.{InTurn-push, held_behind, held_behind-push}
-use Rattle.report_laws.specs.Changes.{AllAsked}
+use Rattle.report_laws.specs.Changes.{AllAsked, IsBlock}
 use Rattle.report_laws.specs.Octets.{AllOctets}
-use Rattle.report_laws.proofs.ScriptLemmas.{IsBlock, IsScript, line_asks}
-
--- a command may be run; a line that runs none changes nothing of the snapshot
-abbrev pub RunsWell : Name → Bool → Bool → List Said → Type 0
-RunsWell origin held now [] = now ≡ held
-RunsWell origin held now (Runs command ∷ said) = MayCome held command × AllAsked origin command × (now ≡ held_after held command)
-RunsWell origin held now (Refuses line kind ∷ said) = now ≡ held
-RunsWell origin held now (GivesUp ∷ said) = now ≡ held
-
-pub record StepsWell (origin : Name) (s : Session) (step : Step) : Type 0 where
-  pub block : IsBlock origin step.session.block
-  pub runs : RunsWell origin s.held step.session.held step.said
+use Rattle.report_laws.proofs.ScriptLemmas.{IsScript, line_asks}
+use Rattle.session_lines.specs.Well.{RunsWell, StepsWell}
 
 -- ---- snapshots
 

@@ -60,3 +60,14 @@ with_entries p (e ∷ entries) = with_entries (with_entry p e) entries
 -- behind the first line of a session over a zone
 abbrev pub at_ready : Version → Printing
 at_ready zone = record { text = ready_text (length zone); next = 1; seen = 0; refused = false }
+
+-- a worker has run the commands
+abbrev pub Ran : (List Command → List Outcome → Type 0) → List Entry → Type 0
+Ran has_run entries = has_run (commands_in entries) (outcomes_in entries)
+
+-- what was said was answered by more entries
+pub record Replied (has_run : List Command → List Outcome → Type 0) (entries : List Entry) (said : List Said) (before now : Printing) : Type 0 where
+  pub more : List Entry
+  pub same : said_in more ≡ said
+  pub ran : Ran has_run (entries ++ more)
+  pub printed : now ≡ with_entries before more

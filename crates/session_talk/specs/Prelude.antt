@@ -9,4 +9,5 @@ pub use Rattle.job_script.specs.Views.{command_view}
 pub use Rattle.report_laws.specs.Changes.{AllAsked}
 pub use Rattle.session_lines.specs.Printing.{printing}
 pub use Rattle.session_lines.specs.Taking.{IsUnbroken, line_end}
-pub use Rattle.session_lines.specs.Views.{session_view}
+pub use Rattle.session_lines.specs.Views.{said_view, session_view}
+pub use Rattle.session_lines.specs.Well.{RunsWell}

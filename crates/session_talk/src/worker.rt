@@ -14,7 +14,7 @@ pub struct LastVersion {
 }
 
 /// One worker alone at the index of a zone, who runs commands one by one.
-pub trait Worker {
+pub trait Worker: Drop {
     ghost use Rattle.job_script.specs.declared.outcomes.Outcome.{Outcome as Ran};
 
     /// The zone's origin.
@@ -44,5 +44,5 @@ pub trait Worker {
 
     /// Measures the last version. A snapshot that is held is given back.
     fn end(self) -> LastVersion
-        ensures { (o : Opened) (commands : List Asked) (os : List Ran) → has_run self.entry o commands os → EndsAt o commands os result };
+        ensures { (o : Opened) (commands : List Asked) (os : List Ran) → has_run self o commands os → EndsAt o commands os result };
 }
