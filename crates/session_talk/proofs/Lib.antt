@@ -1,0 +1,5 @@
+pub mod EntryLaws
+pub mod TextLaws
+pub mod FedLaws
+pub mod LineLaws
+pub mod SoFarLaws

@@ -1,0 +1,5 @@
+pub mod Workers
+pub mod Entries
+pub mod Answering
+pub mod Serving
+pub mod Prelude
