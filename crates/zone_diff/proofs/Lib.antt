@@ -1,0 +1,12 @@
+pub mod RecordLemmas
+pub mod EntryLemmas
+pub mod FitLemmas
+pub mod SoaLemmas
+pub mod EntryLaws
+pub mod SoaForms
+pub mod VersionLemmas
+pub mod DifferenceLaws
+pub mod SaidLemmas
+pub mod BlockLaws
+pub mod MergeLemmas
+pub mod WalkLemmas

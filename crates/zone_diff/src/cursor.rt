@@ -1,0 +1,39 @@
+//! Records that are looked at once, beside others.
+ghost use Rattle.std.specs.Prelude.{◌≡◌};
+ghost use Rattle.zone_diff.specs.Prelude.{records_ahead, reached, is_first};
+
+use rr_data::{RecordViews, SetView};
+use std::cmp::Ordering;
+
+/// The records of an RRset from one on.
+#[derive(Drop)]
+pub struct RecordCursor<'a> {
+    ahead: Option<&'a [u8]>,
+    behind: RecordViews<'a>,
+}
+
+impl<'a> RecordCursor<'a> {
+    /// All of them.
+    pub fn new(set: &SetView<'a>) -> Self
+        ensures { records_ahead result.ahead result.behind ≡ set.now.records }
+    {
+        let mut behind = set.records();
+        let ahead = behind.next();
+        RecordCursor { ahead, behind }
+    }
+
+    /// Passes the records below some octets, and tells whether these are ahead.
+    pub fn reach(&mut self, octets: &[u8]) -> bool
+        ensures left { records_ahead self.new.ahead self.new.behind ≡ reached octets.now (records_ahead self.old.ahead self.old.behind) }
+        ensures there { result ≡ is_first octets.now (reached octets.now (records_ahead self.old.ahead self.old.behind)) }
+    {
+        while let Some(first) = self.ahead {
+            match octets.cmp(first) {
+                Ordering::Less => return false,
+                Ordering::Equal => return true,
+                Ordering::Greater => self.ahead = self.behind.next(),
+            }
+        }
+        false
+    }
+}
