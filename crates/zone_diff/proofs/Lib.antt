@@ -10,3 +10,4 @@ pub mod SaidLemmas
 pub mod BlockLaws
 pub mod MergeLemmas
 pub mod WalkLemmas
+pub mod NameLemmas

@@ -1,5 +1,5 @@
 -- Looked at once, records that rise give the same as each looked up.
-use Rattle.std.proofs.Common.{◌≡◌, ◌∙◌, ℕ, Bool, true, false, not, ◌||◌, cond, eqb, List, [], ◌∷◌, ◌++◌, map, refl, sym, ap, subst, Option, Some, None, Result, OnOk}
+use Rattle.std.proofs.Common.{◌≡◌, ◌∙◌, ℕ, Bool, true, false, not, ◌||◌, cond, eqb, List, [], ◌∷◌, ◌++◌, map, refl, sym, ap, subst, Option, Some, None, Result, Ok, Err, OnOk}
 use Rattle.std.specs.declared.cmp.Ordering.{Ordering}
 use Rattle.std.specs.declared.cmp.Ordering.TheVariants.{Less, Equal, Greater}
 use Rattle.std.specs.declared.alloc.AllocError.{AllocError}
@@ -82,6 +82,14 @@ additions_alike owner (Some s) t h k =
 pub adds_alike : (r : Result (Unit {0}) AllocError) (had has : List Operation → Type 0) (xs ys : List Operation) → xs ≡ ys → OnOk r (Adds had has xs) → OnOk r (Adds had has ys)
 adds_alike r had has xs ys e h = subst (λ (l : List Operation). OnOk r (Adds had has l)) e h
 
+pub ok_then : (r : Result (Unit {0}) AllocError) (P Q : Type 0) → (P → Q) → OnOk r P → OnOk r Q
+ok_then (Ok u) P Q f h = f h
+ok_then (Err e) P Q f h = tt
+
+pub ok_both : (r : Result (Unit {0}) AllocError) (P Q R : Type 0) → (P → Q → R) → OnOk r P → OnOk r Q → OnOk r R
+ok_both (Ok u) P Q R f h k = f h k
+ok_both (Err e) P Q R f h k = tt
+
 pub nothing_behind : (l : List Operation) → l ++ [] ≡ l
 nothing_behind [] = refl
 nothing_behind (x ∷ l) = ap (λ (r : List Operation). x ∷ r) (nothing_behind l)
@@ -99,6 +107,18 @@ front_more had has next all left operation f a = record {
   gives = grouped f.done (operation ∷ []) left ∙ f.gives;
   added = λ operations h. subst next (grouped operations f.done (operation ∷ [])) (a (operations ++ f.done) (f.added operations h));
 }
+
+-- several operations came
+pub front_joins : (had has next : List Operation → Type 0) (all left come : List Operation) → AddsFront had has all (come ++ left) → Adds has next come → AddsFront had next all left
+front_joins had has next all left come f a = record {
+  done = f.done ++ come;
+  gives = grouped f.done come left ∙ f.gives;
+  added = λ operations h. subst next (grouped operations f.done come) (a (operations ++ f.done) (f.added operations h));
+}
+
+-- what came behind what came before
+pub adds_joined : (had has next : List Operation → Type 0) (xs ys : List Operation) → Adds had has xs → Adds has next ys → Adds had next (xs ++ ys)
+adds_joined had has next xs ys a b = λ operations h. subst next (grouped operations xs ys) (b (operations ++ xs) (a operations h))
 
 pub front_ends : (had has : List Operation → Type 0) (all left : List Operation) → left ≡ [] → AddsFront had has all left → Adds had has all
 front_ends had has all left e f =

@@ -9,7 +9,8 @@ use Rattle.zone_model.specs.declared.Refusal.TheVariants.{Cname}
 use Rattle.zone_diff.specs.declared.Serial.TheVariants.{Keep, Ignore}
 use Rattle.zone_diff.specs.Differences.{addition, difference, made}
 use Rattle.zone_diff.specs.Blocks.{blocks_of}
-use Rattle.zone_diff.specs.Texts.{script_text, update_text}
+use Rattle.zone_diff.specs.declared.DiffStyle.TheVariants.{Script, Nsupdate}
+use Rattle.zone_diff.specs.Texts.{text_in}
 
 abbrev pub origin : Name
 origin = codes "example" ∷ []
@@ -129,16 +130,16 @@ address n = 192 ∷ 0 ∷ 2 ∷ n ∷ []
 abbrev pub few : List Operation
 few = DeleteName a ∷ DeleteSet b 16 ∷ DeleteRecord b 1 (address 1) ∷ addition b 1 60 (address 2) ∷ []
 
-pub as_script : script_text few ≡ codes "update\ndel a.example.\ndel b.example. TXT\ndel b.example. A 192.0.2.1\nadd b.example. 60 A 192.0.2.2\ncommit\n"
+pub as_script : text_in Script origin few ≡ codes "update\ndel a.example.\ndel b.example. TXT\ndel b.example. A 192.0.2.1\nadd b.example. 60 A 192.0.2.2\ncommit\n"
 unfolding fields_text digits
 as_script = refl
 
-pub as_updates : update_text origin few
+pub as_updates : text_in Nsupdate origin few
     ≡ codes "zone example.\nupdate delete a.example.\nupdate delete b.example. IN TXT\nupdate delete b.example. IN A 192.0.2.1\nupdate add b.example. 60 IN A 192.0.2.2\nsend\n"
 unfolding fields_text digits
 as_updates = refl
 
-pub as_nothing : script_text [] ≡ []
+pub as_nothing : text_in Script origin [] ≡ []
 as_nothing = refl
 
 -- ---- in transactions

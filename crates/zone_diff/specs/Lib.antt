@@ -8,3 +8,5 @@ pub mod Sinks
 pub mod Prelude
 pub mod DifferenceExample
 pub mod Cuts
+pub mod NamesAhead
+pub mod Held

@@ -1,5 +1,5 @@
 -- Operations on their way to a sink.
-use Rattle.std.specs.Prelude.{◌≡◌, List, ◌++◌}
+use Rattle.std.specs.Prelude.{◌≡◌, ◌≤◌, List, ◌++◌, length}
 use Rattle.zone_model.specs.Names.{Name}
 use Rattle.zone_model.specs.Versions.{Operation, DeleteName, DeleteSet, DeleteRecord}
 use Rattle.zone_diff.specs.declared.changes.Change.{Change}
@@ -12,6 +12,13 @@ change_view owner (change.Comes rtype ttl octets) = addition owner rtype ttl oct
 change_view owner change.Goes = DeleteName owner
 change_view owner (change.SetGoes rtype) = DeleteSet owner rtype
 change_view owner (change.RecordGoes rtype octets) = DeleteRecord owner rtype octets.now
+
+-- the octets are no more than a record may have
+abbrev pub IsShort : Change → Type 0
+IsShort (change.Comes rtype ttl octets) = length octets.now ≤ 65535
+IsShort change.Goes = Unit {0}
+IsShort (change.SetGoes rtype) = Unit {0}
+IsShort (change.RecordGoes rtype octets) = length octets.now ≤ 65535
 
 -- what a sink had, and has since: some operations were added to whatever it had
 abbrev pub Adds : (List Operation → Type 0) → (List Operation → Type 0) → List Operation → Type 0

@@ -6,6 +6,11 @@ use Rattle.zone_model.specs.Records.{Rrset, Entry}
 use Rattle.zone_model.specs.Versions.{Operation}
 use Rattle.zone_diff.specs.Differences.{set_deletions, set_additions, unless_soa}
 
+-- the RRsets that are left: the one ahead, and those behind it
+abbrev pub sets_ahead : Option Rrset → Entry → Entry
+sets_ahead None behind = []
+sets_ahead (Some ahead) behind = ahead ∷ behind
+
 -- RRsets without those below a type
 abbrev pub sets_reached : ℕ → Entry → Entry
 sets_reached rtype [] = []

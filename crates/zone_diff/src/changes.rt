@@ -29,12 +29,13 @@ pub enum Change<'a> {
 pub trait OperationSink {
     ghost use Rattle.std.specs.Prelude.{List, ◌∷◌, [], OnOk};
     ghost use Rattle.zone_model.specs.Versions.{Operation};
-    ghost use Rattle.zone_diff.specs.Sinks.{Adds, change_view};
+    ghost use Rattle.zone_diff.specs.Sinks.{Adds, IsShort, change_view};
 
     // These operations have come, in this order.
     ghost has: { Self → List Operation → Type 0 };
 
     /// Adds an operation on a name.
     fn push(&mut self, owner: &Name, change: &Change<'_>) -> Result<(), AllocError>
+        requires { IsShort change.now }
         ensures { OnOk result (Adds (has self.old) (has self.new) (change_view owner.now change.now ∷ [])) };
 }

@@ -1,6 +1,6 @@
 //! What goes and what comes of one RRset.
 ghost use Rattle.std.specs.Prelude.{◌≡◌, ◌∷◌, [], Some, OnOk, map, if◌then◌else◌};
-ghost use Rattle.zone_diff.specs.Prelude.{Adds, change_view, addition, DeleteSet, DeleteRecord, lacking_beside};
+ghost use Rattle.zone_diff.specs.Prelude.{Adds, IsShort, change_view, addition, DeleteSet, DeleteRecord, lacking_beside};
 ghost use Rattle.zone_diff.specs.Prelude.{deletions_beside, additions_beside, set_deletions, set_additions, Rises};
 
 use crate::changes::{Change, OperationSink};
@@ -32,6 +32,7 @@ fn push_unless<K: OperationSink>(
     change: &Change<'_>,
     sink: &mut K,
 ) -> Result<(), AllocError>
+    requires { IsShort change.now }
     ensures { OnOk result (Adds (K.has sink.old) (K.has sink.new) (if there then [] else change_view owner.now change.now ∷ [])) }
 {
     if there {
