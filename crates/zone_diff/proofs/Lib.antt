@@ -11,3 +11,4 @@ pub mod BlockLaws
 pub mod MergeLemmas
 pub mod WalkLemmas
 pub mod NameLemmas
+pub mod HeldLemmas

@@ -10,7 +10,7 @@ use Rattle.zone_model.specs.Records.{Rrset, octets_cmp, has_record, RisingOctets
 use Rattle.zone_model.specs.Versions.{Operation, DeleteSet, DeleteRecord}
 use Rattle.zone_diff.specs.Differences.{addition, lacking, set_deletions, set_additions}
 use Rattle.zone_diff.specs.Merges.{reached, is_first, lacking_beside, deletions_beside, additions_beside, Rises}
-use Rattle.zone_diff.specs.Sinks.{Adds, AddsFront}
+use Rattle.zone_diff.specs.Sinks.{Aim, Adds, AddsFront}
 use Rattle.zone_diff.proofs.RecordLemmas.{none_behind}
 
 -- what is reached has what stands from there on
@@ -79,7 +79,7 @@ additions_alike owner (Some s) t h k =
 
 -- ---- sinks
 
-pub adds_alike : (r : Result (Unit {0}) AllocError) (had has : List Operation → Type 0) (xs ys : List Operation) → xs ≡ ys → OnOk r (Adds had has xs) → OnOk r (Adds had has ys)
+pub adds_alike : (r : Result (Unit {0}) AllocError) (had has : Aim → List Operation → Type 0) (xs ys : List Operation) → xs ≡ ys → OnOk r (Adds had has xs) → OnOk r (Adds had has ys)
 adds_alike r had has xs ys e h = subst (λ (l : List Operation). OnOk r (Adds had has l)) e h
 
 pub ok_then : (r : Result (Unit {0}) AllocError) (P Q : Type 0) → (P → Q) → OnOk r P → OnOk r Q
@@ -98,40 +98,40 @@ grouped : (a b c : List Operation) → (a ++ b) ++ c ≡ a ++ (b ++ c)
 grouped [] b c = refl
 grouped (x ∷ a) b c = ap (λ (r : List Operation). x ∷ r) (grouped a b c)
 
-pub front_starts : (had : List Operation → Type 0) (all : List Operation) → AddsFront had had all all
-front_starts had all = record { done = []; gives = refl; added = λ operations h. subst had (sym (nothing_behind operations)) h }
+pub front_starts : (had : Aim → List Operation → Type 0) (all : List Operation) → AddsFront had had all all
+front_starts had all = record { done = []; gives = refl; added = λ aim operations h. subst (had aim) (sym (nothing_behind operations)) h }
 
-pub front_more : (had has next : List Operation → Type 0) (all left : List Operation) (operation : Operation) → AddsFront had has all (operation ∷ left) → Adds has next (operation ∷ []) → AddsFront had next all left
+pub front_more : (had has next : Aim → List Operation → Type 0) (all left : List Operation) (operation : Operation) → AddsFront had has all (operation ∷ left) → Adds has next (operation ∷ []) → AddsFront had next all left
 front_more had has next all left operation f a = record {
   done = f.done ++ operation ∷ [];
   gives = grouped f.done (operation ∷ []) left ∙ f.gives;
-  added = λ operations h. subst next (grouped operations f.done (operation ∷ [])) (a (operations ++ f.done) (f.added operations h));
+  added = λ aim operations h. subst (next aim) (grouped operations f.done (operation ∷ [])) (a aim (operations ++ f.done) (f.added aim operations h));
 }
 
 -- several operations came
-pub front_joins : (had has next : List Operation → Type 0) (all left come : List Operation) → AddsFront had has all (come ++ left) → Adds has next come → AddsFront had next all left
+pub front_joins : (had has next : Aim → List Operation → Type 0) (all left come : List Operation) → AddsFront had has all (come ++ left) → Adds has next come → AddsFront had next all left
 front_joins had has next all left come f a = record {
   done = f.done ++ come;
   gives = grouped f.done come left ∙ f.gives;
-  added = λ operations h. subst next (grouped operations f.done come) (a (operations ++ f.done) (f.added operations h));
+  added = λ aim operations h. subst (next aim) (grouped operations f.done come) (a aim (operations ++ f.done) (f.added aim operations h));
 }
 
 -- what came behind what came before
-pub adds_joined : (had has next : List Operation → Type 0) (xs ys : List Operation) → Adds had has xs → Adds has next ys → Adds had next (xs ++ ys)
-adds_joined had has next xs ys a b = λ operations h. subst next (grouped operations xs ys) (b (operations ++ xs) (a operations h))
+pub adds_joined : (had has next : Aim → List Operation → Type 0) (xs ys : List Operation) → Adds had has xs → Adds has next ys → Adds had next (xs ++ ys)
+adds_joined had has next xs ys a b = λ aim operations h. subst (next aim) (grouped operations xs ys) (b aim (operations ++ xs) (a aim operations h))
 
-pub front_ends : (had has : List Operation → Type 0) (all left : List Operation) → left ≡ [] → AddsFront had has all left → Adds had has all
+pub front_ends : (had has : Aim → List Operation → Type 0) (all left : List Operation) → left ≡ [] → AddsFront had has all left → Adds had has all
 front_ends had has all left e f =
     let is : f.done ≡ all = sym (nothing_behind f.done) ∙ ap (λ (l : List Operation). f.done ++ l) (sym e) ∙ f.gives in
     subst (Adds had has) is f.added
 
 -- an operation that came unless what it is for was there
-pub front_unless : (had has next : List Operation → Type 0) (all : List Operation) (f : List ℕ → Operation) (octets : List ℕ) (others rest : List (List ℕ)) (b : Bool) → b ≡ is_first octets (reached octets others)
+pub front_unless : (had has next : Aim → List Operation → Type 0) (all : List Operation) (f : List ℕ → Operation) (octets : List ℕ) (others rest : List (List ℕ)) (b : Bool) → b ≡ is_first octets (reached octets others)
     → AddsFront had has all (map f (lacking_beside others (octets ∷ rest))) → Adds has next (cond b [] (f octets ∷ [])) → AddsFront had next all (map f (lacking_beside (reached octets others) rest))
 front_unless had has next all f octets others rest b e front adds =
     by_test b (subst (λ (t : Bool). AddsFront had has all (map f (cond t (lacking_beside (reached octets others) rest) (octets ∷ lacking_beside (reached octets others) rest)))) (sym e) front) adds
   where
     by_test : (t : Bool) → AddsFront had has all (map f (cond t (lacking_beside (reached octets others) rest) (octets ∷ lacking_beside (reached octets others) rest))) → Adds has next (cond t [] (f octets ∷ []))
         → AddsFront had next all (map f (lacking_beside (reached octets others) rest))
-    by_test true x a = record { done = x.done; gives = x.gives; added = λ operations h. subst next (nothing_behind (operations ++ x.done)) (a (operations ++ x.done) (x.added operations h)) }
+    by_test true x a = record { done = x.done; gives = x.gives; added = λ aim operations h. subst (next aim) (nothing_behind (operations ++ x.done)) (a aim (operations ++ x.done) (x.added aim operations h)) }
     by_test false x a = front_more had has next all (map f (lacking_beside (reached octets others) rest)) (f octets) x a

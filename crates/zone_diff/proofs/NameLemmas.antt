@@ -16,7 +16,7 @@ use Rattle.rr_data.proofs.ItemViewLemmas.{item_says, item_sets, sets_view}
 use Rattle.zone_model.proofs.NameLemmas.{name_cmp-IsAntisymmetric}
 use Rattle.zone_diff.specs.declared.Serial.{Serial}
 use Rattle.zone_diff.specs.Differences.{difference, entry_difference, merged}
-use Rattle.zone_diff.specs.Sinks.{Adds}
+use Rattle.zone_diff.specs.Sinks.{Aim, Adds}
 use Rattle.zone_diff.specs.NamesAhead.{Comes, Goes, Meets, SaysFirst, behind_first, entry_laid, owner_ahead}
 
 -- octets that are an item begin with its owner
@@ -55,16 +55,16 @@ pub says_first : (v : Version) (octets : List ℕ) (owner : Name) → SaysFirst 
 says_first [] octets owner h e = absurd cc
 says_first (p ∷ v) octets owner h e = let same : p.0 ≡ owner = cc in (p.1, item_says owner octets p.1 (subst (λ (n : Name). IsItem octets n p.1) same h))
 
-abbrev pub OnEntries : Serial → Result (Unit {0}) AllocError → (List Operation → Type 0) → (List Operation → Type 0) → Name → List ℕ → List ℕ → Type 0
+abbrev pub OnEntries : Serial → Result (Unit {0}) AllocError → (Aim → List Operation → Type 0) → (Aim → List Operation → Type 0) → Name → List ℕ → List ℕ → Type 0
 OnEntries mode r had has owner before after = (b a : Entry) → SaysEntry owner before b → SaysEntry owner after a → OnOk r (Adds had has (entry_difference mode owner b a))
 
-pub comes : (mode : Serial) (had has : List Operation → Type 0) (u : Unit {0}) (owner : Name) (v : Version) (octets : List ℕ) → SaysFirst v octets → owner_ahead v ≡ Some owner → OnEntries mode (Ok u) had has owner [] octets → Comes mode owner v had has
+pub comes : (mode : Serial) (had has : Aim → List Operation → Type 0) (u : Unit {0}) (owner : Name) (v : Version) (octets : List ℕ) → SaysFirst v octets → owner_ahead v ≡ Some owner → OnEntries mode (Ok u) had has owner [] octets → Comes mode owner v had has
 comes mode had has u owner [] octets h e f = tt
 comes mode had has u owner (p ∷ v) octets h e f =
     let same : p.0 ≡ owner = cc in
     f [] p.1 refl (item_says owner octets p.1 (subst (λ (n : Name). IsItem octets n p.1) same h))
 
-pub meets : (mode : Serial) (had has : List Operation → Type 0) (u : Unit {0}) (owner : Name) (before after : Version) (old new : List ℕ) → SaysFirst before old → SaysFirst after new → owner_ahead before ≡ Some owner → owner_ahead after ≡ Some owner
+pub meets : (mode : Serial) (had has : Aim → List Operation → Type 0) (u : Unit {0}) (owner : Name) (before after : Version) (old new : List ℕ) → SaysFirst before old → SaysFirst after new → owner_ahead before ≡ Some owner → owner_ahead after ≡ Some owner
     → OnEntries mode (Ok u) had has owner old new → Meets mode owner before after had has
 meets mode had has u owner [] after old new h k d e f = tt
 meets mode had has u owner (b ∷ before) [] old new h k d e f = tt
@@ -75,7 +75,7 @@ meets mode had has u owner (b ∷ before) (a ∷ after) old new h k d e f =
 
 -- ---- one name more
 
-pub goes_new : (mode : Serial) (had has : List Operation → Type 0) (owner : Name) (before after left : Version) → owner_ahead before ≡ None → owner_ahead after ≡ Some owner → Comes mode owner after had has → left ≡ behind_first after → Goes mode had has before after before left
+pub goes_new : (mode : Serial) (had has : Aim → List Operation → Type 0) (owner : Name) (before after left : Version) → owner_ahead before ≡ None → owner_ahead after ≡ Some owner → Comes mode owner after had has → left ≡ behind_first after → Goes mode had has before after before left
 goes_new mode had has owner before [] left n e c l = absurd cc
 goes_new mode had has owner (b ∷ before) (a ∷ after) left n e c l = absurd cc
 goes_new mode had has owner [] (a ∷ after) left n e c l =
@@ -86,7 +86,7 @@ goes_new mode had has owner [] (a ∷ after) left n e c l =
       fewer = λ some. omega (arith, ap (λ (v : Version). length v) l);
     }
 
-pub goes_later : (mode : Serial) (had has : List Operation → Type 0) (old owner : Name) (before after left : Version) → owner_ahead before ≡ Some old → owner_ahead after ≡ Some owner → name_cmp old owner ≡ Greater → Comes mode owner after had has → left ≡ behind_first after
+pub goes_later : (mode : Serial) (had has : Aim → List Operation → Type 0) (old owner : Name) (before after left : Version) → owner_ahead before ≡ Some old → owner_ahead after ≡ Some owner → name_cmp old owner ≡ Greater → Comes mode owner after had has → left ≡ behind_first after
     → Goes mode had has before after before left
 goes_later mode had has old owner [] after left n e o c l = absurd cc
 goes_later mode had has old owner (b ∷ before) [] left n e o c l = absurd cc
@@ -102,7 +102,7 @@ goes_later mode had has old owner (b ∷ before) (a ∷ after) left n e o c l =
       fewer = λ some. omega (arith, ap (λ (v : Version). length v) l);
     }
 
-pub goes_old : (mode : Serial) (had has : List Operation → Type 0) (owner : Name) (before after left : Version) → owner_ahead before ≡ Some owner → owner_ahead after ≡ None → Adds had has (DeleteName owner ∷ []) → left ≡ behind_first before → Goes mode had has before after left after
+pub goes_old : (mode : Serial) (had has : Aim → List Operation → Type 0) (owner : Name) (before after left : Version) → owner_ahead before ≡ Some owner → owner_ahead after ≡ None → Adds had has (DeleteName owner ∷ []) → left ≡ behind_first before → Goes mode had has before after left after
 goes_old mode had has owner [] after left n e c l = absurd cc
 goes_old mode had has owner (b ∷ before) (a ∷ after) left n e c l = absurd cc
 goes_old mode had has owner (b ∷ before) [] left n e c l =
@@ -113,7 +113,7 @@ goes_old mode had has owner (b ∷ before) [] left n e c l =
       fewer = λ some. omega (arith, ap (λ (v : Version). length v) l);
     }
 
-pub goes_earlier : (mode : Serial) (had has : List Operation → Type 0) (owner new : Name) (before after left : Version) → owner_ahead before ≡ Some owner → owner_ahead after ≡ Some new → name_cmp owner new ≡ Less → Adds had has (DeleteName owner ∷ []) → left ≡ behind_first before
+pub goes_earlier : (mode : Serial) (had has : Aim → List Operation → Type 0) (owner new : Name) (before after left : Version) → owner_ahead before ≡ Some owner → owner_ahead after ≡ Some new → name_cmp owner new ≡ Less → Adds had has (DeleteName owner ∷ []) → left ≡ behind_first before
     → Goes mode had has before after left after
 goes_earlier mode had has owner new [] after left n e o c l = absurd cc
 goes_earlier mode had has owner new (b ∷ before) [] left n e o c l = absurd cc
@@ -129,7 +129,7 @@ goes_earlier mode had has owner new (b ∷ before) (a ∷ after) left n e o c l 
       fewer = λ some. omega (arith, ap (λ (v : Version). length v) l);
     }
 
-pub goes_both : (mode : Serial) (had has : List Operation → Type 0) (owner new : Name) (before after left on : Version) → owner_ahead before ≡ Some owner → owner_ahead after ≡ Some new → name_cmp owner new ≡ Equal → Meets mode owner before after had has → left ≡ behind_first before → on ≡ behind_first after
+pub goes_both : (mode : Serial) (had has : Aim → List Operation → Type 0) (owner new : Name) (before after left on : Version) → owner_ahead before ≡ Some owner → owner_ahead after ≡ Some new → name_cmp owner new ≡ Equal → Meets mode owner before after had has → left ≡ behind_first before → on ≡ behind_first after
     → Goes mode had has before after left on
 goes_both mode had has owner new [] after left on n e o c l k = absurd cc
 goes_both mode had has owner new (b ∷ before) [] left on n e o c l k = absurd cc

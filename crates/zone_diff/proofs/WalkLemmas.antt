@@ -11,7 +11,7 @@ use Rattle.zone_model.specs.Versions.{Operation}
 use Rattle.zone_change.proofs.FoundLaws.{rises_on, is_set, none_above}
 use Rattle.zone_diff.specs.Differences.{set_deletions, set_additions, unless_soa, deletions, additions}
 use Rattle.zone_diff.specs.Merges.{Rises}
-use Rattle.zone_diff.specs.Sinks.{Adds, AddsFront}
+use Rattle.zone_diff.specs.Sinks.{Aim, Adds, AddsFront}
 use Rattle.zone_diff.specs.Walks.{sets_reached, set_ahead, each_beside, deletions_walked, additions_walked}
 use Rattle.zone_diff.proofs.EntryLemmas.{passed}
 use Rattle.zone_diff.proofs.MergeLemmas.{front_joins}
@@ -101,12 +101,12 @@ ahead_rises t (s ∷ rest) h = by_test (eqb s.rtype t)
     by_test false = tt
 
 -- how far a walk has come
-pub record WalksOn (had has : List Operation → Type 0) (all : List Operation) (due : Option Rrset → Rrset → List Operation) (others sets : Entry) : Type 0 where
+pub record WalksOn (had has : Aim → List Operation → Type 0) (all : List Operation) (due : Option Rrset → Rrset → List Operation) (others sets : Entry) : Type 0 where
   pub front : AddsFront had has all (each_beside due others sets)
   pub others_rise : AllRise others
   pub sets_rise : AllRise sets
 
-pub walk_goes_on : (had has next : List Operation → Type 0) (all : List Operation) (due : Option Rrset → Rrset → List Operation) (others sets rest left : Entry) (s : Rrset) (other : Option Rrset) (n : ℕ)
+pub walk_goes_on : (had has next : Aim → List Operation → Type 0) (all : List Operation) (due : Option Rrset → Rrset → List Operation) (others sets rest left : Entry) (s : Rrset) (other : Option Rrset) (n : ℕ)
     → sets ≡ s ∷ rest → n ≡ s.rtype → left ≡ sets_reached n others → other ≡ set_ahead n (sets_reached n others) → WalksOn had has all due others sets → Adds has next (due other s) → WalksOn had next all due left rest
 walk_goes_on had has next all due others sets rest left s other n e t l o w a =
     let here : left ≡ sets_reached s.rtype others = l ∙ ap (λ (k : ℕ). sets_reached k others) t in

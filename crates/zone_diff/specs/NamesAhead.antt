@@ -9,7 +9,7 @@ use Rattle.rr_data.specs.ItemViews.{sets_seen}
 use Rattle.zone_diff.specs.declared.names.Ahead.{Ahead}
 use Rattle.zone_diff.specs.declared.Serial.{Serial}
 use Rattle.zone_diff.specs.Differences.{difference, entry_difference}
-use Rattle.zone_diff.specs.Sinks.{Adds}
+use Rattle.zone_diff.specs.Sinks.{Aim, Adds}
 
 -- ---- one zone
 
@@ -43,18 +43,18 @@ SaysFirst (first ∷ rest) octets = IsItem octets first.0 first.1
 -- ---- two zones
 
 -- what becomes of a name that is first after, and wasn't there
-abbrev pub Comes : Serial → Name → Version → (List Operation → Type 0) → (List Operation → Type 0) → Type 0
+abbrev pub Comes : Serial → Name → Version → (Aim → List Operation → Type 0) → (Aim → List Operation → Type 0) → Type 0
 Comes mode owner [] had has = Unit {0}
 Comes mode owner (a ∷ rest) had has = Adds had has (entry_difference mode owner [] a.1)
 
 -- what becomes of a name that is first before and after
-abbrev pub Meets : Serial → Name → Version → Version → (List Operation → Type 0) → (List Operation → Type 0) → Type 0
+abbrev pub Meets : Serial → Name → Version → Version → (Aim → List Operation → Type 0) → (Aim → List Operation → Type 0) → Type 0
 Meets mode owner [] after had has = Unit {0}
 Meets mode owner (b ∷ before) [] had has = Unit {0}
 Meets mode owner (b ∷ before) (a ∷ after) had has = Adds had has (entry_difference mode owner b.1 a.1)
 
 -- Operations came, and what is left of both zones has the others; fewer names are left, if any was.
-pub record Goes (mode : Serial) (had has : List Operation → Type 0) (before after before' after' : Version) : Type 0 where
+pub record Goes (mode : Serial) (had has : Aim → List Operation → Type 0) (before after before' after' : Version) : Type 0 where
   pub came : List Operation
   pub added : Adds had has came
   pub gives : difference mode before after ≡ came ++ difference mode before' after'

@@ -6,7 +6,7 @@ pub use Rattle.zone_diff.specs.declared.Serial.{Serial}
 pub use Rattle.zone_diff.specs.declared.Serial.TheVariants.{Keep, Ignore}
 pub use Rattle.zone_diff.specs.Differences.{addition, deletions, additions, set_deletions, set_additions, difference, made}
 pub use Rattle.zone_diff.specs.Merges.{records_ahead, reached, is_first, lacking_beside, deletions_beside, additions_beside, Rises}
-pub use Rattle.zone_diff.specs.Sinks.{Adds, IsShort, change_view}
+pub use Rattle.zone_diff.specs.Sinks.{Aim, Adds, IsShort, change_view}
 pub use Rattle.zone_diff.specs.Cuts.{CutAt}
 pub use Rattle.zone_diff.specs.Blocks.{blocks, block_limit, in_turn, StopsAt}
 pub use Rattle.std.specs.List.{AllByRecursion}
@@ -19,6 +19,6 @@ pub use Rattle.rr_data.specs.ItemViews.{SaysEntry}
 pub use Rattle.zone_model.specs.Records.{item_limit}
 pub use Rattle.zone_diff.specs.declared.DiffStyle.{DiffStyle}
 pub use Rattle.zone_diff.specs.Texts.{adding, class, closing, deleting, line, opening, record_words, text_in}
-pub use Rattle.zone_diff.specs.Held.{Holds, Opened}
+pub use Rattle.zone_diff.specs.Held.{Begun, Holds, HoldsFor, Opened}
 pub use Rattle.zone_model.specs.NameText.{text_of}
 pub use Rattle.zone_model.specs.DataText.{data_text, type_text}

@@ -4,6 +4,7 @@ use Rattle.zone_model.specs.Names.{Name}
 use Rattle.zone_model.specs.Versions.{Operation, DeleteName, DeleteSet, DeleteRecord}
 use Rattle.zone_diff.specs.declared.changes.Change.{Change}
 use Rattle.zone_diff.specs.declared.changes.Change.TheVariants as change
+use Rattle.zone_diff.specs.declared.DiffStyle.{DiffStyle}
 use Rattle.zone_diff.specs.Differences.{addition}
 
 -- what becomes of a name is an operation
@@ -20,12 +21,17 @@ IsShort change.Goes = Unit {0}
 IsShort (change.SetGoes rtype) = Unit {0}
 IsShort (change.RecordGoes rtype octets) = length octets.now ≤ 65535
 
+-- what a sink is for, which no operation changes
+pub record Aim : Type 0 where
+  pub style : DiffStyle
+  pub origin : Name
+
 -- what a sink had, and has since: some operations were added to whatever it had
-abbrev pub Adds : (List Operation → Type 0) → (List Operation → Type 0) → List Operation → Type 0
-Adds had has added = (operations : List Operation) → had operations → has (operations ++ added)
+abbrev pub Adds : (Aim → List Operation → Type 0) → (Aim → List Operation → Type 0) → List Operation → Type 0
+Adds had has added = (aim : Aim) (operations : List Operation) → had aim operations → has aim (operations ++ added)
 
 -- of all that is to be added some is left
-pub record AddsFront (had has : List Operation → Type 0) (all left : List Operation) : Type 0 where
+pub record AddsFront (had has : Aim → List Operation → Type 0) (all left : List Operation) : Type 0 where
   pub done : List Operation
   pub gives : done ++ left ≡ all
   pub added : Adds had has done

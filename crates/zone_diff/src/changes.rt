@@ -29,10 +29,10 @@ pub enum Change<'a> {
 pub trait OperationSink {
     ghost use Rattle.std.specs.Prelude.{List, ◌∷◌, [], OnOk};
     ghost use Rattle.zone_model.specs.Versions.{Operation};
-    ghost use Rattle.zone_diff.specs.Sinks.{Adds, IsShort, change_view};
+    ghost use Rattle.zone_diff.specs.Sinks.{Adds, Aim, IsShort, change_view};
 
-    // These operations have come, in this order.
-    ghost has: { Self → List Operation → Type 0 };
+    // It is for this, and these operations have come, in this order.
+    ghost has: { Self → Aim → List Operation → Type 0 };
 
     /// Adds an operation on a name.
     fn push(&mut self, owner: &Name, change: &Change<'_>) -> Result<(), AllocError>

@@ -1,6 +1,6 @@
 //! A difference as text.
 ghost use Rattle.std.specs.Prelude.{◌≡◌, ◌<◌, ◌≤◌, ◌++◌, ◌∷◌, [], List, length, codes, IfOk, OnOk};
-ghost use Rattle.zone_diff.specs.Prelude.{DeleteName, DeleteRecord, DeleteSet, Holds, IsShort, Opened, Operation, addition, adding, change_view, class, closing};
+ghost use Rattle.zone_diff.specs.Prelude.{Aim, Begun, DeleteName, DeleteRecord, DeleteSet, Holds, HoldsFor, IsShort, Opened, Operation, addition, adding, change_view, class, closing};
 ghost use Rattle.zone_diff.specs.Prelude.{data_text, deleting, difference, line, opening, record_words, text_in, text_of, type_text};
 
 use crate::changes::{Change, OperationSink};
@@ -175,9 +175,7 @@ pub struct DiffText {
 impl DiffText {
     /// The text of no operations.
     pub fn new(alloc: Global, style: DiffStyle, origin: &Name) -> Self
-        ensures holds { Holds style origin.now result.out.items result.room [] }
-        ensures style { result.style ≡ style }
-        ensures origin { result.origin ≡ origin.now }
+        ensures { HoldsFor result.style result.origin result.out.items result.room (record { style = style; origin = origin.now }) [] }
     {
         DiffText {
             style,
@@ -212,7 +210,7 @@ impl DiffText {
         ensures origin { self.new.origin ≡ self.old.origin }
         ensures more { OnOk result ((operations : List Operation)
             → Opened self.old.style self.old.origin self.old.out.items self.old.room operations
-            → Opened self.old.style self.old.origin self.new.out.items self.new.room (operations ++ change_view owner.now change.now ∷ [])) }
+            → Begun self.old.style self.old.origin self.new.out.items self.new.room (operations ++ change_view owner.now change.now ∷ [])) }
     {
         self.style.push_line(owner, change, &mut self.out)?;
         self.room -= 1;
@@ -224,32 +222,39 @@ impl DiffText {
         ensures style { self.new.style ≡ self.old.style }
         ensures origin { self.new.origin ≡ self.old.origin }
         ensures held { OnOk result ((operations : List Operation)
-            → Opened self.old.style self.old.origin self.old.out.items self.old.room operations
+            → Begun self.old.style self.old.origin self.old.out.items self.old.room operations
             → Holds self.old.style self.old.origin self.new.out.items self.new.room operations) }
     {
         if self.room > 0 {
             return Ok(());
         }
-        self.out.extend_from_slice(self.style.closing())
+        self.out.extend_from_slice(self.style.closing())?;
+        Ok(())
     }
 
     /// All of the text.
-    pub fn finish(mut self) -> Result<Vec<u8>, AllocError>
-        ensures { IfOk result (λ text. (operations : List Operation)
-            → Holds self.style self.origin self.out.items self.room operations → text.items ≡ text_in self.style self.origin operations) }
+    pub fn finish(self) -> Result<Vec<u8>, AllocError>
+        ensures { IfOk result (λ text. (aim : Aim) (operations : List Operation)
+            → HoldsFor self.style self.origin self.out.items self.room aim operations → text.items ≡ text_in aim.style aim.origin operations) }
     {
-        if self.room > 0 {
-            self.out.extend_from_slice(self.style.closing())?;
+        let DiffText {
+            style,
+            mut out,
+            room,
+            ..
+        } = self;
+        if room == 0 {
+            return Ok(out);
         }
-        let DiffText { out, .. } = self;
+        out.extend_from_slice(style.closing())?;
         Ok(out)
     }
 }
 
 impl OperationSink for DiffText {
-    ghost use Rattle.zone_diff.specs.Held.{Holds};
+    ghost use Rattle.zone_diff.specs.Held.{HoldsFor};
 
-    ghost has = { λ s operations. Holds s.style s.origin s.out.items s.room operations };
+    ghost has = { λ s aim operations. HoldsFor s.style s.origin s.out.items s.room aim operations };
 
     fn push(&mut self, owner: &Name, change: &Change<'_>) -> Result<(), AllocError> {
         self.begin()?;

@@ -30,6 +30,6 @@ returns g c b a sb sa =
     let second : Adds gone then (soa_additions mode owner (rrset_of 6 b) (rrset_of 6 a)) = subst (Adds gone then) exchanged c.in_ok-push_soa.ensures in
     ok_then c.push_all_new.result (Adds then now (additions owner c.of.result c.of-2.result)) (Adds had now (entry_difference mode owner b a))
     (λ (third : Adds then now (additions owner c.of.result c.of-2.result)).
-        adds_joined had gone now (deletions owner b a) (soa_additions mode owner (rrset_of 6 b) (rrset_of 6 a) ++ additions owner b a) first
-        (adds_joined gone then now (soa_additions mode owner (rrset_of 6 b) (rrset_of 6 a)) (additions owner b a) second (subst (Adds then now) comes third)))
+    adds_joined had gone now (deletions owner b a) (soa_additions mode owner (rrset_of 6 b) (rrset_of 6 a) ++ additions owner b a) first
+    (adds_joined gone then now (soa_additions mode owner (rrset_of 6 b) (rrset_of 6 a)) (additions owner b a) second (subst (Adds then now) comes third)))
     c.push_all_new.ensures
