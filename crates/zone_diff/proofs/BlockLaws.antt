@@ -12,7 +12,7 @@ use Rattle.zone_diff.proofs.DifferenceLaws.{difference_makes}
 use Rattle.zone_diff.proofs.SaidLemmas.{cut}
 
 -- the operations of blocks
-abbrev all_of : List (List Operation) → List Operation
+abbrev pub all_of : List (List Operation) → List Operation
 all_of = flat_map (λ (block : List Operation). block)
 
 all_of-append : (front back : List (List Operation)) → all_of (front ++ back) ≡ all_of front ++ all_of back
@@ -25,7 +25,7 @@ parted_all most room [] = refl
 parted_all most zero (x ∷ operations) = ap (λ (l : List Operation). x ∷ l) (parted_all most (most - 1) operations)
 parted_all most (suc room) (x ∷ operations) = ap (λ (l : List Operation). x ∷ l) (parted_all most room operations)
 
-blocks_all : (most : ℕ) (operations : List Operation) → all_of (blocks_of most operations) ≡ operations
+pub blocks_all : (most : ℕ) (operations : List Operation) → all_of (blocks_of most operations) ≡ operations
 blocks_all most [] = refl
 blocks_all most (x ∷ operations) = ap (λ (l : List Operation). x ∷ l) (parted_all most (most - 1) operations)
 

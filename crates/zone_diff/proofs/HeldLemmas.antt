@@ -1,11 +1,13 @@
 -- Operations in blocks that are full but for the last, and their text.
-use Rattle.std.proofs.Common.{◌≡◌, ◌∙◌, ℕ, zero, suc, ◌+◌, ◌-◌, ◌<◌, ◌≤◌, List, [], ◌∷◌, ◌++◌, length, refl, sym, ap, subst, arith, append_assoc, append-nil, Result, Ok, Err, IfOk}
+use Rattle.std.proofs.Common.{◌≡◌, ◌∙◌, ℕ, zero, suc, ◌+◌, ◌-◌, ◌<◌, ◌≤◌, eqb, List, [], ◌∷◌, ◌++◌, length, refl, sym, ap, subst, arith, append_assoc, append-nil, Result, Ok, Err, IfOk}
+use Rattle.std.proofs.lemmas.Bool.Decides.{nat_tests}
 use Rattle.std.proofs.lemmas.Grind.{flat_map-append}
 use Rattle.std.specs.List.{AllByRecursion, flat_map}
 use Rattle.zone_model.specs.Names.{Name}
 use Rattle.zone_model.specs.Versions.{Operation}
 use Rattle.dns_name.proofs.BodyLemmas.{all_append}
 use Rattle.zone_diff.specs.declared.DiffStyle.{DiffStyle}
+use Rattle.zone_diff.specs.declared.DiffStyle.TheVariants.{Script, Nsupdate}
 use Rattle.zone_diff.specs.Blocks.{Parted, parted, blocks_of, block_limit, blocks}
 use Rattle.zone_diff.specs.Texts.{block_text, closing, line, opening, text_in}
 use Rattle.zone_diff.specs.Sinks.{Aim}
@@ -108,3 +110,13 @@ aimed_whole style origin text room aim operations e h = finished_whole style ori
 
 pub aimed_begun : (style : DiffStyle) (origin : Name) (text : List ℕ) (room : ℕ) (aim : Aim) (operations : List Operation) → 0 < room → HoldsFor style origin text room aim operations → text ++ closing style ≡ text_in aim.style aim.origin operations
 aimed_begun style origin text room aim operations some h = finished_begun style origin text room operations some h.holds ∙ aimed style origin aim operations h.in_style h.of_origin
+
+-- ---- a text of nothing
+
+some_alike : (a b : ℕ) → 0 < a → 0 < b → eqb a 0 ≡ eqb b 0
+some_alike a b h k = grind (arith, nat_tests)
+
+pub nothing_written : (style : DiffStyle) (origin : Name) (operations : List Operation) → eqb (length (text_in style origin operations)) 0 ≡ eqb (length operations) 0
+nothing_written style origin [] = refl
+nothing_written Script origin (x ∷ operations) = some_alike (length (text_in Script origin (x ∷ operations))) (length (x ∷ operations)) (omega arith) (omega arith)
+nothing_written Nsupdate origin (x ∷ operations) = some_alike (length (text_in Nsupdate origin (x ∷ operations))) (length (x ∷ operations)) (omega arith) (omega arith)

@@ -12,3 +12,5 @@ pub mod MergeLemmas
 pub mod WalkLemmas
 pub mod NameLemmas
 pub mod HeldLemmas
+pub mod LineLemmas
+pub mod ScriptLemmas

@@ -10,7 +10,8 @@ use Rattle.std.specs.Ordering.{match_ordering}
 use Rattle.zone_model.specs.Names.{Name, IsName, name_cmp, wire}
 use Rattle.zone_model.specs.Records.{Rrset, Entry, rrset_of, has_record}
 use Rattle.zone_model.proofs.NameLemmas.{name_cmp-IsAntisymmetric}
-use Rattle.zone_model.specs.Versions.{Version, Operation, DeleteName, DeleteSet, DeleteRecord, all_applied}
+use Rattle.master_file.specs.Rows.{IsRecord}
+use Rattle.zone_model.specs.Versions.{Version, Operation, Add, DeleteName, DeleteSet, DeleteRecord, all_applied}
 use Rattle.zone_model.specs.DataWords.{most_time, data_type}
 use Rattle.zone_model.specs.Types.{Field, NameField, NumberField, TimeField}
 use Rattle.zone_model.specs.Splits.{split_octets, split_name}
@@ -18,7 +19,7 @@ use Rattle.zone_model.specs.DataForms.{split_time, field_rest, fits_behind, fiel
 use Rattle.zone_model.proofs.SplitLemmas.{map_some, and_some, cond_some, octets_sound, name_sound, name_back, bytes_behind}
 use Rattle.zone_change.proofs.FoundLaws.{is_found}
 use Rattle.master_file.specs.Rows.{CanBeDumped}
-use Rattle.report_laws.specs.Changes.{IsInside, IsSaid}
+use Rattle.report_laws.specs.Changes.{IsInside, IsSaid, row_of}
 use Rattle.report_laws.proofs.EntryLemmas.{IsData, IsSet, AllSets}
 use Rattle.report_laws.proofs.WellFormedLemmas.{IsOwned, well_formed}
 use Rattle.report_laws.proofs.ChangeLemmas.{whole_dumped}
@@ -175,8 +176,30 @@ renumbered_data octets d = record {
 
 -- ---- what is said
 
+-- a type as master files have it
+pub record IsType (t : ℕ) : Type 0 where
+  pub number : t ≤ 65535
+  pub kind : data_type t ≡ Some t
+
+-- an operation whose words say all of it: what it deletes also is as master files have it
+abbrev pub IsTold : Name → Operation → Type 0
+IsTold origin (Add a) = IsInside origin a.owner × IsRecord (row_of a)
+IsTold origin (DeleteName owner) = IsInside origin owner
+IsTold origin (DeleteSet owner rtype) = IsInside origin owner × IsType rtype
+IsTold origin (DeleteRecord owner rtype octets) = IsInside origin owner × IsType rtype × IsData rtype octets
+
+told_said : (origin : Name) (operation : Operation) → IsTold origin operation → IsSaid origin operation
+told_said origin (Add a) h = h
+told_said origin (DeleteName owner) h = h
+told_said origin (DeleteSet owner rtype) h = h.0
+told_said origin (DeleteRecord owner rtype octets) h = h.0
+
 abbrev AllSaidBy : Name → List Operation → Type 0
-AllSaidBy origin operations = AllByRecursion (IsSaid origin) operations
+AllSaidBy origin operations = AllByRecursion (IsTold origin) operations
+
+all_told_said : (origin : Name) (operations : List Operation) → AllSaidBy origin operations → AllByRecursion (IsSaid origin) operations
+all_told_said origin [] h = tt
+all_told_said origin (x ∷ operations) h = (told_said origin x h.0, all_told_said origin operations h.1)
 
 -- what is known of the records of an RRset
 record IsKnown (t ttl : ℕ) : Type 0 where
@@ -187,16 +210,19 @@ record IsKnown (t ttl : ℕ) : Type 0 where
 known_of : (origin n : Name) (s : Rrset) → IsSet origin n s → IsKnown s.rtype s.ttl
 known_of origin n s is = record { number = is.number; kind = is.kind; time = is.time }
 
-one_said : (origin n : Name) (t ttl : ℕ) (octets : List ℕ) → IsInside origin n → IsKnown t ttl → IsData t octets → IsSaid origin (addition n t ttl octets)
+one_said : (origin n : Name) (t ttl : ℕ) (octets : List ℕ) → IsInside origin n → IsKnown t ttl → IsData t octets → IsTold origin (addition n t ttl octets)
 one_said origin n t ttl octets inside k d = (inside, record { owner = inside.name; number = k.number; kind = k.kind; time = k.time; bytes = d.bytes; short = d.short; form = d.form })
 
 come_said : (origin n : Name) (t ttl : ℕ) (records : List (List ℕ)) → IsInside origin n → IsKnown t ttl → AllByRecursion (IsData t) records → AllSaidBy origin (map (addition n t ttl) records)
 come_said origin n t ttl [] inside k d = tt
 come_said origin n t ttl (x ∷ records) inside k d = (one_said origin n t ttl x inside k d.0, come_said origin n t ttl records inside k d.1)
 
-go_said : (origin n : Name) (t : ℕ) (records : List (List ℕ)) → IsInside origin n → AllSaidBy origin (map (DeleteRecord n t) records)
-go_said origin n t [] inside = tt
-go_said origin n t (x ∷ records) inside = (inside, go_said origin n t records inside)
+type_of : (origin n : Name) (s : Rrset) → IsSet origin n s → IsType s.rtype
+type_of origin n s is = record { number = is.number; kind = is.kind }
+
+go_said : (origin n : Name) (t : ℕ) (records : List (List ℕ)) → IsInside origin n → IsType t → AllByRecursion (IsData t) records → AllSaidBy origin (map (DeleteRecord n t) records)
+go_said origin n t [] inside k d = tt
+go_said origin n t (x ∷ records) inside k d = ((inside, k, d.0), go_said origin n t records inside k d.1)
 
 lacking_all : (P : List ℕ → Type 0) (others records : List (List ℕ)) → AllByRecursion P records → AllByRecursion P (lacking others records)
 lacking_all P others [] h = tt
@@ -206,24 +232,24 @@ lacking_all P others (x ∷ records) h = by_test (lacking_all P others records h
     by_test more true = more
     by_test more false = (h.0, more)
 
-deletions_said : (origin n : Name) (after sets : Entry) → IsInside origin n → AllSaidBy origin (deletions n sets after)
-deletions_said origin n after [] inside = tt
-deletions_said origin n after (s ∷ sets) inside =
-    all_append (IsSaid origin) (unless_soa s (set_deletions n (rrset_of s.rtype after) s)) (deletions n sets after) (by_type (eqb s.rtype 6) (rrset_of s.rtype after)) (deletions_said origin n after sets inside)
+deletions_said : (origin n : Name) (after sets : Entry) → IsInside origin n → AllSets origin n sets → AllSaidBy origin (deletions n sets after)
+deletions_said origin n after [] inside h = tt
+deletions_said origin n after (s ∷ sets) inside h =
+    all_append (IsTold origin) (unless_soa s (set_deletions n (rrset_of s.rtype after) s)) (deletions n sets after) (by_type (eqb s.rtype 6) (rrset_of s.rtype after)) (deletions_said origin n after sets inside h.1)
   where
     by_time : (b : Bool) (t : Rrset) → AllSaidBy origin (cond b (map (DeleteRecord n s.rtype) (lacking t.records s.records)) (DeleteSet n s.rtype ∷ []))
-    by_time true t = go_said origin n s.rtype (lacking t.records s.records) inside
-    by_time false t = (inside, tt)
+    by_time true t = let is = h.0 in go_said origin n s.rtype (lacking t.records s.records) inside (type_of origin n s h.0) (lacking_all (IsData s.rtype) t.records s.records is.each)
+    by_time false t = ((inside, type_of origin n s h.0), tt)
 
     by_type : (b : Bool) (y : Option Rrset) → AllSaidBy origin (cond b [] (set_deletions n y s))
     by_type true y = tt
-    by_type false None = (inside, tt)
+    by_type false None = ((inside, type_of origin n s h.0), tt)
     by_type false (Some t) = by_time (eqb s.ttl t.ttl) t
 
 additions_said : (origin n : Name) (before sets : Entry) → IsInside origin n → AllSets origin n sets → AllSaidBy origin (additions n before sets)
 additions_said origin n before [] inside h = tt
 additions_said origin n before (t ∷ sets) inside h =
-    all_append (IsSaid origin) (unless_soa t (set_additions n (rrset_of t.rtype before) t)) (additions n before sets) (by_type (eqb t.rtype 6) (rrset_of t.rtype before)) (additions_said origin n before sets inside h.1)
+    all_append (IsTold origin) (unless_soa t (set_additions n (rrset_of t.rtype before) t)) (additions n before sets) (by_type (eqb t.rtype 6) (rrset_of t.rtype before)) (additions_said origin n before sets inside h.1)
   where
     by_time : (b : Bool) (s : Rrset) → AllSaidBy origin (map (addition n t.rtype t.ttl) (cond b (lacking s.records t.records) t.records))
     by_time true s = let is = h.0 in come_said origin n t.rtype t.ttl (lacking s.records t.records) inside (known_of origin n t h.0) (lacking_all (IsData t.rtype) s.records t.records is.each)
@@ -237,9 +263,9 @@ additions_said origin n before (t ∷ sets) inside h =
 soas_said : (mode : Serial) (origin n : Name) (x : Option Rrset) (ttl : ℕ) (records : List (List ℕ)) → IsInside origin n → IsKnown 6 ttl → AllByRecursion (IsData 6) records → AllSaidBy origin (flat_map (soa_exchange mode n x ttl) records)
 soas_said mode origin n x ttl [] inside k d = tt
 soas_said mode origin n x ttl (octets ∷ records) inside k d =
-    all_append (IsSaid origin) (soa_exchange mode n x ttl octets) (flat_map (soa_exchange mode n x ttl) records) (one x) (soas_said mode origin n x ttl records inside k d.1)
+    all_append (IsTold origin) (soa_exchange mode n x ttl octets) (flat_map (soa_exchange mode n x ttl) records) (one x) (soas_said mode origin n x ttl records inside k d.1)
   where
-    this : IsSaid origin (addition n 6 ttl octets)
+    this : IsTold origin (addition n 6 ttl octets)
     this = one_said origin n 6 ttl octets inside k d.0
 
     by_tests : (b c : Bool) → AllSaidBy origin (cond b [] (cond c (addition n 6 ttl (renumbered octets) ∷ addition n 6 ttl octets ∷ []) (addition n 6 ttl octets ∷ [])))
@@ -261,20 +287,20 @@ soa_said mode origin n x after inside h typed = by_found (rrset_of 6 after) refl
         let type = typed t e in
         soas_said mode origin n x t.ttl t.records inside (subst (λ (k : ℕ). IsKnown k t.ttl) type (known_of origin n t is)) (subst (λ (k : ℕ). AllByRecursion (IsData k) t.records) type is.each)
 
-entry_said : (mode : Serial) (origin n : Name) (before after : Entry) → IsInside origin n → AllSets origin n after → ((s : Rrset) → rrset_of 6 after ≡ Some s → s.rtype ≡ 6) → AllSaidBy origin (entry_difference mode n before after)
-entry_said mode origin n before after inside h typed =
-    all_append (IsSaid origin) (deletions n before after) (soa_additions mode n (rrset_of 6 before) (rrset_of 6 after) ++ additions n before after) (deletions_said origin n after before inside)
-    (all_append (IsSaid origin) (soa_additions mode n (rrset_of 6 before) (rrset_of 6 after)) (additions n before after) (soa_said mode origin n (rrset_of 6 before) after inside h typed) (additions_said origin n before after inside h))
+entry_said : (mode : Serial) (origin n : Name) (before after : Entry) → IsInside origin n → AllSets origin n before → AllSets origin n after → ((s : Rrset) → rrset_of 6 after ≡ Some s → s.rtype ≡ 6) → AllSaidBy origin (entry_difference mode n before after)
+entry_said mode origin n before after inside g h typed =
+    all_append (IsTold origin) (deletions n before after) (soa_additions mode n (rrset_of 6 before) (rrset_of 6 after) ++ additions n before after) (deletions_said origin n after before inside g)
+    (all_append (IsTold origin) (soa_additions mode n (rrset_of 6 before) (rrset_of 6 after)) (additions n before after) (soa_said mode origin n (rrset_of 6 before) after inside h typed) (additions_said origin n before after inside h))
 
 inside_of : (origin : Name) (pair : Name × Entry) → IsOwned origin pair → IsInside origin pair.0
 inside_of origin pair o = record { name = o.item.name; under = o.under }
 
-pair_said : (mode : Serial) (origin : Name) (before : Entry) (a : Name × Entry) → IsOwned origin a → AllSaidBy origin (entry_difference mode a.0 before a.1)
-pair_said mode origin before a o = entry_said mode origin a.0 before a.1 (inside_of origin a o) o.sets (λ s e. (is_found None 6 a.1 s o.item.proper e).1)
+pair_said : (mode : Serial) (origin : Name) (before : Entry) (a : Name × Entry) → AllSets origin a.0 before → IsOwned origin a → AllSaidBy origin (entry_difference mode a.0 before a.1)
+pair_said mode origin before a g o = entry_said mode origin a.0 before a.1 (inside_of origin a o) g o.sets (λ s e. (is_found None 6 a.1 s o.item.proper e).1)
 
 news_said : (mode : Serial) (origin : Name) (after : Version) → AllByRecursion (IsOwned origin) after → AllSaidBy origin (difference mode [] after)
 news_said mode origin [] h = tt
-news_said mode origin (a ∷ after) h = all_append (IsSaid origin) (entry_difference mode a.0 [] a.1) (difference mode [] after) (pair_said mode origin [] a h.0) (news_said mode origin after h.1)
+news_said mode origin (a ∷ after) h = all_append (IsTold origin) (entry_difference mode a.0 [] a.1) (difference mode [] after) (pair_said mode origin [] a tt h.0) (news_said mode origin after h.1)
 
 merged_said : (mode : Serial) (origin : Name) (b : Name × Entry) (others : Version → List Operation) (after : Version) → IsOwned origin b → ((v : Version) → AllByRecursion (IsOwned origin) v → AllSaidBy origin (others v)) → AllByRecursion (IsOwned origin) after
     → AllSaidBy origin (merged mode b others after)
@@ -285,16 +311,16 @@ merged_said mode origin b others (a ∷ after) o more h = by_order (name_cmp b.0
         → AllSaidBy origin (match_ordering x (DeleteName b.0 ∷ others (a ∷ after)) (entry_difference mode b.0 b.1 a.1 ++ others after) (entry_difference mode a.0 [] a.1 ++ merged mode b others after))
     by_order Less e on = (inside_of origin b o, more (a ∷ after) h)
     by_order Equal e on =
-        all_append (IsSaid origin) (entry_difference mode b.0 b.1 a.1) (others after)
-        (subst (λ (n : Name). AllSaidBy origin (entry_difference mode n b.1 a.1)) (sym (name_cmp-IsAntisymmetric b.0 a.0 e)) (pair_said mode origin b.1 a h.0)) (more after h.1)
-    by_order Greater e on = all_append (IsSaid origin) (entry_difference mode a.0 [] a.1) (merged mode b others after) (pair_said mode origin [] a h.0) on
+        all_append (IsTold origin) (entry_difference mode b.0 b.1 a.1) (others after)
+        (subst (λ (n : Name). AllSaidBy origin (entry_difference mode n b.1 a.1)) (sym (name_cmp-IsAntisymmetric b.0 a.0 e)) (pair_said mode origin b.1 a (subst (λ (n : Name). AllSets origin n b.1) (name_cmp-IsAntisymmetric b.0 a.0 e) o.sets) h.0)) (more after h.1)
+    by_order Greater e on = all_append (IsTold origin) (entry_difference mode a.0 [] a.1) (merged mode b others after) (pair_said mode origin [] a tt h.0) on
 
 said : (mode : Serial) (origin : Name) (before after : Version) → AllByRecursion (IsOwned origin) before → AllByRecursion (IsOwned origin) after → AllSaidBy origin (difference mode before after)
 said mode origin [] after g h = news_said mode origin after h
 said mode origin (b ∷ before) after g h = merged_said mode origin b (difference mode before) after g.0 (λ v k. said mode origin before v g.1 k) h
 
-pub difference_said : (mode : Serial) (origin : Name) (before after : Version) → CanBeDumped origin before → CanBeDumped origin after → AllByRecursion (IsSaid origin) (difference mode before after)
-difference_said mode origin before after h k = let a = well_formed origin before h in let b = well_formed origin after k in said mode origin before after a.each b.each
+pub difference_told : (mode : Serial) (origin : Name) (before after : Version) → CanBeDumped origin before → CanBeDumped origin after → AllByRecursion (IsTold origin) (difference mode before after)
+difference_told mode origin before after h k = let a = well_formed origin before h in let b = well_formed origin after k in said mode origin before after a.each b.each
 
 -- ---- so each part of a difference leaves a zone
 
@@ -306,5 +332,5 @@ pub cut : (mode : Serial) (origin : Name) (before after : Version) (front back :
     → (middle : Version) × CutAt origin front back before (made mode origin before after) middle
 cut mode origin before after front back h k e =
     let m = front_taken origin front back before (made mode origin before after) (subst (λ (l : List Operation). all_applied origin l before ≡ Ok (made mode origin before after)) e (difference_makes mode origin before after h k)) in
-    let saids : AllSaidBy origin front = front_said origin front back (subst (AllSaidBy origin) e (difference_said mode origin before after h k)) in
-    (m.0, record { taken = m.1; zone = whole_dumped origin (record { needs = []; operations = front }) before m.0 m.1 h saids; on = m.2 })
+    let saids : AllSaidBy origin front = front_said origin front back (subst (AllSaidBy origin) e (difference_told mode origin before after h k)) in
+    (m.0, record { taken = m.1; zone = whole_dumped origin (record { needs = []; operations = front }) before m.0 m.1 h (all_told_said origin front saids); on = m.2 })

@@ -10,3 +10,4 @@ pub mod DifferenceExample
 pub mod Cuts
 pub mod NamesAhead
 pub mod Held
+pub mod Commands

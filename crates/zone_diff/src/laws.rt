@@ -3,6 +3,9 @@
 ghost use Rattle.std.specs.Prelude.{◌≡◌, ◌<◌, ◌≤◌, List, length, ◌++◌, Ok};
 ghost use Rattle.zone_diff.specs.Prelude.{Serial, Keep, Name, Version, Operation, all_applied, CanBeDumped, difference, made, CutAt};
 ghost use Rattle.zone_diff.specs.Prelude.{blocks, block_limit, in_turn, StopsAt, AllByRecursion};
+ghost use Rattle.std.specs.Prelude.{ℕ, ◌+◌, map};
+ghost use Rattle.zone_diff.specs.Prelude.{Script, TakesCommands, committed, lines_of, list_of, script_from, text_in};
+ghost use Rattle.zone_diff.specs.declared.DiffStyle.TheVariants.{Script as AsScript};
 ghost use Rattle.zone_diff.specs.Prelude.{Entry, IsEntry, deletions, additions, deletions_walked, additions_walked};
 
 /// Of two zones of one origin the difference makes of the one before the one after. No rule refuses any operation of it. Where a change
@@ -35,4 +38,16 @@ pub fn differences_in_transactions()
 pub fn differences_side_by_side()
     ensures deletions { (owner : Name) (before after : Entry) → IsEntry before → IsEntry after → deletions_walked owner before after ≡ deletions owner before after }
     ensures additions { (owner : Name) (before after : Entry) → IsEntry before → IsEntry after → additions_walked owner before after ≡ additions owner before after }
+{}
+
+/// The text of a difference as a script says its transactions, as blocks `update` that are committed: where it is one list of commands,
+/// and wherever else commands may come, as behind a `worker` or in a live session. A list has at most 10,000 commands.
+pub fn differences_read_back()
+    ensures list { (mode : Serial) (origin : Name) (before after : Version) → CanBeDumped origin before → CanBeDumped origin after
+        → (line : ℕ) → length (blocks (difference mode before after)) ≤ 10000
+        → list_of origin line (lines_of (text_in AsScript origin (difference mode before after))) ≡ Ok (map committed (blocks (difference mode before after))) }
+    ensures anywhere { (mode : Serial) (origin : Name) (before after : Version) → CanBeDumped origin before → CanBeDumped origin after
+        → (line : ℕ) (s : Script) → TakesCommands s → length s.commands + length (blocks (difference mode before after)) ≤ 10000
+        → script_from origin line (lines_of (text_in AsScript origin (difference mode before after))) s
+        ≡ Ok (record s { commands = s.commands ++ map committed (blocks (difference mode before after)) }) }
 {}

@@ -11,7 +11,10 @@ mod soa;
 mod text;
 
 pub use changes::{Change, OperationSink};
-pub use laws::{differences_in_transactions, differences_make_the_other, differences_may_be_cut};
+pub use laws::{
+    differences_in_transactions, differences_make_the_other, differences_may_be_cut,
+    differences_read_back,
+};
 pub use names::push_difference;
 pub use sets::{push_additions, push_deletions};
 pub use text::difference_text;

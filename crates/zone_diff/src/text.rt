@@ -1,5 +1,5 @@
 //! A difference as text.
-ghost use Rattle.std.specs.Prelude.{◌≡◌, ◌<◌, ◌≤◌, ◌++◌, ◌∷◌, [], List, length, codes, IfOk, OnOk};
+ghost use Rattle.std.specs.Prelude.{◌≡◌, ◌==◌, ◌<◌, ◌≤◌, ◌++◌, ◌∷◌, [], List, length, codes, IfOk, OnOk};
 ghost use Rattle.zone_diff.specs.Prelude.{Aim, Begun, DeleteName, DeleteRecord, DeleteSet, Holds, HoldsFor, IsShort, Opened, Operation, addition, adding, change_view, class, closing};
 ghost use Rattle.zone_diff.specs.Prelude.{data_text, deleting, difference, line, opening, record_words, text_in, text_of, type_text};
 
@@ -271,7 +271,8 @@ pub fn difference_text(
     before: Zone,
     after: Zone,
 ) -> Result<Vec<u8>, AllocError>
-    ensures { IfOk result (λ text. text.items ≡ text_in style before.origin (difference serial before.pairs after.pairs)) }
+    ensures text { IfOk result (λ text. text.items ≡ text_in style before.origin (difference serial before.pairs after.pairs)) }
+    ensures nothing { IfOk result (λ text. (length text.items == 0) ≡ (length (difference serial before.pairs after.pairs) == 0)) }
 {
     let mut text = DiffText::new(alloc, style, before.origin());
     push_difference(alloc, serial, before, after, &mut text)?;
