@@ -83,7 +83,6 @@ goes_new mode had has owner [] (a ∷ after) left n e c l =
       came = entry_difference mode owner [] a.1;
       added = c;
       gives = ap (λ (n : Name). entry_difference mode n [] a.1 ++ difference mode [] after) same ∙ ap (λ (v : Version). entry_difference mode owner [] a.1 ++ difference mode [] v) (sym l);
-      fewer = λ some. omega (arith, ap (λ (v : Version). length v) l);
     }
 
 pub goes_later : (mode : Serial) (had has : Aim → List Operation → Type 0) (old owner : Name) (before after left : Version) → owner_ahead before ≡ Some old → owner_ahead after ≡ Some owner → name_cmp old owner ≡ Greater → Comes mode owner after had has → left ≡ behind_first after
@@ -99,7 +98,6 @@ goes_later mode had has old owner (b ∷ before) (a ∷ after) left n e o c l =
       gives =
           ap (λ (x : Ordering). match_ordering x (DeleteName b.0 ∷ difference mode before (a ∷ after)) (entry_difference mode b.0 b.1 a.1 ++ difference mode before after) (entry_difference mode a.0 [] a.1 ++ difference mode (b ∷ before) after)) order
           ∙ ap (λ (n : Name). entry_difference mode n [] a.1 ++ difference mode (b ∷ before) after) same ∙ ap (λ (v : Version). entry_difference mode owner [] a.1 ++ difference mode (b ∷ before) v) (sym l);
-      fewer = λ some. omega (arith, ap (λ (v : Version). length v) l);
     }
 
 pub goes_old : (mode : Serial) (had has : Aim → List Operation → Type 0) (owner : Name) (before after left : Version) → owner_ahead before ≡ Some owner → owner_ahead after ≡ None → Adds had has (DeleteName owner ∷ []) → left ≡ behind_first before → Goes mode had has before after left after
@@ -110,7 +108,6 @@ goes_old mode had has owner (b ∷ before) [] left n e c l =
       came = DeleteName owner ∷ [];
       added = c;
       gives = ap (λ (n : Name). DeleteName n ∷ difference mode before []) same ∙ ap (λ (v : Version). DeleteName owner ∷ difference mode v []) (sym l);
-      fewer = λ some. omega (arith, ap (λ (v : Version). length v) l);
     }
 
 pub goes_earlier : (mode : Serial) (had has : Aim → List Operation → Type 0) (owner new : Name) (before after left : Version) → owner_ahead before ≡ Some owner → owner_ahead after ≡ Some new → name_cmp owner new ≡ Less → Adds had has (DeleteName owner ∷ []) → left ≡ behind_first before
@@ -126,7 +123,6 @@ goes_earlier mode had has owner new (b ∷ before) (a ∷ after) left n e o c l 
       gives =
           ap (λ (x : Ordering). match_ordering x (DeleteName b.0 ∷ difference mode before (a ∷ after)) (entry_difference mode b.0 b.1 a.1 ++ difference mode before after) (entry_difference mode a.0 [] a.1 ++ difference mode (b ∷ before) after)) order
           ∙ ap (λ (n : Name). DeleteName n ∷ difference mode before (a ∷ after)) same ∙ ap (λ (v : Version). DeleteName owner ∷ difference mode v (a ∷ after)) (sym l);
-      fewer = λ some. omega (arith, ap (λ (v : Version). length v) l);
     }
 
 pub goes_both : (mode : Serial) (had has : Aim → List Operation → Type 0) (owner new : Name) (before after left on : Version) → owner_ahead before ≡ Some owner → owner_ahead after ≡ Some new → name_cmp owner new ≡ Equal → Meets mode owner before after had has → left ≡ behind_first before → on ≡ behind_first after
@@ -144,7 +140,6 @@ goes_both mode had has owner new (b ∷ before) (a ∷ after) left on n e o c l 
           ∙ ap (λ (n : Name). entry_difference mode n b.1 a.1 ++ difference mode before after) same
           ∙ ap (λ (v : Version). entry_difference mode owner b.1 a.1 ++ difference mode v after) (sym l)
           ∙ ap (λ (v : Version). entry_difference mode owner b.1 a.1 ++ difference mode left v) (sym k);
-      fewer = λ some. omega (arith, ap (λ (v : Version). length v) l, ap (λ (v : Version). length v) k);
     }
 
 pub same_ahead : (owner new : Name) (after : Version) → name_cmp owner new ≡ Equal → owner_ahead after ≡ Some new → owner_ahead after ≡ Some owner

@@ -1,5 +1,5 @@
 -- Names that are left of two zones, gone through side by side.
-use Rattle.std.specs.Prelude.{◌≡◌, ℕ, ◌≤◌, ◌<◌, ◌+◌, List, [], ◌∷◌, ◌++◌, length, take, drop, Option, Some, None}
+use Rattle.std.specs.Prelude.{◌≡◌, ℕ, ◌≤◌, List, [], ◌∷◌, ◌++◌, length, take, drop, Option, Some, None}
 use Rattle.std.specs.Int.{w16, from_be_bytes}
 use Rattle.zone_model.specs.Names.{Name, wire}
 use Rattle.zone_model.specs.Items.{split_sets}
@@ -9,7 +9,7 @@ use Rattle.rr_data.specs.ItemViews.{sets_seen}
 use Rattle.zone_diff.specs.declared.names.Ahead.{Ahead}
 use Rattle.zone_diff.specs.declared.Serial.{Serial}
 use Rattle.zone_diff.specs.Differences.{difference, entry_difference}
-use Rattle.zone_diff.specs.Sinks.{Aim, Adds}
+use Rattle.zone_diff.specs.Sinks.{Adds, AddsFront, Aim}
 
 -- ---- one zone
 
@@ -53,9 +53,24 @@ Meets mode owner [] after had has = Unit {0}
 Meets mode owner (b ∷ before) [] had has = Unit {0}
 Meets mode owner (b ∷ before) (a ∷ after) had has = Adds had has (entry_difference mode owner b.1 a.1)
 
--- Operations came, and what is left of both zones has the others; fewer names are left, if any was.
+-- Operations came, and what is left of both versions has the others.
 pub record Goes (mode : Serial) (had has : Aim → List Operation → Type 0) (before after before' after' : Version) : Type 0 where
   pub came : List Operation
   pub added : Adds had has came
   pub gives : difference mode before after ≡ came ++ difference mode before' after'
-  pub fewer : 0 < length before + length after → length before' + length after' < length before + length after
+
+-- the same where what is left is shown
+pub record Went (mode : Serial) (had has : Aim → List Operation → Type 0) (before after : Version) (shows shows' : Version → Type 0) : Type 0 where
+  pub before' : Version
+  pub after' : Version
+  pub shown : shows before'
+  pub shown' : shows' after'
+  pub goes : Goes mode had has before after before' after'
+
+-- of all operations some came, and what is left of both versions has the others
+pub record Leaves (mode : Serial) (had has : Aim → List Operation → Type 0) (all : List Operation) (shows shows' : Version → Type 0) : Type 0 where
+  pub before : Version
+  pub after : Version
+  pub shown : shows before
+  pub shown' : shows' after
+  pub front : AddsFront had has all (difference mode before after)

@@ -40,10 +40,10 @@ fn push_new_unless_soa<K: OperationSink>(
     requires other_rises { Rises other.now }
     ensures { OnOk result (Adds (K.has sink.old) (K.has sink.new) (unless_soa set.now (set_additions owner.now other.now set.now))) }
 {
-    if set.rtype() == SOA {
-        return Ok(());
+    if set.rtype() != SOA {
+        return push_additions(owner, other, set, sink);
     }
-    push_additions(owner, other, set, sink)
+    Ok(())
 }
 
 // What goes of an entry. Each RRset is looked at once.

@@ -1,6 +1,6 @@
 //! The names of two zones, gone through side by side in canonical order.
-ghost use Rattle.std.specs.Prelude.{◌≡◌, ◌≤◌, ◌<◌, ◌+◌, ◌∷◌, [], length, IfOk, IsTrue, ◌↔◌, OnOk, Some};
-ghost use Rattle.zone_diff.specs.Prelude.{Adds, Comes, DeleteName, Goes, Meets, SaysFirst, Stands, behind_first, difference, item_limit, owner_ahead, pairs_ahead};
+ghost use Rattle.std.specs.Prelude.{◌≡◌, ◌≤◌, ◌∷◌, [], length, IfOk, OnOk, Some};
+ghost use Rattle.zone_diff.specs.Prelude.{Adds, Comes, DeleteName, Meets, Stands, Version, Went, behind_first, difference, item_limit, owner_ahead, pairs_ahead};
 
 use crate::Serial;
 use crate::changes::{Change, OperationSink};
@@ -11,6 +11,34 @@ use rr_data::item_buffer;
 use std::alloc::{AllocError, Global};
 use std::cmp::Ordering;
 use std::marker::Model;
+
+/// The names of a version that are left, the first of which is laid down as an item.
+pub trait Names {
+    ghost use Rattle.std.specs.Prelude.{◌≡◌, [], IsTrue, ◌↔◌};
+    ghost use Rattle.zone_model.specs.Versions.{Version};
+    ghost use Rattle.zone_diff.specs.NamesAhead.{SaysFirst, behind_first, owner_ahead};
+
+    // These names are left, each with its entry.
+    ghost shows: { Self → Version → Type 0 };
+
+    /// No name is left.
+    fn is_empty(&self) -> bool
+        ensures { (left : Version) → shows self.now left → IsTrue result ↔ (left ≡ []) };
+
+    /// The first name.
+    fn owner(&self) -> Option<Name>
+        ensures { (left : Version) → shows self.now left → result ≡ owner_ahead left };
+
+    /// The first name's item; no octets where no name is left.
+    fn item(&self) -> &[u8]
+        requires { (left : Version) × shows self.now left }
+        ensures { (left : Version) → shows self.now left → SaysFirst left result.now };
+
+    /// Passes the first name.
+    fn pass(&mut self)
+        requires { (left : Version) × shows self.old left }
+        ensures { (left : Version) → shows self.old left → shows self.new (behind_first left) };
+}
 
 /// The name whose item is laid down, and how many octets that has.
 #[derive(Clone, Copy)]
@@ -68,38 +96,32 @@ impl NameCursor {
             behind,
         })
     }
+}
 
-    // No name is left.
-    fn is_empty(&self) -> bool
-        ensures { IsTrue result ↔ (self.now ≡ []) }
-    {
+impl Names for NameCursor {
+    ghost use Rattle.std.specs.Prelude.{◌≡◌};
+
+    ghost shows = { λ c left. left ≡ c };
+
+    fn is_empty(&self) -> bool {
         self.ahead.is_none()
     }
 
-    // The first name.
-    fn owner(&self) -> Option<Name>
-        ensures { result ≡ owner_ahead self.now }
-    {
+    fn owner(&self) -> Option<Name> {
         match &self.ahead {
             Some(ahead) => Some(ahead.owner),
             None => None,
         }
     }
 
-    // The first name's item; no octets where no name is left.
-    fn item(&self) -> &[u8]
-        ensures { SaysFirst self.now result.now }
-    {
+    fn item(&self) -> &[u8] {
         match &self.ahead {
             Some(ahead) => &self.octets.as_slice()[..ahead.len],
             None => &[],
         }
     }
 
-    // Passes the first name.
-    fn pass(&mut self)
-        ensures { self.new ≡ behind_first self.old }
-    {
+    fn pass(&mut self) {
         if self.ahead.is_some() {
             self.ahead = next_of(&mut self.behind, &mut self.octets);
         }
@@ -107,13 +129,14 @@ impl NameCursor {
 }
 
 // The first name goes.
-fn push_old<K: OperationSink>(
+fn push_old<B: Names, K: OperationSink>(
     owner: &Name,
-    before: &mut NameCursor,
+    before: &mut B,
     sink: &mut K,
 ) -> Result<(), AllocError>
+    requires { (left : Version) × B.shows before.old left }
     ensures added { OnOk result (Adds (K.has sink.old) (K.has sink.new) (DeleteName owner.now ∷ [])) }
-    ensures left { OnOk result (before.new ≡ behind_first before.old) }
+    ensures left { OnOk result ((left : Version) → B.shows before.old left → B.shows before.new (behind_first left)) }
 {
     sink.push(owner, &Change::Goes)?;
     before.pass();
@@ -121,16 +144,17 @@ fn push_old<K: OperationSink>(
 }
 
 // The first name comes.
-fn push_new<K: OperationSink>(
+fn push_new<A: Names, K: OperationSink>(
     alloc: Global,
     serial: Serial,
     owner: &Name,
-    after: &mut NameCursor,
+    after: &mut A,
     sink: &mut K,
 ) -> Result<(), AllocError>
-    requires { owner_ahead after.old ≡ Some owner.now }
-    ensures added { OnOk result (Comes serial owner.now after.old (K.has sink.old) (K.has sink.new)) }
-    ensures left { OnOk result (after.new ≡ behind_first after.old) }
+    requires some { (left : Version) × A.shows after.old left }
+    requires first { (left : Version) → A.shows after.old left → owner_ahead left ≡ Some owner.now }
+    ensures added { OnOk result ((left : Version) → A.shows after.old left → Comes serial owner.now left (K.has sink.old) (K.has sink.new)) }
+    ensures left { OnOk result ((left : Version) → A.shows after.old left → A.shows after.new (behind_first left)) }
 {
     push_entry(alloc, serial, owner, &[], after.item(), sink)?;
     after.pass();
@@ -138,19 +162,21 @@ fn push_new<K: OperationSink>(
 }
 
 // The first name stays.
-fn push_both<K: OperationSink>(
+fn push_both<B: Names, A: Names, K: OperationSink>(
     alloc: Global,
     serial: Serial,
     owner: &Name,
-    before: &mut NameCursor,
-    after: &mut NameCursor,
+    before: &mut B,
+    after: &mut A,
     sink: &mut K,
 ) -> Result<(), AllocError>
-    requires before { owner_ahead before.old ≡ Some owner.now }
-    requires after { owner_ahead after.old ≡ Some owner.now }
-    ensures added { OnOk result (Meets serial owner.now before.old after.old (K.has sink.old) (K.has sink.new)) }
-    ensures left_before { OnOk result (before.new ≡ behind_first before.old) }
-    ensures left_after { OnOk result (after.new ≡ behind_first after.old) }
+    requires some_before { (left : Version) × B.shows before.old left }
+    requires some_after { (left : Version) × A.shows after.old left }
+    requires before { (left : Version) → B.shows before.old left → owner_ahead left ≡ Some owner.now }
+    requires after { (left : Version) → A.shows after.old left → owner_ahead left ≡ Some owner.now }
+    ensures added { OnOk result ((b a : Version) → B.shows before.old b → A.shows after.old a → Meets serial owner.now b a (K.has sink.old) (K.has sink.new)) }
+    ensures left_before { OnOk result ((left : Version) → B.shows before.old left → B.shows before.new (behind_first left)) }
+    ensures left_after { OnOk result ((left : Version) → A.shows after.old left → A.shows after.new (behind_first left)) }
 {
     push_entry(alloc, serial, owner, before.item(), after.item(), sink)?;
     before.pass();
@@ -159,14 +185,17 @@ fn push_both<K: OperationSink>(
 }
 
 // What becomes of the name that comes first.
-fn push_first<K: OperationSink>(
+fn push_first<B: Names, A: Names, K: OperationSink>(
     alloc: Global,
     serial: Serial,
-    before: &mut NameCursor,
-    after: &mut NameCursor,
+    before: &mut B,
+    after: &mut A,
     sink: &mut K,
 ) -> Result<(), AllocError>
-    ensures { OnOk result (Goes serial (K.has sink.old) (K.has sink.new) before.old after.old before.new after.new) }
+    requires some_before { (left : Version) × B.shows before.old left }
+    requires some_after { (left : Version) × A.shows after.old left }
+    ensures { OnOk result ((b a : Version) → B.shows before.old b → A.shows after.old a
+        → Went serial (K.has sink.old) (K.has sink.new) b a (B.shows before.new) (A.shows after.new)) }
 {
     match (before.owner(), after.owner()) {
         (None, None) => Ok(()),
@@ -180,23 +209,29 @@ fn push_first<K: OperationSink>(
     }
 }
 
-// What becomes of all names that are left.
-fn push_all<K: OperationSink>(
+/// Pushes the operations that make of a version another one, name by name; no name that was passed is looked at again. More names than
+/// 64 bits count are taken for want of memory.
+pub fn push_between<B: Names, A: Names, K: OperationSink>(
     alloc: Global,
     serial: Serial,
-    before: &mut NameCursor,
-    after: &mut NameCursor,
+    before: &mut B,
+    after: &mut A,
     sink: &mut K,
 ) -> Result<(), AllocError>
-    ensures { OnOk result (Adds (K.has sink.old) (K.has sink.new) (difference serial before.old after.old)) }
+    requires some_before { (left : Version) × B.shows before.old left }
+    requires some_after { (left : Version) × A.shows after.old left }
+    ensures { OnOk result ((b a : Version) → B.shows before.old b → A.shows after.old a → Adds (K.has sink.old) (K.has sink.new) (difference serial b a)) }
 {
-    while !before.is_empty() || !after.is_empty() {
+    'names: for _ in 0..u64::MAX {
+        if before.is_empty() && after.is_empty() {
+            return Ok(());
+        }
         push_first(alloc, serial, before, after, sink)?;
     }
-    Ok(())
+    Err(AllocError)
 }
 
-/// Pushes the operations that make of a zone another one, name by name. Each of both is in memory once, and what was passed isn't.
+/// The same of two zones. Each of both is in memory once, and what was passed isn't.
 pub fn push_difference<K: OperationSink>(
     alloc: Global,
     serial: Serial,
@@ -208,5 +243,5 @@ pub fn push_difference<K: OperationSink>(
 {
     let mut old = NameCursor::new(alloc, before)?;
     let mut new = NameCursor::new(alloc, after)?;
-    push_all(alloc, serial, &mut old, &mut new, sink)
+    push_between(alloc, serial, &mut old, &mut new, sink)
 }
