@@ -1,13 +1,16 @@
 #!/usr/bin/env bash
 # Says whether BIND takes the dumps of the examples' zones, and prints the same zones of them. Then times `qpzone dump` in both
 # styles beside what BIND, NSD and Knot print of a zone, where they are installed, on one zone of address records with names in
-# random order. Usage: bench/dump.sh [RECORDS [PROGRAM]] (500,000 records). Prints seconds, the largest resident set and how
-# much was written; with valgrind also how many instructions a name it takes to check the zone and to dump it, as the
-# difference between two smaller zones. Installs nothing, and changes nothing but files of its own in a temporary folder.
+# random order. Usage: bench/dump.sh [RECORDS [PROGRAM..]] (500,000 records); several programs are timed in one run. Prints
+# seconds, the largest resident set and how much was written; with valgrind also how many instructions a name it takes the first
+# program to check the zone and to dump it, as the difference between two smaller zones. Installs nothing, and changes nothing
+# but files of its own in a temporary folder.
 set -eu
 here=$(cd "$(dirname "$0")" && pwd)
 records=${1:-500000}
-program=${2:-$here/../crates/qpzone/out/qpzone}
+shift || true
+[ $# -gt 0 ] || set -- "$here/../crates/qpzone/out/qpzone"
+program=$1
 folder=$(mktemp -d)
 trap 'rm -rf "$folder"' EXIT
 # agrees NAME STYLE: whether BIND prints the same of a zone and of its dump
@@ -22,6 +25,8 @@ printed() {
 if command -v named-compilezone >/dev/null 2>&1; then
     for job in "$here"/../examples/*.job; do
         name=$(basename "$job" .job)
+        # Several zones have no dump.
+        if [ "$name" = zones ]; then continue; fi
         sed '/^%%$/,$d' "$job" >"$folder/$name"
         printed "$folder/$name" >"$folder/printed"
         for style in full short; do
@@ -49,8 +54,10 @@ timed() {
         printf '%s, %s bytes\n' "$(tail -n 1 "$folder/time")" "$(stat -c %s "$folder/out")"
     done
 }
-timed 'qpzone dump' "$program" dump --origin example. --chunks 4096
-timed 'qpzone dump --style short' "$program" dump --origin example. --style short --chunks 4096
+for each in "$@"; do
+    timed "$(basename "$each") dump" "$each" dump --origin example. --chunks 4096
+    timed "$(basename "$each") dump --style short" "$each" dump --origin example. --style short --chunks 4096
+done
 timed 'named-compilezone -s full' named-compilezone -q -i none -F text -s full -o - example. "$folder/zone"
 timed 'named-compilezone -s relative' named-compilezone -q -i none -F text -s relative -o - example. "$folder/zone"
 timed 'nsd-checkzone -p' nsd-checkzone -p example. "$folder/zone"

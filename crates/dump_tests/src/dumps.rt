@@ -4,28 +4,28 @@ use crate::written::dumped;
 use std::alloc::Global;
 use std::process::Abort;
 use std::test::Fail;
+use zone_dump::Style;
 
-// A zone of an origin, its SOA's time to live, and its dumps in both styles.
+// A zone of an origin, and its dumps in both styles.
 #[derive(Drop)]
 struct Case {
     text: &'static [u8],
     origin: &'static [u8],
-    ttl: u32,
     full: &'static [u8],
     short: &'static [u8],
 }
 
 // The text and both dumps are dumped alike.
 fn check(rt: &impl Abort, alloc: Global, case: &Case) -> Result<(), Fail> {
-    for (text, ttl, want) in [
-        (case.text, None, case.full),
-        (case.text, Some(case.ttl), case.short),
-        (case.full, None, case.full),
-        (case.full, Some(case.ttl), case.short),
-        (case.short, None, case.full),
-        (case.short, Some(case.ttl), case.short),
+    for (text, style, want) in [
+        (case.text, Style::Full, case.full),
+        (case.text, Style::Short, case.short),
+        (case.full, Style::Full, case.full),
+        (case.full, Style::Short, case.short),
+        (case.short, Style::Full, case.full),
+        (case.short, Style::Short, case.short),
     ] {
-        let (told, dump) = dumped(alloc, text, case.origin, ttl, 7, &[])?;
+        let (told, dump) = dumped(alloc, text, case.origin, style, 7, &[])?;
         assert!(rt; told.is_ok());
         assert_eq!(rt; dump.as_slice(), want);
     }
@@ -35,7 +35,6 @@ fn check(rt: &impl Abort, alloc: Global, case: &Case) -> Result<(), Fail> {
 const PLAIN: Case = Case {
     text: b"$TTL 300\n@ SOA ns hostmaster 1 3600 600 86400 60\n@ NS ns\nns A 192.0.2.1\n",
     origin: b"example.",
-    ttl: 300,
     full: b"example. 300 IN NS ns.example.\n\
         example. 300 IN SOA ns.example. hostmaster.example. 1 3600 600 86400 60\n\
         ns.example. 300 IN A 192.0.2.1\n",
@@ -48,7 +47,6 @@ const ODD: Case = Case {
     text: b"$TTL 300\n@ SOA ns hostmaster 1 2 3 4 5\n\\@ A 192.0.2.1\na\\.b A 192.0.2.2\n*.w A 192.0.2.3\n\
         300 CNAME in\nin 60 TXT \"x\"\na NS in.example.net.\na NS \\@\na NS @\nt TYPE65280 \\# 2 0aFF\n\\032 60 PTR .\n",
     origin: b"example.",
-    ttl: 300,
     full: b"example. 300 IN SOA ns.example. hostmaster.example. 1 2 3 4 5\n\
         \\032.example. 60 IN PTR .\n\
         300.example. 300 IN CNAME in.example.\n\
@@ -80,7 +78,6 @@ const DELEGATIONS: Case = Case {
         web A 192.0.2.80\n* TXT \"nobody of that name\"\n_sip._tcp SRV 0 5 5060 web\nshop NS ns.shop\n NS ns.example.net.\n\
         ns.shop A 192.0.2.53\n*.mail MX 10 mx.example.net.\n",
     origin: b"example.",
-    ttl: 3600,
     full: b"example. 3600 IN NS ns.example.\n\
         example. 3600 IN SOA ns.example. hostmaster.example. 1 3600 600 86400 60\n\
         *.example. 3600 IN TXT \"nobody of that name\"\n\
@@ -114,7 +111,6 @@ const WORDS: Case = Case {
     text: b"$TTL 300\n@ SOA @ in 1 2 3 4 5\n300 MX 10 a\n300 MX 20 300\nin A 192.0.2.1\na AAAA ::1\n* PTR *\n\
         \\$ttl A 192.0.2.2\n1h 60 NS ns.xexample.\n1h 60 NS a.b.\n\\;x TXT \"\\\"\\\\;\"\nx TYPE65280 \\# 0\n",
     origin: b"example.",
-    ttl: 300,
     full: b"example. 300 IN SOA example. in.example. 1 2 3 4 5\n\
         \\$ttl.example. 300 IN A 192.0.2.2\n\
         *.example. 300 IN PTR *.example.\n\
@@ -146,7 +142,6 @@ const WILDCARDS: Case = Case {
         * TXT \"this is a wildcard\"\n* MX 10 host1\nsub.* TXT \"this is not a wildcard\"\nhost1 A 192.0.2.1\n\
         _ssh._tcp.host1 SRV 0 0 22 host1\n_ssh._tcp.host2 SRV 0 0 22 host2\nsubdel NS ns.example.com.\nsubdel NS ns.example.net.\n",
     origin: b"example.",
-    ttl: 3600,
     full: b"example. 3600 IN NS ns.example.com.\n\
         example. 3600 IN NS ns.example.net.\n\
         example. 3600 IN SOA ns.example.com. hostmaster.example. 1 3600 600 86400 60\n\
@@ -175,7 +170,6 @@ const WILDCARDS: Case = Case {
 const ROOT: Case = Case {
     text: b"$TTL 60\n@ SOA ns hm 1 2 3 4 5\ncom NS ns.com\na.com 5 A 192.0.2.9\n",
     origin: b".",
-    ttl: 60,
     full: b". 60 IN SOA ns. hm. 1 2 3 4 5\ncom. 60 IN NS ns.com.\na.com. 5 IN A 192.0.2.9\n",
     short: b"$ORIGIN .\n$TTL 60\n@ IN SOA ns hm 1 2 3 4 5\ncom IN NS ns.com\na.com 5 IN A 192.0.2.9\n",
 };
@@ -190,7 +184,7 @@ fn zones_are_dumped(rt: HostRuntime) -> Result<(), Fail> {
 
 #[test]
 fn records_are_counted(rt: HostRuntime) -> Result<(), Fail> {
-    let (told, _dump) = dumped(rt.alloc(), ODD.text, ODD.origin, None, 100, &[])?;
+    let (told, _dump) = dumped(rt.alloc(), ODD.text, ODD.origin, Style::Full, 100, &[])?;
     assert_eq!(rt; told, Ok(11));
     Ok(())
 }

@@ -3,7 +3,7 @@
 use crate::written::dumped;
 use std::alloc::{AllocError, Global};
 use std::test::Fail;
-use zone_dump::DumpRefusal;
+use zone_dump::{DumpRefusal, Style};
 
 const TEXT: &[u8] = b"$TTL 60\n@ SOA ns hm 1 2 3 4 5\nns A 192.0.2.9\n";
 
@@ -14,11 +14,11 @@ const DUMP: &[u8] = b"a. 60 IN SOA ns.a. hm.a. 1 2 3 4 5\nns.a. 60 IN A 192.0.2.
 fn a_failing_call_leaves_a_front(rt: HostRuntime) -> Result<(), Fail> {
     for before in 0..6 {
         let fails = [before as u64 + 1];
-        let (told, held) = dumped(rt.alloc(), TEXT, b"a.", None, 10, &fails)?;
+        let (told, held) = dumped(rt.alloc(), TEXT, b"a.", Style::Full, 10, &fails)?;
         assert_eq!(rt; told, Err(DumpRefusal::Fault));
         assert_eq!(rt; Some(held.as_slice()), DUMP.get(..10 * before));
     }
-    let (told, _held) = dumped(rt.alloc(), TEXT, b"a.", None, 10, &[7])?;
+    let (told, _held) = dumped(rt.alloc(), TEXT, b"a.", Style::Full, 10, &[7])?;
     assert_eq!(rt; told, Ok(2));
     Ok(())
 }
@@ -41,11 +41,11 @@ fn a_failing_call_leaves_a_front_of_a_long_dump(rt: HostRuntime) -> Result<(), F
     let text = long_text(alloc, "$TTL 60\n@ SOA ns hm 1 2 3 4 5\n", " TXT")?;
     let head = "a. 60 IN SOA ns.a. hm.a. 1 2 3 4 5\n";
     let want = long_text(alloc, head, ".a. 60 IN TXT")?;
-    let (told, held) = dumped(alloc, text.as_bytes(), b"a.", None, 20_000, &[])?;
+    let (told, held) = dumped(alloc, text.as_bytes(), b"a.", Style::Full, 20_000, &[])?;
     assert_eq!(rt; told, Ok(27));
     assert_eq!(rt; held.as_slice(), want.as_bytes());
     for fails in 1..4 {
-        let (told, held) = dumped(alloc, text.as_bytes(), b"a.", None, 20_000, &[fails])?;
+        let (told, held) = dumped(alloc, text.as_bytes(), b"a.", Style::Full, 20_000, &[fails])?;
         assert_eq!(rt; told, Err(DumpRefusal::Fault));
         assert!(rt; held.len() < want.len() && want.as_bytes().starts_with(&held));
     }

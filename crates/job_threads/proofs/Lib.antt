@@ -2,4 +2,3 @@ pub mod SnapshotLaws
 pub mod StationLaws
 pub mod WorkerLaws
 pub mod GatherLaws
-pub mod DumpLaws

@@ -1,6 +1,5 @@
 pub mod Snapshots
 pub mod Zones
-pub mod Dumps
 pub mod Gatherings
 pub mod Passes
 pub mod Prelude

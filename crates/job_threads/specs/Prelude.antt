@@ -1,7 +1,6 @@
 -- The words that this crate's clauses cite, passed on from one place. Declares nothing.
 pub use Rattle.std.specs.List.{AllByRecursion}
 pub use Rattle.std.specs.Thread.{IsSync}
-pub use Rattle.outer_io.specs.Faults.{Rose}
 pub use Rattle.job_model.specs.Commands.{AskHeld, Hold, InTurn, MayCome, Release, held_after}
 pub use Rattle.job_model.specs.Feeds.{passes_fed}
 pub use Rattle.job_model.specs.Outcomes.{passes_for}
@@ -11,10 +10,9 @@ pub use Rattle.shared_cells.specs.Views.{with_note}
 pub use Rattle.qp_multi.specs.Openings.{Refuses, room_in}
 pub use Rattle.qp_multi.specs.Prelude.{Accounts, AllSeen}
 pub use Rattle.job_script.specs.Views.{job_view, worker_view, workers_view}
-pub use Rattle.job_commands.specs.Prelude.{AllAsked, AllHeard, AreAll, AreHeard, AreNew, AreVersions, Begins, ComesTo, EndsAt, Entries, IsHeld, IsIndex, IsRun, IsSetup, IsUnder}
+pub use Rattle.job_commands.specs.Prelude.{AllAsked, AllHeard, AreAll, AreHeard, AreNew, AreVersions, Begins, ComesTo, EndsAt, IsHeld, IsIndex, IsRun, IsSetup, IsUnder}
 pub use Rattle.job_commands.specs.Prelude.{IsZone, Learnt, Numbers, OpensAt, Setup, Sits, StandsAs, Step, Version, command_view, versions_by}
 pub use Rattle.job_commands.specs.Prelude.{entries_of_items, first_version, known_at, known_in, table_size}
-pub use Rattle.job_threads.specs.Dumps.{DumpedOn, StopsOn, Visited, Writes, WritesSeen}
 pub use Rattle.job_threads.specs.Gatherings.{AreGathered, DoneRan}
 pub use Rattle.job_threads.specs.Passes.{AreAt, ArePlaced, holder_of, holds_one, station_of}
 pub use Rattle.job_threads.specs.Snapshots.{AskedHeld, Held, Released}

@@ -4,7 +4,7 @@ ghost use Rattle.master_file.specs.Prelude.{IsStrictlySortedBy, keys_of, name_cm
 ghost use Rattle.master_file.specs.Prelude.{at_first, Reads, zone_at, reader_view, ReadsAll, ReadsNext, AllHeld};
 
 use crate::entries::read_entry;
-use crate::items::ZoneItems;
+use crate::items::{LentItems, ZoneItems};
 use crate::owned::Owned;
 use crate::owners::Owners;
 use crate::records::Reader;
@@ -131,6 +131,13 @@ impl Zone {
         ensures { result ≡ self.pairs }
     {
         ZoneItems::new(self.owned)
+    }
+
+    /// The same, and the zone stays.
+    pub fn items(&self) -> LentItems<'_>
+        ensures { result ≡ self.now.pairs }
+    {
+        LentItems::new(&self.owned)
     }
 }
 

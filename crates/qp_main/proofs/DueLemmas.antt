@@ -1,5 +1,5 @@
 -- What is due for an input.
-use Rattle.std.proofs.Common.{◌≡◌, ◌∙◌, ℕ, ◌+◌, Bool, true, false, cond, eqb, leb, List, [], length, Option, Some, None, Result, Ok, Err, IfOk, inl, inr, refl, sym, ap, subst, arith, codes, length-append, append-nil, ◌++◌, ◌≤◌}
+use Rattle.std.proofs.Common.{◌≡◌, ◌∙◌, ℕ, ◌+◌, Bool, true, false, cond, eqb, leb, List, [], length, Option, Some, None, Result, Ok, Err, IfOk, inl, inr, refl, sym, ap, subst, arith, codes, length-append, append-nil, ◌++◌, ◌<◌, ◌≤◌}
 use Rattle.std.proofs.lemmas.Bool.Decides.{nat_tests}
 use Rattle.std.specs.Io.KnownBytes.{Consumes, IsAtEnd}
 use Rattle.outer_io.specs.Bytes.{Held}
@@ -30,7 +30,6 @@ use Rattle.zone_text.specs.Views.{Reads}
 use Rattle.zone_text.specs.declared.refusal.ZoneRefusal.{ZoneRefusal}
 use Rattle.job_model.specs.Sizes.{cell_count}
 use Rattle.qp_multi.specs.Openings.{room_in}
-use Rattle.job_threads.specs.Dumps.{StopsOn}
 use Rattle.qp_main.specs.Fits.{fits, no_room_text, opened_text}
 use Rattle.zone_diff.specs.Differences.{difference}
 use Rattle.zone_diff.specs.declared.DiffStyle.{DiffStyle}
@@ -138,17 +137,25 @@ pub some_words : (o : Option Invocation) (left : Option (List ℕ)) → streams 
 some_words None left e = absurd cc
 some_words (Some i) left e = some_due i left e
 
--- of a dump that stopped
-pub stopped_dump : (chunks : ℕ) (style : Style) (origin : Name) (zone : Version) (before now : Held) → StopsOn chunks style origin zone before now → CutShort (Dumps chunks style origin (Ok zone)) before now
-stopped_dump chunks style origin zone before now stops = elim stops [
-  | inl front ↦ record {
-    status = status.Done;
-    text = dump style origin zone;
-    is_due = fitting chunks zone (Ends status.Done (dump style origin zone)) status.Done (dump style origin zone) (fits_room (cell_count zone) (room_in chunks) front.0) (refl, refl);
-    grew = front.1;
-  }
-  | inr same ↦ subst (λ (h : Held). CutShort (Dumps chunks style origin (Ok zone)) before h) (sym same) (nothing_yet (Dumps chunks style origin (Ok zone)) before (some_dump chunks style origin (Ok zone)))
-]
+-- a zone that fits is due whole
+pub whole_dump : (chunks : ℕ) (style : Style) (origin : Name) (zone : Version) → cell_count zone ≤ room_in chunks → Dumps chunks style origin (Ok zone) status.Done (dump style origin zone)
+whole_dump chunks style origin zone le = fitting chunks zone (Ends status.Done (dump style origin zone)) status.Done (dump style origin zone) (fits_room (cell_count zone) (room_in chunks) le) (refl, refl)
+
+pub front_dump : (chunks : ℕ) (style : Style) (origin : Name) (zone : Version) (before now : Held) → cell_count zone ≤ room_in chunks → GrowsByFront before now (dump style origin zone) → CutShort (Dumps chunks style origin (Ok zone)) before now
+front_dump chunks style origin zone before now le front = record {
+  status = status.Done;
+  text = dump style origin zone;
+  is_due = whole_dump chunks style origin zone le;
+  grew = front;
+}
+
+no_room_left : (n m : ℕ) → m < n → leb n m ≡ false
+no_room_left n m h = grind (arith, nat_tests)
+
+-- of one that doesn't fit both numbers are
+pub refused_dump : (chunks : ℕ) (style : Style) (origin : Name) (zone : Version) (text : List ℕ) → room_in chunks < cell_count zone → text ≡ no_room_text chunks zone → Dumps chunks style origin (Ok zone) status.DoesNotFit text
+refused_dump chunks style origin zone text over e =
+    subst (λ (b : Bool). IfFits b chunks zone (Ends status.Done (dump style origin zone)) status.DoesNotFit text) (sym (no_room_left (cell_count zone) (room_in chunks) over)) (refl, e)
 
 -- ---- jobs
 

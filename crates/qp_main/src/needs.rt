@@ -64,7 +64,7 @@ pub fn size_job(
     let zone = input.zone(alloc, &invocation.origin)?;
     drop(input);
     let needs = needs_of(&job)?;
-    let size = zone_size(alloc, zone)?;
+    let size = zone_size(alloc, &zone)?;
     let answer = report_needs(alloc, job.workers.len(), &size, needs)?;
     Ok(answer)
 }

@@ -63,7 +63,7 @@ fn check_zone(
 {
     let zone = input.zone(alloc, &invocation.origin)?;
     drop(input);
-    let size = zone_size(alloc, zone)?;
+    let size = zone_size(alloc, &zone)?;
     let answer = report_size(alloc, invocation.chunks, &size)?;
     Ok(answer)
 }

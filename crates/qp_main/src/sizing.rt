@@ -6,7 +6,7 @@ use crate::refusal_lines::no_room;
 use crate::size_lines::size_line;
 use crate::status::Status;
 use job_report::Pieces;
-use master_file::{Zone, ZoneItems};
+use master_file::{LentItems, Zone};
 use qp_multi::room_in;
 use rr_data::item_buffer;
 use std::alloc::{AllocError, Global};
@@ -16,11 +16,11 @@ use trie_size::TrieSize;
 pub(crate) const MANY_NAMES: usize = 1 << 40;
 
 // The size of the trie of all items. Each is laid down in the buffer that is lent.
-fn count_items(mut left: ZoneItems, octets: &mut [u8]) -> TrieSize
+fn count_items(mut left: LentItems<'_>, octets: &mut [u8]) -> TrieSize
     requires room { item_limit ≤ length octets.old }
     requires few { length left < 2 ^ 40 }
     requires rising { Rises (trie_entries left) }
-    ensures { IsSizeOf result (trie_entries left) }
+    ensures { IsSizeOf result (trie_entries left.entry) }
 {
     let mut size = TrieSize::new();
     while let Some(len) = left.next(octets) {
@@ -30,15 +30,15 @@ fn count_items(mut left: ZoneItems, octets: &mut [u8]) -> TrieSize
 }
 
 /// The size of the trie of a zone's names.
-pub fn zone_size(alloc: Global, zone: Zone) -> Result<TrieSize, AllocError>
-    requires { Rises (trie_entries zone.pairs) }
-    ensures { IfOk result (λ size. IsSizeOf size (trie_entries zone.pairs)) }
+pub fn zone_size(alloc: Global, zone: &Zone) -> Result<TrieSize, AllocError>
+    requires { Rises (trie_entries zone.now.pairs) }
+    ensures { IfOk result (λ size. IsSizeOf size (trie_entries zone.now.pairs)) }
 {
     if zone.len() >= MANY_NAMES {
         return Err(AllocError);
     }
     let mut octets = item_buffer(alloc)?;
-    Ok(count_items(zone.into_items(), &mut octets))
+    Ok(count_items(zone.items(), &mut octets))
 }
 
 /// The status and the text for a zone whose trie has this size.

@@ -1,3 +1,4 @@
 pub mod WritingLaws
 pub mod LineLaws
 pub mod WalkLaws
+pub mod ZoneLaws

@@ -2,7 +2,7 @@
 use Rattle.std.proofs.Common.{◌≡◌, ◌∙◌, ℕ, ◌+◌, ◌≤◌, List, [], ◌++◌, length, take, refl, sym, ap, subst, arith, append_assoc, append-nil, length-append, Result, Ok, Err}
 use Rattle.std.proofs.Math.Seq.{take-append-add}
 use Rattle.std.proofs.lemmas.List.{take-append-le, take_at}
-use Rattle.std.specs.Prelude.{OnErr}
+use Rattle.std.specs.Prelude.{OnErr, OnOk}
 use Rattle.outer_io.specs.Bytes.{Held, Grows, GrowsByFront}
 use Rattle.outer_io.proofs.GrowsLemmas.{Grows-nil, Grows-trans}
 use Rattle.zone_dump.specs.Writing.{Passes, PassesPart}
@@ -52,6 +52,10 @@ on_any_err (Err e) p = p
 pub on_err_more : {A E P Q : Type 0} (r : Result A E) → (P → Q) → OnErr r P → OnErr r Q
 on_err_more (Ok x) more p = tt
 on_err_more (Err e) more p = more p
+
+pub on_ok_more : {A E P Q : Type 0} (r : Result A E) → (P → Q) → OnOk r P → OnOk r Q
+on_ok_more (Ok x) more p = more p
+on_ok_more (Err e) more p = tt
 
 -- ---- parts of a whole
 

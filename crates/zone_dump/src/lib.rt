@@ -9,8 +9,10 @@ mod lines;
 mod refusal;
 mod text_sink;
 mod writing;
+mod zones;
 
 pub use dumping::{dump_text, dump_to};
 pub use lines::Lines;
 pub use refusal::DumpRefusal;
 pub use zone_model::Style;
+pub use zones::dump_zone;

@@ -7,18 +7,6 @@ use Rattle.qp_main.proofs.DueLemmas.{nothing_yet, short_is, some_dump}
 use Rattle.qp_main.proofs.StopLemmas.{dump_stops}
 use Rattle.qp_main.proofs.dumping.dump_input.Goals as goal
 
-pub returns-in_default-clause-cut_short : goal.returns-in_default-clause-cut_short
-returns-in_default-clause-cut_short g c = λ e.
-    let i = c.args.invocation.now in
-    let zone = zone_of i.origin (zone_lines c.args.input) in
-    nothing_yet (Dumps i.chunks c.args.style i.origin zone) (g.K.Sink.held c.args.sink.now) (some_dump i.chunks c.args.style i.origin zone)
-
-pub returns-in_default-zone_items-clause-cut_short : goal.returns-in_default-zone_items-clause-cut_short
-returns-in_default-zone_items-clause-cut_short g c = λ e.
-    let i = c.args.invocation.now in
-    let zone = zone_of i.origin (zone_lines c.args.input) in
-    nothing_yet (Dumps i.chunks c.args.style i.origin zone) (g.K.Sink.held c.args.sink.now) (some_dump i.chunks c.args.style i.origin zone)
-
 pub returns-in-Err-Refused-clause-cut_short : goal.returns-in-Err-Refused-clause-cut_short
 returns-in-Err-Refused-clause-cut_short g c = λ short.
     let i = c.args.invocation.now in
