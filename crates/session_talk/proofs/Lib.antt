@@ -1,5 +1,0 @@
-pub mod EntryLaws
-pub mod TextLaws
-pub mod FedLaws
-pub mod LineLaws
-pub mod SoFarLaws

@@ -1,5 +1,0 @@
-pub mod Workers
-pub mod Entries
-pub mod Answering
-pub mod Serving
-pub mod Prelude
