@@ -3,7 +3,8 @@
 
 Usage: hosts.py N [SEED] [COMMANDS [COUNT]]
 COMMANDS is `one` (one question, the default), `questions` (COUNT of them, 10,000 if not said), `absent` (as
-many for names that aren't there), `below` (as many for names under those that are), `blocks` (as many blocks
+many for names that aren't there), `below` (as many for names under those that are), `asks`, `denied` or `gets` (of
+a live session: as many whole responses for names that are there, and for such that aren't, and answers), `blocks` (as many blocks
 of one new address), `block` (one block of as many new addresses), `needs` or `neednots` (one block of as many
 prerequisites, each of a name that is there, or isn't), `drawn` (as many questions, of which one in ten is a walk
 through a thousand names, drawn at random) or `front` (the same, with all walks in front).
@@ -24,6 +25,7 @@ def zone(count, seed):
 
 
 QUESTIONS = {"questions": "get n{} A", "absent": "get m{} A", "below": "get a.n{} A"}
+LIVE = {"asks": "ask n{} A", "denied": "ask m{} A", "gets": "get n{} A"}
 PREREQUISITES = {"needs": "need n{} A", "neednots": "neednot m{}"}
 WALK = "walk . 1000"
 
@@ -38,12 +40,14 @@ def mixed(commands, count, most):
 
 def script(commands, count, most):
     yield "%%"
-    yield "worker"
+    if commands not in LIVE:
+        yield "worker"
     if commands == "one":
         yield "get n7 A"
-    elif commands in QUESTIONS:
+    elif commands in QUESTIONS or commands in LIVE:
+        line = QUESTIONS.get(commands) or LIVE[commands]
         for question in range(most):
-            yield QUESTIONS[commands].format(question * 7919 % count)
+            yield line.format(question * 7919 % count)
     elif commands in ("drawn", "front"):
         yield from mixed(commands, count, most)
     elif commands == "blocks":

@@ -1,6 +1,7 @@
 #!/usr/bin/env bash
 # Prints the examples as cases for the program `conformance`, which keeps them in crates/conformance/data/examples.cases:
-# each job with its report (that of a list as one worker gives it), the made load with its summary, and a zone with its dumps. Where workers change the zone beside each other, the versions
+# each job with its report (that of a list as one worker gives it), the made load with its summary, a zone with its dumps, and two zones with
+# what makes of the first the second. Where workers change the zone beside each other, the versions
 # of their commands are left open. After a change:
 #   examples/cases.sh > crates/conformance/data/examples.cases
 set -eu
@@ -30,4 +31,10 @@ for style in full short; do
   sed '/^%%$/,$d; s/^/| /' delegations.job
   echo 'due 0'
   sed 's/^/| /' "delegations.$style"
+done
+for style in script nsupdate; do
+  printf '\n= what changed.zones changes, in style %s\nwords diff --origin example. --style %s\n' "$style" "$style"
+  sed 's/^/| /' changed.zones
+  echo 'due 1'
+  sed 's/^/| /' "changed.$style"
 done

@@ -2,11 +2,15 @@
 _qpzone() {
   local word=${COMP_WORDS[COMP_CWORD]} before=${COMP_WORDS[COMP_CWORD - 1]} words=
   case $before in
-  --style) words='full short' ;;
+  --style)
+    words='full short'
+    [[ ${COMP_WORDS[1]} != diff ]] || words='script nsupdate'
+    ;;
+  --serial) words='keep ignore' ;;
   --origin | --chunks | --workers | --names | --turns | --seed) return ;;
   *)
     if ((COMP_CWORD == 1)); then
-      words='run feed zones check size dump make --help --version'
+      words='run feed zones check size dump diff make --help --version'
     elif [[ $word == -* ]]; then
       case ${COMP_WORDS[1]} in
       run | check) words='--origin --chunks' ;;
@@ -14,6 +18,7 @@ _qpzone() {
       size) words='--origin' ;;
       dump) words='--origin --style --chunks' ;;
       zones) words='--chunks' ;;
+      diff) words='--origin --style --serial' ;;
       make) words='--seed --names --turns --workers --chunks' ;;
       esac
     else

@@ -4,7 +4,7 @@
 Usage: tools/pages.py [PAGE..] (README.md, docs/*.md and man/qpzone.1). The last line is 'N passed, N failed'.
 
 An indented block, or of the manual a literal one, that begins with "$ " is commands with what each prints, where a line ".." stands for any lines. A
-command that begins a row of a table has to end in 0. One page's commands run in one shell, in a folder with the files of examples, where `qpzone`
+command that begins a row of a table has to end in 0, and one that compares zones in 1. One page's commands run in one shell, in a folder with the files of examples, where `qpzone`
 and `./qpzone` are the script. A page with a tool that isn't installed isn't run, which is said. Tables of docs/ANSWERS.md are questions with their
 answers. What docs/SERVER.md says that small_server prints is compared with that one's file.
 """
@@ -57,7 +57,7 @@ def commands_of(name):
                     commands.append((line[2:], []))
                 else:
                     commands[-1][1].append(line)
-    commands += [(f"{command} >said; echo $?", ["0"]) for command in re.findall(r"^\| `(\./qpzone [^`]*)` \|", read(name), re.M)]
+    commands += [(f"{command} >said; echo $?", ["1" if " diff " in command else "0"]) for command in re.findall(r"^\| `(\./qpzone [^`]*)` \|", read(name), re.M)]
     return commands
 
 

@@ -1,5 +1,5 @@
 -- What clap says of the program's command line.
-use Rattle.std.proofs.Common.{◌≡◌, ◌∙◌, ℕ, Bool, true, false, cond, List, [], ◌∷◌, refl, sym, ap, subst, arith, Option, None, Result, Ok, Err, IfOk, IsErr, inl, inr}
+use Rattle.std.proofs.Common.{true≢false, ◌≡◌, ◌∙◌, ℕ, Bool, true, false, cond, List, [], ◌∷◌, refl, sym, ap, subst, arith, Option, None, Result, Ok, Err, IfOk, IsErr, inl, inr}
 use Rattle.std.specs.Option.{option_map}
 use Rattle.std.specs.declared.alloc.AllocError.{AllocError}
 use Rattle.clap.proofs.OnLiterals.{clap_on_literals}

@@ -6,10 +6,15 @@ use Rattle.zone_model.specs.Names.{Name}
 use Rattle.zone_model.specs.declared.Style.{Style}
 use Rattle.zone_model.specs.declared.Style.TheVariants.{Full}
 use Rattle.job_model.specs.Loads.{Load, made_origin}
+use Rattle.zone_diff.specs.declared.DiffStyle.{DiffStyle}
+use Rattle.zone_diff.specs.declared.DiffStyle.TheVariants.{Script}
+use Rattle.zone_diff.specs.declared.Serial.{Serial}
+use Rattle.zone_diff.specs.declared.Serial.TheVariants.{Keep}
 use Rattle.command_line.specs.Options.{Options, no_options, options_from, load_of, chunks_given}
 
 -- What is done: a job is run; it is said how large a zone's index is; a load's job is run, and summed up; a zone is written; one list
--- of commands is run by so many workers; it is reckoned how many chunks a job needs; or a job over several zones is run.
+-- of commands is run by so many workers; it is reckoned how many chunks a job needs; a job over several zones is run; or what makes of
+-- a zone another one is written.
 pub data Verb : Type 0 where
   Run : Verb
   Check : Verb
@@ -18,6 +23,7 @@ pub data Verb : Type 0 where
   Feed : (workers : ℕ) → Verb
   Size : Verb
   Zones : Verb
+  Diff : (style : DiffStyle) (serial : Serial) → Verb
 
 -- what to do under an origin, over a number of chunks
 pub record Invocation : Type 0 where
@@ -34,6 +40,7 @@ IsUnder (Dump style) origin = Unit {0}
 IsUnder (Feed workers) origin = Unit {0}
 IsUnder Size origin = Unit {0}
 IsUnder Zones origin = origin ≡ []
+IsUnder (Diff style serial) origin = Unit {0}
 
 -- ---- a command and its options
 
@@ -58,6 +65,9 @@ feeding_of s = if makes_nothing s && is_none s.style then option_and_then (λ wo
 abbrev pub sizing_of : Options → Option Invocation
 sizing_of s = if is_none s.chunks then reading_of Size s else None
 
+abbrev pub differing_of : Options → Option Invocation
+differing_of s = if is_none s.chunks then reading_of (Diff Script Keep) s else None
+
 -- nothing is given but perhaps a number of chunks
 abbrev pub zones_of : Options → Option Invocation
 zones_of s =
@@ -79,6 +89,7 @@ asked_of command s =
     else if bytes_eq command (codes "feed") then feeding_of s
     else if bytes_eq command (codes "size") then sizing_of s
     else if bytes_eq command (codes "zones") then zones_of s
+    else if bytes_eq command (codes "diff") then differing_of s
     else None
 
 -- what plain words say, the first of which is the program's name: a command and options of it, each option once with its value behind

@@ -8,13 +8,17 @@ use Rattle.zone_model.specs.Texts.{named}
 use Rattle.zone_model.specs.declared.Style.{Style}
 use Rattle.zone_model.specs.declared.Style.TheVariants.{Full}
 use Rattle.job_model.specs.Loads.{Load, made_origin}
+use Rattle.zone_diff.specs.declared.DiffStyle.{DiffStyle}
+use Rattle.zone_diff.specs.declared.DiffStyle.TheVariants.{Script, Nsupdate}
+use Rattle.zone_diff.specs.declared.Serial.{Serial}
+use Rattle.zone_diff.specs.declared.Serial.TheVariants.{Keep, Ignore}
 use Rattle.clap.specs.Walk.{Row, Rule, first_of, is_empty}
 use Rattle.clap.specs.Simple.{App, Shape, new_rule, new_shape, subcommand_of, with_rule, with_subcommand}
 use Rattle.clap.specs.Faults.{fault_of}
 use Rattle.clap.specs.declared.builder.action.ArgAction.TheVariants.{Set}
 use Rattle.command_line.specs.Numbers.{chunks_of, default_chunks, seed_of, names_of, turns_of, workers_of}
 use Rattle.command_line.specs.Options.{load_by, style_of}
-use Rattle.command_line.specs.Invocations.{Invocation, Verb, Run, Check, Make, Dump, Feed, Size, Zones}
+use Rattle.command_line.specs.Invocations.{Invocation, Verb, Run, Check, Make, Dump, Feed, Size, Zones, Diff}
 
 -- ---- the command line that clap is given
 
@@ -61,10 +65,15 @@ sizing_shape = record (new_shape (codes "size")) { rules = option_rule (codes "o
 abbrev pub zones_shape : Shape
 zones_shape = record (new_shape (codes "zones")) { rules = option_rule (codes "chunks") false ∷ [] }
 
+abbrev pub differing_shape : Shape
+differing_shape = record (new_shape (codes "diff")) {
+  rules = option_rule (codes "origin") true ∷ option_rule (codes "style") false ∷ option_rule (codes "serial") false ∷ [];
+}
+
 abbrev pub program_app : App
 program_app = record {
   top = record (new_shape (codes "qpzone")) { is_leaf = false; subcommand_required = true };
-  subs = reading_shape (codes "run") ∷ reading_shape (codes "check") ∷ making_shape ∷ dumping_shape ∷ feeding_shape ∷ sizing_shape ∷ zones_shape ∷ [];
+  subs = reading_shape (codes "run") ∷ reading_shape (codes "check") ∷ making_shape ∷ dumping_shape ∷ feeding_shape ∷ sizing_shape ∷ zones_shape ∷ differing_shape ∷ [];
 }
 
 -- ---- what is meant by what clap gives
@@ -96,6 +105,31 @@ sizing_in rows = invocation (Some Size) (origin_in (first_of (codes "origin") ro
 abbrev pub zones_in : List Row → Option Invocation
 zones_in rows = invocation (Some Zones) (Some []) (chunks_in (first_of (codes "chunks") rows))
 
+abbrev pub diff_style_of : List ℕ → Option DiffStyle
+diff_style_of value = if bytes_eq value (codes "script") then Some Script else if bytes_eq value (codes "nsupdate") then Some Nsupdate else None
+
+abbrev pub diff_style_in : Option (List ℕ) → Option DiffStyle
+diff_style_in None = Some Script
+diff_style_in (Some value) = diff_style_of value
+
+abbrev pub serial_of : List ℕ → Option Serial
+serial_of value = if bytes_eq value (codes "keep") then Some Keep else if bytes_eq value (codes "ignore") then Some Ignore else None
+
+abbrev pub serial_in : Option (List ℕ) → Option Serial
+serial_in None = Some Keep
+serial_in (Some value) = serial_of value
+
+abbrev pub diff_by : Option DiffStyle → Option Serial → Option Verb
+diff_by None serial = None
+diff_by (Some style) None = None
+diff_by (Some style) (Some serial) = Some (Diff style serial)
+
+abbrev pub diff_in : List Row → Option Verb
+diff_in rows = diff_by (diff_style_in (first_of (codes "style") rows)) (serial_in (first_of (codes "serial") rows))
+
+abbrev pub differing_in : List Row → Option Invocation
+differing_in rows = invocation (diff_in rows) (origin_in (first_of (codes "origin") rows)) (Some default_chunks)
+
 abbrev pub load_in : List Row → Option Load
 load_in rows = load_by (option_and_then seed_of (first_of (codes "seed") rows)) (option_and_then names_of (first_of (codes "names") rows)) (option_and_then turns_of (first_of (codes "turns") rows)) (option_and_then workers_of (first_of (codes "workers") rows))
 
@@ -114,6 +148,7 @@ asked_by name rows =
     else if bytes_eq name (codes "feed") then reading_in (option_map Feed (option_and_then workers_of (first_of (codes "workers") rows))) rows
     else if bytes_eq name (codes "size") then sizing_in rows
     else if bytes_eq name (codes "zones") then zones_in rows
+    else if bytes_eq name (codes "diff") then differing_in rows
     else None
 
 abbrev pub asked_in : Option (List ℕ × List Row) → Option Invocation

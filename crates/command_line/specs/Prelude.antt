@@ -10,7 +10,7 @@ pub use Rattle.clap.specs.declared.error.kind.ErrorKind.TheVariants.{OutOfMemory
 pub use Rattle.zone_model.specs.Texts.{digits_from, number}
 pub use Rattle.job_model.specs.Loads.{made_origin}
 pub use Rattle.job_make.specs.Views.{load_view}
-pub use Rattle.command_line.specs.Invocations.{asked_of, dumping_of, feeding_of, makes_nothing, making_of}
+pub use Rattle.command_line.specs.Invocations.{asked_of, differing_of, dumping_of, feeding_of, makes_nothing, making_of}
 pub use Rattle.command_line.specs.Invocations.{plain_of, reading_of, sizing_of, under_origin, zones_of}
 pub use Rattle.command_line.specs.Numbers.{chunks_of, names_of, seed_of, turns_of, within, workers_of}
 pub use Rattle.command_line.specs.Options.{chunks_given, first, load_of, no_options, options_from, origin_of, style_of, with_option}

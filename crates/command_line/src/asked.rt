@@ -1,15 +1,16 @@
 //! What a command with its options asks for.
 ghost use Rattle.std.specs.Prelude.{◌≡◌, ◌∷◌, [], ℕ, List, map, codes, Some, None, Option};
 ghost use Rattle.command_line.specs.Prelude.{option_map, string_bytes, made_origin, load_view, asked_of, dumping_of};
-ghost use Rattle.command_line.specs.Prelude.{feeding_of, makes_nothing, making_of, plain_of, reading_of, sizing_of, under_origin};
+ghost use Rattle.command_line.specs.Prelude.{differing_of, feeding_of, makes_nothing, making_of, plain_of, reading_of, sizing_of, under_origin};
 ghost use Rattle.command_line.specs.Prelude.{zones_of, chunks_given, load_of, invocation_view, options_view, verb_view};
 
 use crate::given::Options;
-use crate::invocation::{Crew, Invocation, Verb};
+use crate::invocation::{Comparison, Crew, Invocation, Verb};
 use crate::numbers::DEFAULT_CHUNKS;
 use crate::options::options_of;
 use dns_name::Name;
 use job_make::Load;
+use zone_diff::{DiffStyle, Serial};
 use zone_model::Style;
 
 // What is done under an origin, over a number of chunks that may be left out.
@@ -79,6 +80,20 @@ fn sizing_of(options: &Options) -> Option<Invocation>
     }
 }
 
+// The same where two zones are compared.
+fn differing_of(options: &Options) -> Option<Invocation>
+    ensures { option_map invocation_view result ≡ differing_of (options_view options.now) }
+{
+    let comparison = Comparison {
+        style: DiffStyle::Script,
+        serial: Serial::Keep,
+    };
+    match options.chunks {
+        Some(_) => None,
+        None => reading_of(Verb::Diff(comparison), options),
+    }
+}
+
 // Nothing is given but perhaps a number of chunks.
 fn zones_of(options: &Options) -> Option<Invocation>
     ensures { option_map invocation_view result ≡ zones_of (options_view options.now) }
@@ -137,6 +152,7 @@ fn asked_of(command: &str, options: &Options) -> Option<Invocation>
         "feed" => feeding_of(options),
         "size" => sizing_of(options),
         "zones" => zones_of(options),
+        "diff" => differing_of(options),
         _ => None,
     }
 }

@@ -3,6 +3,7 @@ ghost use Rattle.std.specs.Prelude.{◌<◌, ◌≤◌};
 
 use dns_name::Name;
 use job_make::Load;
+use zone_diff::{DiffStyle, Serial};
 use zone_model::Style;
 
 /// How many workers run one list of commands.
@@ -12,6 +13,13 @@ pub struct Crew {
     pub workers: u32,
     ghost some: { 0 < workers },
     ghost few: { workers ≤ 16 },
+}
+
+/// How two zones are compared, and how what changes is written.
+#[derive(Clone, Copy, PartialEq, Eq, Debug)]
+pub struct Comparison {
+    pub style: DiffStyle,
+    pub serial: Serial,
 }
 
 /// What the program is asked to do.
@@ -31,6 +39,8 @@ pub enum Verb {
     Size,
     /// Run a job over several zones.
     Zones,
+    /// Write what makes of a zone another one.
+    Diff(Comparison),
 }
 
 /// What the words of the command line say: what to do under an origin, over a number of chunks. Several zones are under the root.

@@ -7,7 +7,7 @@ ghost use Rattle.command_line.specs.Parsed as parsed;
 ghost use Rattle.command_line.specs.Numbers as numbers;
 
 use crate::asked::made_origin;
-use crate::invocation::{Crew, Invocation, Verb};
+use crate::invocation::{Comparison, Crew, Invocation, Verb};
 use crate::numbers::{
     DEFAULT_CHUNKS, MOST_NAMES, MOST_TURNS, MOST_WORKERS, chunks_of, seed_of, within,
 };
@@ -18,6 +18,7 @@ use clap::error::{Error, ErrorKind};
 use dns_name::Name;
 use job_make::Load;
 use std::alloc::{AllocError, Global};
+use zone_diff::{DiffStyle, Serial};
 use zone_model::Style;
 
 // The value of an option.
@@ -120,6 +121,51 @@ fn zones_in(matches: &ArgMatches<'_>) -> Option<Invocation>
     })
 }
 
+// The style of a difference, which may be left out.
+fn diff_style_in(value: Option<&str>) -> Option<DiffStyle>
+    ensures { result ≡ parsed.diff_style_in (option_map (λ s. s.now) value.entry) }
+{
+    match value {
+        Some("script") => Some(DiffStyle::Script),
+        Some("nsupdate") => Some(DiffStyle::Nsupdate),
+        Some(_) => None,
+        None => Some(DiffStyle::Script),
+    }
+}
+
+// What is done with serials, which may be left out.
+fn serial_in(value: Option<&str>) -> Option<Serial>
+    ensures { result ≡ parsed.serial_in (option_map (λ s. s.now) value.entry) }
+{
+    match value {
+        Some("keep") => Some(Serial::Keep),
+        Some("ignore") => Some(Serial::Ignore),
+        Some(_) => None,
+        None => Some(Serial::Keep),
+    }
+}
+
+// What the options of the command that compares zones say of how.
+fn diff_in(matches: &ArgMatches<'_>) -> Option<Verb>
+    ensures { option_map verb_view result ≡ parsed.diff_in (rows_of (found_of matches.now)) }
+{
+    Some(Verb::Diff(Comparison {
+        style: diff_style_in(value_in(matches, "style"))?,
+        serial: serial_in(value_in(matches, "serial"))?,
+    }))
+}
+
+// What the options of the command that compares zones say.
+fn differing_in(matches: &ArgMatches<'_>) -> Option<Invocation>
+    ensures { option_map invocation_view result ≡ parsed.differing_in (rows_of (found_of matches.now)) }
+{
+    Some(Invocation {
+        verb: diff_in(matches)?,
+        origin: origin_in(value_in(matches, "origin"))?,
+        chunks: DEFAULT_CHUNKS,
+    })
+}
+
 // The load that options say.
 fn load_in(matches: &ArgMatches<'_>) -> Option<Load>
     ensures { option_map load_view result ≡ parsed.load_in (rows_of (found_of matches.now)) }
@@ -156,6 +202,7 @@ fn asked_by(name: &str, matches: &ArgMatches<'_>) -> Option<Invocation>
         "feed" => reading_in(matches, feed_in(matches)),
         "size" => sizing_in(matches),
         "zones" => zones_in(matches),
+        "diff" => differing_in(matches),
         _ => None,
     }
 }

@@ -31,6 +31,18 @@ const STYLE: Listed = (
     false,
 );
 
+const DIFF_STYLE: Listed = (
+    "style",
+    "script: as the transactions of a script; nsupdate: as the lines that nsupdate reads; script if not said",
+    false,
+);
+
+const SERIAL: Listed = (
+    "serial",
+    "keep: another serial is a change; ignore: an SOA that differs in its serial alone counts as the same; keep if not said",
+    false,
+);
+
 const TURNS: Listed = ("turns", "How many turns each worker has, 1 to 10000", true);
 
 static COMMANDS: &[(&str, &str, &[Listed])] = &[
@@ -82,6 +94,11 @@ static COMMANDS: &[(&str, &str, &[Listed])] = &[
         "zones",
         "Read several zones and a job over them, run it, and print a report",
         &[CHUNKS],
+    ),
+    (
+        "diff",
+        "Read two zones, and write what makes of the first the second",
+        &[ORIGIN, DIFF_STYLE, SERIAL],
     ),
 ];
 

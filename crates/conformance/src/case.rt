@@ -14,6 +14,7 @@
 //! | `+ TEXT` | the same without an end of line |
 //! | `* N TEXT` | the text N times, without an end of line |
 //! | `x N TEXT` | the line N times |
+//! | `n N M TEXT` | the line for each number from N to M, in the place of the `#` |
 //! | `due STATUS` | the exit status; the lines of the output follow, in which `?` stands for any number |
 //! | `or` | the lines of another output that may come |
 //! | `each read` | the case is run for each number K, up to the last, with the read K failing, and at last with none: status 5, and nothing written |

@@ -17,9 +17,10 @@ use std::sync::Wait;
 use std::thread::Threads;
 
 /// The files of cases, one a topic.
-const TOPICS: [&str; 14] = [
+const TOPICS: [&str; 15] = [
     "answers.cases",
     "check.cases",
+    "diff.cases",
     "dumps.cases",
     "examples.cases",
     "faults.cases",

@@ -21,7 +21,7 @@ pub(crate) fn read_cases(alloc: Global, text: &str) -> anyhow::Result<Vec<Case>>
 fn read_line(alloc: Global, line: &str, case: &mut Case) -> anyhow::Result<()> {
     let (kind, rest) = line.split_once(' ').unwrap_or((line, ""));
     match kind {
-        "|" | "+" | "*" | "x" => push_into(case, kind, rest)?,
+        "|" | "+" | "*" | "x" | "n" => push_into(case, kind, rest)?,
         "zone" => case.input.push_str(ZONE)?,
         "words" => case.words = command_line(alloc, rest)?,
         "read" => case.reads = read_calls(alloc, rest)?,
@@ -81,7 +81,19 @@ fn push_text(text: &mut String, kind: &str, rest: &str) -> anyhow::Result<()> {
                 push_line(text, line)?;
             }
         }
+        "n" => push_numbered(text, rest)?,
         _ => push_line(text, rest)?,
+    }
+    Ok(())
+}
+
+/// Puts the line behind for each number from one to another.
+fn push_numbered(text: &mut String, rest: &str) -> anyhow::Result<()> {
+    let (from, behind) = rest.split_once(' ').context("no last number")?;
+    let (to, line) = behind.split_once(' ').context("no line")?;
+    let (front, back) = line.split_once('#').unwrap_or((line, ""));
+    for number in from.parse::<u32>()?..=to.parse::<u32>()? {
+        writeln!(text, "{front}{number}{back}")?;
     }
     Ok(())
 }

@@ -81,6 +81,66 @@ nothing_past history seen front never = by_rest front.0 front.1
         let long : length history ≡ length seen + suc (length rest) = ap length e ∙ length-append seen (x ∷ rest) in
         absurd (never (omega (arith, long)) (omega (arith, long)))
 
+-- ---- the versions that outcomes make are those of the history, if each was made once
+
+module _ (s : Setup) (history : List Commit) where
+  is_both : (c d : Bool) → (c && d) ≡ true → (c ≡ true) × (d ≡ true)
+  is_both true d h = (refl, h)
+  is_both false d h = absurd cc
+
+  abbrev Makes : ℕ → Version → Pairs → Type 0
+  Makes j base pairs = (next : Version) × (whole s.origin (asked_at j pairs) base ≡ Ok next) × StandsAs (index_at s.opening history j) next
+
+  found : (j : ℕ) (base : Version) (pairs : Pairs) → times_made j pairs ≡ 1 → AllByRecursion (Replayed s history) pairs → StandsAs (index_at s.opening history (j - 1)) base → Makes j base pairs
+  found j base [] once r b = absurd cc
+  found j base (p ∷ pairs) once r b = by_made (λ fewer. found j base pairs fewer r.1 b) (made j p) refl
+    where
+      by_made : (times_made j pairs ≡ 1 → Makes j base pairs) → (t : Bool) → made j p ≡ t → Makes j base (p ∷ pairs)
+      by_made rest true e =
+          let both = is_both (is_committed p.1.ended) (eqb p.1.version j) e in
+          let same : p.1.version ≡ j = (let t : eqb p.1.version j ≡ true = both.1 in grind (arith, nat_tests)) in
+          let replayed = (r.0 both.0).2 base (subst (λ (n : ℕ). StandsAs (index_at s.opening history (n - 1)) base) (sym same) b) in (
+            replayed.0,
+            ap (λ (t : Bool). whole s.origin (cond t (asked_by p.0) (asked_at j pairs)) base) e ∙ replayed.1,
+            subst (λ (n : ℕ). StandsAs (index_at s.opening history n) replayed.0) same replayed.2,
+          )
+      by_made rest false e =
+          let fewer : times_made j pairs ≡ 1 = sym (ap (λ (t : Bool). cond t 1 0 + times_made j pairs) e ∙ (let z : 0 + times_made j pairs ≡ times_made j pairs = omega arith in z)) ∙ once in
+          let m = rest fewer in (
+            m.0,
+            ap (λ (t : Bool). whole s.origin (cond t (asked_by p.0) (asked_at j pairs)) base) e ∙ m.1,
+            m.2,
+          )
+
+  pub versions_stand : (zone : Version) (pairs : Pairs) → StandsAs s.opening zone → AllByRecursion (Replayed s history) pairs → ((j : ℕ) → 0 < j → j ≤ length history → times_made j pairs ≡ 1) → AreVersions s history (version_at s.origin zone pairs)
+  versions_stand zone pairs opens r once zero le = opens
+  versions_stand zone pairs opens r once (suc j) le =
+      let lt : j ≤ length history = omega arith in
+      let one : suc j - 1 ≡ j = omega arith in
+      let before = versions_stand zone pairs opens r once j lt in
+      let m = found (suc j) (version_at s.origin zone pairs j) pairs (once (suc j) (omega arith) le) r (subst (λ (n : ℕ). StandsAs (index_at s.opening history n) (version_at s.origin zone pairs j)) (sym one) before) in
+      subst (StandsAs (index_at s.opening history (suc j))) (sym (ap (accepted_or (version_at s.origin zone pairs j)) m.1)) m.2
+
+  -- ---- commits do what was asked for
+
+  each_asked : (j : ℕ) (before : List Commit) (e : Commit) (pairs : Pairs) → StartsWith history (before ++ e ∷ []) → length before + 1 ≡ j → times_made j pairs ≡ 1 → AllByRecursion (Replayed s history) pairs → IsAsked s (asked_at j pairs) before e.change
+  each_asked j before e [] begins numbered once r = absurd cc
+  each_asked j before e (p ∷ pairs) begins numbered once r = by_made (λ fewer. each_asked j before e pairs begins numbered fewer r.1) (made j p) refl
+    where
+      by_made : (times_made j pairs ≡ 1 → IsAsked s (asked_at j pairs) before e.change) → (t : Bool) → made j p ≡ t → IsAsked s (asked_at j (p ∷ pairs)) before e.change
+      by_made rest true is =
+          let both = is_both (is_committed p.1.ended) (eqb p.1.version j) is in
+          let same : p.1.version ≡ j = (let t : eqb p.1.version j ≡ true = both.1 in grind (arith, nat_tests)) in
+          subst (λ (t : Bool). IsAsked s (cond t (asked_by p.0) (asked_at j pairs)) before e.change) (sym is) ((r.0 both.0).1 before e begins (numbered ∙ sym same))
+      by_made rest false is =
+          let fewer : times_made j pairs ≡ 1 = sym (ap (λ (t : Bool). cond t 1 0 + times_made j pairs) is ∙ (let z : 0 + times_made j pairs ≡ times_made j pairs = omega arith in z)) ∙ once in
+          subst (λ (t : Bool). IsAsked s (cond t (asked_by p.0) (asked_at j pairs)) before e.change) (sym is) (rest fewer)
+
+  pub all_asked : (pairs : Pairs) → AllByRecursion (Replayed s history) pairs → ((j : ℕ) → 0 < j → j ≤ length history → times_made j pairs ≡ 1) → AreAsked s (λ j. asked_at j pairs) history
+  all_asked pairs r once before e begins =
+      let long = begins_length history (before ++ e ∷ []) begins in
+      each_asked (length before + 1) before e pairs begins refl (once (length before + 1) (omega arith) (omega (arith, long, length-append before (e ∷ [])))) r
+
 -- ---- passes, with a second one of a worker or without
 
 rest_all : (P : Known → Type 0) (two : Bool) (second : Known) (others : List Known) (main : Known) → AllByRecursion P ((second_view two second ++ others) ++ main ∷ []) → AllByRecursion P (others ++ main ∷ [])
@@ -233,7 +293,7 @@ module _ (s : Setup) (history : List Commit) (namings : List Naming) (main : Kno
       (all_weaker (λ (w : Worker s). StartsWith main.seen.history w.station.asks.seen.history) (λ (w : Worker s). length w.station.asks.seen.history ≤ length main.seen.history) ws (λ w b. begins_length main.seen.history w.station.asks.seen.history b) m.learnt) past in
       absurd (let z : 1 ≡ 0 = sym one ∙ all_times ws (length history) c.entries c.begins ∙ none in cc))
 
-  -- ---- the versions that the outcomes make are those of the history
+  -- ---- what all workers' outcomes are
 
   all_replayed : (ws : List (Worker s)) → AllByRecursion Sees (views_of main ws) → AllByRecursion (Replayed s history) (Made ws)
   all_replayed [] b = tt
@@ -250,43 +310,6 @@ module _ (s : Setup) (history : List Commit) (namings : List Naming) (main : Kno
       all-append (λ (p : Pair). p.1.version ≤ length history) (pairs_of w.commands w.outcomes.list.items) (Made ws)
       (all_weaker (λ (p : Pair). p.1.version ≤ length w.station.asks.seen.history) (λ (p : Pair). p.1.version ≤ length history) (pairs_of w.commands w.outcomes.list.items) (λ p le. omega (arith, le, long)) w.ran.work.none_above)
       (all_below ws (behind main Sees w ws b))
-
-  is_both : (c d : Bool) → (c && d) ≡ true → (c ≡ true) × (d ≡ true)
-  is_both true d h = (refl, h)
-  is_both false d h = absurd cc
-
-  abbrev Makes : ℕ → Version → Pairs → Type 0
-  Makes j base pairs = (next : Version) × (whole s.origin (asked_at j pairs) base ≡ Ok next) × StandsAs (index_at s.opening history j) next
-
-  found : (j : ℕ) (base : Version) (pairs : Pairs) → times_made j pairs ≡ 1 → AllByRecursion (Replayed s history) pairs → StandsAs (index_at s.opening history (j - 1)) base → Makes j base pairs
-  found j base [] once r b = absurd cc
-  found j base (p ∷ pairs) once r b = by_made (λ fewer. found j base pairs fewer r.1 b) (made j p) refl
-    where
-      by_made : (times_made j pairs ≡ 1 → Makes j base pairs) → (t : Bool) → made j p ≡ t → Makes j base (p ∷ pairs)
-      by_made rest true e =
-          let both = is_both (is_committed p.1.ended) (eqb p.1.version j) e in
-          let same : p.1.version ≡ j = (let t : eqb p.1.version j ≡ true = both.1 in grind (arith, nat_tests)) in
-          let replayed = (r.0 both.0).2 base (subst (λ (n : ℕ). StandsAs (index_at s.opening history (n - 1)) base) (sym same) b) in (
-            replayed.0,
-            ap (λ (t : Bool). whole s.origin (cond t (asked_by p.0) (asked_at j pairs)) base) e ∙ replayed.1,
-            subst (λ (n : ℕ). StandsAs (index_at s.opening history n) replayed.0) same replayed.2,
-          )
-      by_made rest false e =
-          let fewer : times_made j pairs ≡ 1 = sym (ap (λ (t : Bool). cond t 1 0 + times_made j pairs) e ∙ (let z : 0 + times_made j pairs ≡ times_made j pairs = omega arith in z)) ∙ once in
-          let m = rest fewer in (
-            m.0,
-            ap (λ (t : Bool). whole s.origin (cond t (asked_by p.0) (asked_at j pairs)) base) e ∙ m.1,
-            m.2,
-          )
-
-  versions_stand : (zone : Version) (pairs : Pairs) → StandsAs s.opening zone → AllByRecursion (Replayed s history) pairs → ((j : ℕ) → 0 < j → j ≤ length history → times_made j pairs ≡ 1) → AreVersions s history (version_at s.origin zone pairs)
-  versions_stand zone pairs opens r once zero le = opens
-  versions_stand zone pairs opens r once (suc j) le =
-      let lt : j ≤ length history = omega arith in
-      let one : suc j - 1 ≡ j = omega arith in
-      let before = versions_stand zone pairs opens r once j lt in
-      let m = found (suc j) (version_at s.origin zone pairs j) pairs (once (suc j) (omega arith) le) r (subst (λ (n : ℕ). StandsAs (index_at s.opening history n) (version_at s.origin zone pairs j)) (sym one) before) in
-      subst (StandsAs (index_at s.opening history (suc j))) (sym (ap (accepted_or (version_at s.origin zone pairs j)) m.1)) m.2
 
   -- ---- versions that a full index kept are shown
 
@@ -316,26 +339,6 @@ module _ (s : Setup) (history : List Commit) (namings : List Naming) (main : Kno
       shown_left (pairs_of w.commands w.outcomes.list.items) (Made ws) n.version (w.ran.work.pinned n.version (inr (pinned_as w.station.holds w.ran.work.holder n w.ran.work.is_holder second.1))))
       (λ (further : Some' (Pinned n) (views_of main ws)). shown_right (pairs_of w.commands w.outcomes.list.items) (Made ws) n.version (covered ws n own is pinned below further))
       (rest_some (Pinned n) w.has_second w.station.holds (workers_views ws) main more)
-
-  -- ---- commits do what was asked for
-
-  each_asked : (j : ℕ) (before : List Commit) (e : Commit) (pairs : Pairs) → StartsWith history (before ++ e ∷ []) → length before + 1 ≡ j → times_made j pairs ≡ 1 → AllByRecursion (Replayed s history) pairs → IsAsked s (asked_at j pairs) before e.change
-  each_asked j before e [] begins numbered once r = absurd cc
-  each_asked j before e (p ∷ pairs) begins numbered once r = by_made (λ fewer. each_asked j before e pairs begins numbered fewer r.1) (made j p) refl
-    where
-      by_made : (times_made j pairs ≡ 1 → IsAsked s (asked_at j pairs) before e.change) → (t : Bool) → made j p ≡ t → IsAsked s (asked_at j (p ∷ pairs)) before e.change
-      by_made rest true is =
-          let both = is_both (is_committed p.1.ended) (eqb p.1.version j) is in
-          let same : p.1.version ≡ j = (let t : eqb p.1.version j ≡ true = both.1 in grind (arith, nat_tests)) in
-          subst (λ (t : Bool). IsAsked s (cond t (asked_by p.0) (asked_at j pairs)) before e.change) (sym is) ((r.0 both.0).1 before e begins (numbered ∙ sym same))
-      by_made rest false is =
-          let fewer : times_made j pairs ≡ 1 = sym (ap (λ (t : Bool). cond t 1 0 + times_made j pairs) is ∙ (let z : 0 + times_made j pairs ≡ times_made j pairs = omega arith in z)) ∙ once in
-          subst (λ (t : Bool). IsAsked s (cond t (asked_by p.0) (asked_at j pairs)) before e.change) (sym is) (rest fewer)
-
-  all_asked : (pairs : Pairs) → AllByRecursion (Replayed s history) pairs → ((j : ℕ) → 0 < j → j ≤ length history → times_made j pairs ≡ 1) → AreAsked s (λ j. asked_at j pairs) history
-  all_asked pairs r once before e begins =
-      let long = begins_length history (before ++ e ∷ []) begins in
-      each_asked (length before + 1) before e pairs begins refl (once (length before + 1) (omega arith) (omega (arith, long, length-append before (e ∷ [])))) r
 
   -- ---- all are lawful
 
@@ -374,7 +377,7 @@ module _ (s : Setup) (history : List Commit) (namings : List Naming) (main : Kno
       let same = ends_there ws c m in
       let long : version ≡ length history = last ∙ sym (ap length same) in
       let once = made_once ws m.own m.is_own m.none c in
-      let are = versions_stand zone (Made ws) opens (all_replayed ws c.begins) once in
+      let are = versions_stand s history zone (Made ws) opens (all_replayed ws c.begins) once in
       let deeds : Deeds = record { shown = shown_in (Made ws); made_by = λ j. asked_at j (Made ws) } in
       let named : (n : Naming) → Contains namings n → n.version < length history → Contains (shown_in (Made ws)) n.version = λ n inside below. covered ws n m.own m.is_own m.pinned (subst (λ (h : List Commit). n.version < length h) same below) (c.namers n inside) in
       let stands = are (length history) (omega arith) in
@@ -382,7 +385,7 @@ module _ (s : Setup) (history : List Commit) (namings : List Naming) (main : Kno
         lawful = record {
           once = λ j some le. once j some (omega (arith, le, long));
           none_above = all_weaker (λ (p : Pair). p.1.version ≤ length history) (λ (p : Pair). p.1.version ≤ version) (Made ws) (λ p le. omega (arith, le, long)) (all_below ws c.begins);
-          along = all_along ws (versions_made s.origin zone (commands_in ws) (outcomes_in ws)) deeds are (named, all_asked (Made ws) (all_replayed ws c.begins) once) c.begins c.names;
+          along = all_along ws (versions_made s.origin zone (commands_in ws) (outcomes_in ws)) deeds are (named, all_asked s history (Made ws) (all_replayed ws c.begins) once) c.begins c.names;
         };
         tell = all_tell ws (versions_made s.origin zone (commands_in ws) (outcomes_in ws)) are c.begins;
         names_are =

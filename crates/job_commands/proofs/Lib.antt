@@ -13,3 +13,5 @@ pub mod CompactionLaws
 pub mod GatherLaws
 pub mod OpenLaws
 pub mod EndLaws
+pub mod SittingLaws
+mod SittingExamples

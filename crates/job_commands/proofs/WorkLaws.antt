@@ -19,6 +19,7 @@ use Rattle.qp_multi.specs.Operations.{applied}
 use Rattle.qp_multi.specs.Passes.{Known, first_version}
 use Rattle.job_commands.specs.Histories.{Setup, Commit, Entries, IsAsked, index_at, StandsAs, AreVersions, judged_by, times_by}
 use Rattle.job_commands.specs.Steps.{Station, IsSight, IsUnder, Adds, Stays, Writes, Step}
+use Rattle.job_commands.specs.Sittings.{sight_behind}
 use Rattle.job_commands.specs.Works.{Replayed, Work, Numbers, Begins, WorkerRan, ended}
 use Rattle.job_commands.proofs.HistoryLaws.{begins_same, begins_more, begins_length, begins_other, last_commit, opened_same, index_front, index_last, versions_front, explains_front, by-push, times_front, times_past, times_there, times_else}
 
@@ -42,10 +43,6 @@ all_weaker P Q (x ∷ xs) f a = (f x a.0, all_weaker P Q xs f a.1)
 pub all_both : {X : Type 0} (P Q R : X → Type 0) (xs : List X) → ((x : X) → P x → Q x → R x) → AllByRecursion P xs → AllByRecursion Q xs → AllByRecursion R xs
 all_both P Q R [] f a b = tt
 all_both P Q R (x ∷ xs) f a b = (f x a.0 b.0, all_both P Q R xs f a.1 b.1)
-
-abbrev pub sight_behind : Sight → Pairs → Sight
-sight_behind sight [] = sight
-sight_behind sight (p ∷ pairs) = sight_behind (sight_after sight p.0 p.1.version) pairs
 
 pub sight_behind-push : (sight : Sight) (pairs : Pairs) (p : Pair) → sight_behind sight (pairs ++ p ∷ []) ≡ sight_after (sight_behind sight pairs) p.0 p.1.version
 sight_behind-push sight [] p = refl

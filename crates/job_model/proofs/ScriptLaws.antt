@@ -216,6 +216,10 @@ after_kept : (Fact : Script → Type 0) (r : Read) (f : Script → Read) → IfR
 after_kept Fact (Ok s) f k next = next s k
 after_kept Fact (Err refusal) f k next = tt
 
+-- a script that took a line
+pub line_taken : (origin : Name) (Line : List ℕ → Type 0) (Fact : Script → Type 0) → IsKept origin Line Fact → (n : ℕ) (line : List ℕ) (s next : Script) → Line line → Fact s → script_line origin n line s ≡ Ok next → Fact next
+line_taken origin Line Fact k n line s next known so_far took = subst (IfRead Fact) took (line_kept origin Line Fact k n line s known so_far)
+
 lines_kept : (origin : Name) (Line : List ℕ → Type 0) (Fact : Script → Type 0) → IsKept origin Line Fact → (n : ℕ) (lines : List (List ℕ)) (s : Script) → AllByRecursion Line lines → Fact s
     → IfRead Fact (script_from origin n lines s)
 unfolding script_from

@@ -7,15 +7,15 @@ use Rattle.job_model.specs.Jobs.{Script, next_worker, script_of}
 use Rattle.job_model.proofs.ScriptLaws.{IsKept, AnyLine, any_lines, free, script_whole}
 
 -- whether a snapshot is held behind commands
-abbrev held_behind : Bool → List Command → Bool
+abbrev pub held_behind : Bool → List Command → Bool
 held_behind held [] = held
 held_behind held (command ∷ commands) = held_behind (held_after held command) commands
 
-held_behind-push : (held : Bool) (commands : List Command) (command : Command) → held_behind held (commands ++ command ∷ []) ≡ held_after (held_behind held commands) command
+pub held_behind-push : (held : Bool) (commands : List Command) (command : Command) → held_behind held (commands ++ command ∷ []) ≡ held_after (held_behind held commands) command
 held_behind-push held [] command = refl
 held_behind-push held (c ∷ commands) command = held_behind-push (held_after held c) commands command
 
-InTurn-push : (held : Bool) (commands : List Command) (command : Command) → InTurn held commands → MayCome (held_behind held commands) command → InTurn held (commands ++ command ∷ [])
+pub InTurn-push : (held : Bool) (commands : List Command) (command : Command) → InTurn held commands → MayCome (held_behind held commands) command → InTurn held (commands ++ command ∷ [])
 InTurn-push held [] command turn may = (may, tt)
 InTurn-push held (c ∷ commands) command turn may = (turn.0, InTurn-push (held_after held c) commands command turn.1 may)
 

@@ -12,3 +12,4 @@ pub mod Feeds
 pub mod Loads
 pub mod Summaries
 pub mod Needs
+pub mod Sessions

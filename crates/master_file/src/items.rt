@@ -96,7 +96,7 @@ impl<'a> LentItems<'a> {
         requires { item_limit ≤ length out.old }
         ensures { GivesItem result self.old self.new out.new }
     {
-        let owned = self.left.next()?;
-        Some(owned.encode(out))
+        let lent = self.left.next()?;
+        Some(lent.encode(out))
     }
 }

@@ -10,6 +10,7 @@ mod schedule;
 mod sinks;
 mod sources;
 mod standard;
+mod talk;
 mod writing;
 
 pub use noting::Notes;
@@ -18,4 +19,5 @@ pub use schedule::Failed;
 pub use sinks::{MemSink, QuietSink, Sink};
 pub use sources::{MemSource, QuietSource, Source};
 pub use standard::{StdSink, StdSource};
+pub use talk::Talk;
 pub use writing::write_all;

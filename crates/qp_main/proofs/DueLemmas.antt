@@ -1,5 +1,5 @@
 -- What is due for an input.
-use Rattle.std.proofs.Common.{◌≡◌, ◌∙◌, ℕ, ◌+◌, Bool, true, false, cond, leb, List, [], length, Option, Some, None, Result, Ok, Err, IfOk, refl, sym, ap, subst, arith, codes, length-append, append-nil, ◌++◌, ◌<◌, ◌≤◌}
+use Rattle.std.proofs.Common.{◌≡◌, ◌∙◌, ℕ, ◌+◌, Bool, true, false, cond, eqb, leb, List, [], length, Option, Some, None, Result, Ok, Err, IfOk, refl, sym, ap, subst, arith, codes, length-append, append-nil, ◌++◌, ◌<◌, ◌≤◌}
 use Rattle.std.proofs.lemmas.Bool.Decides.{nat_tests}
 use Rattle.std.specs.Fmt.{decimal}
 use Rattle.std.specs.Io.KnownBytes.{Consumes, IsAtEnd}
@@ -7,7 +7,7 @@ use Rattle.outer_io.specs.Bytes.{Held, GrowsByFront}
 use Rattle.outer_io.proofs.GrowsLemmas.{Grows-nil}
 use Rattle.zone_model.specs.Dumps.{dump}
 use Rattle.zone_model.specs.declared.Style.{Style}
-use Rattle.command_line.specs.Invocations.{Invocation, Verb, Run, Feed, Check, Make, Dump, Size, Zones}
+use Rattle.command_line.specs.Invocations.{Invocation, Verb, Run, Feed, Check, Make, Dump, Size, Zones, Diff}
 use Rattle.job_model.specs.Loads.{Load, made_origin, made_text}
 use Rattle.zone_model.specs.Names.{Name}
 use Rattle.zone_model.specs.Versions.{Version}
@@ -32,7 +32,11 @@ use Rattle.zone_text.specs.declared.refusal.ZoneRefusal.{ZoneRefusal}
 use Rattle.job_model.specs.Sizes.{cell_count}
 use Rattle.qp_multi.specs.Openings.{room_in}
 use Rattle.qp_main.specs.Fits.{fits, no_room_text, opened_text}
-use Rattle.qp_main.specs.Due.{Due, DueBytes, DueGiven, DueInput, Answers, FedAnswers, Checks, CutShort, Dumps, EndsLoad, IfAllFit, IfFits, Ends, JobRefuses, Refuses, RefusesScript, Reported, FedReported, Sized, Sizes, IsWritten, MayBeShort, Written, ZonesAnswers, ZonesReported, all_fit, input_of, is_streamed, streams, zone_kind_text, refusal_text}
+use Rattle.zone_diff.specs.Differences.{difference}
+use Rattle.zone_diff.specs.declared.DiffStyle.{DiffStyle}
+use Rattle.zone_diff.specs.declared.Serial.{Serial}
+use Rattle.qp_main.specs.Saids.{second_said, zone_said}
+use Rattle.qp_main.specs.Due.{Differs, Due, DueBytes, DueGiven, DueInput, Answers, FedAnswers, Checks, CutShort, Dumps, EndsLoad, IfAllFit, IfFits, Ends, JobRefuses, Refuses, RefusesScript, Reported, FedReported, Sized, Sizes, IsWritten, MayBeShort, Written, ZonesAnswers, ZonesReported, all_fit, input_of, is_streamed, streams, zone_kind_text, refusal_text}
 use Rattle.qp_main.specs.Stops.{IsStop, ScriptStopsFor, ZoneStopsFor}
 use Rattle.qp_main.specs.declared.refusing.Stop.{Stop}
 use Rattle.qp_main.specs.declared.refusing.Stop.TheVariants as stops
@@ -114,6 +118,7 @@ some_input Run chunks origin bytes e = absurd cc
 some_input (Feed workers) chunks origin bytes e = absurd cc
 some_input Size chunks origin bytes e = absurd cc
 some_input Zones chunks origin bytes e = absurd cc
+some_input (Diff style serial) chunks origin bytes e = absurd cc
 some_input Check chunks origin bytes e = absurd cc
 some_input (Make load) chunks origin bytes e = absurd cc
 some_input (Dump style) chunks origin bytes e = some_dump chunks style origin (zone_of origin (zone_lines bytes))
@@ -241,6 +246,7 @@ IsAnswer status.SomeRefused = Unit {0}
 IsAnswer status.ZoneRefused = Unit {0}
 IsAnswer status.ScriptRefused = Unit {0}
 IsAnswer status.DoesNotFit = Unit {0}
+IsAnswer status.Differ = Unit {0}
 IsAnswer _ = ⊥
 
 answer_as : (s t : Status) → s ≡ t → IsAnswer t → IsAnswer s
@@ -304,12 +310,22 @@ dump_answer : (chunks : ℕ) (style : Style) (origin : Name) (r : Result Version
 dump_answer chunks style origin (Ok zone) s text h = if_fits_answers (fits chunks zone) chunks zone (Ends status.Done (dump style origin zone)) s text (λ k. answer_as s status.Done k.0 tt) h
 dump_answer chunks style origin (Err e) s text h = answer_as s status.ZoneRefused h.0 tt
 
+differ_answer : (style : DiffStyle) (serial : Serial) (origin : Name) (first second : Result Version (Refused ZoneKind)) (s : Status) (text : List ℕ) → Differs style serial origin first second s text → IsAnswer s
+differ_answer style serial origin (Err e) second s text h = answer_as s status.ZoneRefused h.0 tt
+differ_answer style serial origin (Ok before) (Err e) s text h = answer_as s status.ZoneRefused h.0 tt
+differ_answer style serial origin (Ok before) (Ok after) s text h = answer_as s (cond (eqb (length (difference serial before after)) 0) status.Done status.Differ) h.ended (by_same (eqb (length (difference serial before after)) 0))
+  where
+    by_same : (b : Bool) → IsAnswer (cond b status.Done status.Differ)
+    by_same true = tt
+    by_same false = tt
+
 pub due_answer : (verb : Verb) (chunks : ℕ) (origin : Name) (bytes : List ℕ) (s : Status) (text : List ℕ) → DueInput verb chunks origin bytes s text → IsAnswer s
 due_answer Run chunks origin bytes s text h = job_answer Report chunks (job_of origin bytes) s text h
 due_answer (Feed workers) chunks origin bytes s text h = fed_answer workers chunks (fed_job_of origin bytes) s text h
 due_answer (Make load) chunks origin bytes s text h = job_answer Summary chunks (job_of origin bytes) s text h
 due_answer Size chunks origin bytes s text h = sizes_answer (job_of origin bytes) s text h
 due_answer Zones chunks origin bytes s text h = zones_answer chunks (zones_job_of bytes) s text h
+due_answer (Diff style serial) chunks origin bytes s text h = differ_answer style serial origin (zone_said origin bytes) (second_said origin bytes) s text h
 due_answer Check chunks origin bytes s text h = check_answer chunks (zone_of origin (zone_lines bytes)) s text h
 due_answer (Dump style) chunks origin bytes s text h = dump_answer chunks style origin (zone_of origin (zone_lines bytes)) s text h
 
@@ -319,6 +335,7 @@ answer_written status.SomeRefused a = tt
 answer_written status.ZoneRefused a = tt
 answer_written status.ScriptRefused a = tt
 answer_written status.DoesNotFit a = tt
+answer_written status.Differ a = tt
 answer_written status.WordsRefused a = tt
 answer_written status.TooLong a = tt
 answer_written status.SourceFault a = a
@@ -352,6 +369,7 @@ load_ended status.WordsRefused f n = f tt
 load_ended status.ZoneRefused f n = f tt
 load_ended status.ScriptRefused f n = f tt
 load_ended status.TooLong f n = f tt
+load_ended status.Differ f n = f tt
 
 -- ---- statuses
 
@@ -371,3 +389,4 @@ short_is streamed status.ZoneRefused short n = absurd short
 short_is streamed status.ScriptRefused short n = absurd short
 short_is streamed status.TooLong short n = absurd short
 short_is streamed status.DoesNotFit short n = absurd short
+short_is streamed status.Differ short n = absurd short

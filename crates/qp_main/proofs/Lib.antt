@@ -10,3 +10,4 @@ pub mod ListLemmas
 pub mod ZonesLemmas
 pub mod OpensLemmas
 pub mod WritingLemmas
+pub mod DifferLemmas

@@ -3,7 +3,7 @@ use Rattle.std.proofs.Common.{◌≡◌, ◌∙◌, ℕ, List, Result, Ok, Err, 
 use Rattle.zone_model.specs.Names.{Name}
 use Rattle.zone_model.specs.Versions.{Version}
 use Rattle.zone_model.specs.Refusals.{Refused, ◌>>=◌}
-use Rattle.zone_model.specs.MasterFile.{Zone, zone_of}
+use Rattle.zone_model.specs.MasterFile.{Zone, zone_at, zone_of}
 use Rattle.zone_model.specs.declared.Style.{Style}
 use Rattle.zone_model.specs.declared.ZoneKind.{ZoneKind}
 use Rattle.job_model.specs.Commands.{Command, FedJob, Job}
@@ -11,7 +11,9 @@ use Rattle.job_model.specs.Jobs.{JobRefusal, zone_lines, script_lines, script_st
 use Rattle.job_model.specs.declared.ScriptKind.{ScriptKind}
 use Rattle.zone_text.specs.Views.{Reads}
 use Rattle.zone_text.specs.declared.refusal.ZoneRefusal.{ZoneRefusal}
-use Rattle.qp_main.specs.Due.{Answers, Checks, Dumps, FedAnswers, RefusesScript, Sizes}
+use Rattle.zone_diff.specs.declared.DiffStyle.{DiffStyle}
+use Rattle.zone_diff.specs.declared.Serial.{Serial}
+use Rattle.qp_main.specs.Due.{Answers, Checks, Differs, Dumps, FedAnswers, RefusesScript, Sizes}
 use Rattle.qp_main.specs.Stops.{IsStop, JobStops, ZoneStops, ZoneStopsFor}
 use Rattle.qp_main.specs.declared.refusing.Stop.{Stop}
 use Rattle.qp_main.specs.declared.refusing.Stop.TheVariants as stops
@@ -23,6 +25,28 @@ use Rattle.qp_main.proofs.DueLemmas.{stop_as}
 pub zone_is_refused : (origin : Name) (lines wanted : List (List ℕ)) (r : ZoneRefusal) (s : Stop) → lines ≡ wanted → Reads {R = Zone} (Err r) (λ z. z.pairs) (zone_of origin lines) → ZoneStopsFor r s → IsStop (ZoneStops (zone_of origin wanted)) s
 zone_is_refused origin lines wanted r (stops.Refused status text) same z h = subst (λ (x : Result Version (Refused ZoneKind)). ZoneStops x status text) (sym (ap (zone_of origin) (sym same) ∙ z h.0)) h.1
 zone_is_refused origin lines wanted r stops.Memory same z h = tt
+
+-- the same of lines that begin with another number
+pub zone_from_is_refused : (first wanted_first : ℕ) (origin : Name) (lines wanted : List (List ℕ)) (r : ZoneRefusal) (s : Stop) → first ≡ wanted_first → lines ≡ wanted → Reads {R = Zone} (Err r) (λ z. z.pairs) (zone_at first origin lines) → ZoneStopsFor r s
+    → IsStop (ZoneStops (zone_at wanted_first origin wanted)) s
+zone_from_is_refused first wanted_first origin lines wanted r (stops.Refused status text) number same z h =
+    subst (λ (x : Result Version (Refused ZoneKind)). ZoneStops x status text) (sym (ap (λ (n : ℕ). zone_at n origin wanted) (sym number) ∙ ap (zone_at first origin) (sym same) ∙ z h.0)) h.1
+zone_from_is_refused first wanted_first origin lines wanted r stops.Memory number same z h = tt
+
+-- ---- two zones
+
+pub first_stops : (style : DiffStyle) (serial : Serial) (origin : Name) (first second : Result Version (Refused ZoneKind)) (s : Stop) → IsStop (ZoneStops first) s → IsStop (Differs style serial origin first second) s
+first_stops style serial origin (Ok zone) second (stops.Refused status text) h = absurd h
+first_stops style serial origin (Ok zone) second stops.Memory h = tt
+first_stops style serial origin (Err e) second (stops.Refused status text) h = h
+first_stops style serial origin (Err e) second stops.Memory h = tt
+
+pub second_stops : (style : DiffStyle) (serial : Serial) (origin : Name) (first second : Result Version (Refused ZoneKind)) (before : Version) (s : Stop) → first ≡ Ok before → IsStop (ZoneStops second) s → IsStop (Differs style serial origin first second) s
+second_stops style serial origin (Err e) second before s is h = absurd cc
+second_stops style serial origin (Ok zone) (Ok after) before (stops.Refused status text) is h = absurd h
+second_stops style serial origin (Ok zone) (Ok after) before stops.Memory is h = tt
+second_stops style serial origin (Ok zone) (Err e) before (stops.Refused status text) is h = h
+second_stops style serial origin (Ok zone) (Err e) before stops.Memory is h = tt
 
 -- ---- a zone that is only read
 

@@ -1,5 +1,5 @@
 -- What is due for words and bytes: a status, and the text to be written.
-use Rattle.std.specs.Prelude.{◌≡◌, ◌≢◌, ℕ, Bool, true, false, List, nat_le, ◌++◌, ◌≤◌, IsTrue, length, if◌then◌else◌, Option, Some, None, Result, Ok, Err, codes, map, Contains}
+use Rattle.std.specs.Prelude.{◌≡◌, ◌≢◌, ℕ, Bool, true, false, List, nat_le, ◌==◌, ◌++◌, ◌≤◌, IsTrue, length, if◌then◌else◌, Option, Some, None, Result, Ok, Err, codes, map, Contains}
 use Rattle.std.specs.List.{list_all}
 use Rattle.std.specs.declared.cmp.Ordering.TheVariants.{Less}
 use Rattle.std.specs.Fmt.{decimal}
@@ -8,7 +8,7 @@ use Rattle.zone_model.specs.Versions.{Version}
 use Rattle.zone_model.specs.Refusals.{Refused}
 use Rattle.zone_model.specs.MasterFile.{Zone}
 use Rattle.job_model.specs.Commands.{FedJob, Job}
-use Rattle.job_model.specs.Jobs.{JobRefusal, ZoneRefused, ScriptRefused, job_of, fed_job_of}
+use Rattle.job_model.specs.Jobs.{JobRefusal, ZoneRefused, ScriptRefused, job_of, fed_job_of, list_of}
 use Rattle.trie_model.specs.Capacity.{IsLeast}
 use Rattle.job_model.specs.Needs.{most_cells, most_operations}
 use Rattle.job_model.specs.Outcomes.{Pair, Lawful, all_pairs, passes_for, some_refused}
@@ -29,11 +29,20 @@ use Rattle.job_report.specs.Pieces.{pieces_text}
 use Rattle.job_report.specs.declared.pieces.Pieces.{Pieces}
 use Rattle.outer_io.specs.Bytes.{Held, Grows, GrowsByFront}
 use Rattle.zone_model.specs.Dumps.{dump}
+use Rattle.zone_model.specs.Lines.{lines_of}
+use Rattle.zone_diff.specs.Blocks.{blocks, in_turn}
+use Rattle.zone_diff.specs.Differences.{difference, made}
+use Rattle.zone_diff.specs.Texts.{text_in}
+use Rattle.zone_diff.specs.Commands.{committed}
+use Rattle.zone_diff.specs.declared.DiffStyle.{DiffStyle}
+use Rattle.zone_diff.specs.declared.DiffStyle.TheVariants.{Script}
+use Rattle.zone_diff.specs.declared.Serial.{Serial}
+use Rattle.zone_diff.specs.declared.Serial.TheVariants.{Keep}
 use Rattle.zone_model.specs.declared.Style.{Style}
-use Rattle.command_line.specs.Invocations.{Invocation, Verb, Run, Feed, Check, Make, Dump, Size, Zones}
+use Rattle.command_line.specs.Invocations.{Invocation, Verb, Run, Feed, Check, Make, Dump, Size, Zones, Diff}
 use Rattle.qp_main.specs.Fits.{fits, no_room_text, opened_text}
 use Rattle.qp_main.specs.Needs.{needs_text}
-use Rattle.qp_main.specs.Saids.{zone_said}
+use Rattle.qp_main.specs.Saids.{second_said, zone_said}
 use Rattle.qp_main.specs.Tellings.{told_text}
 use Rattle.qp_main.specs.declared.run_report.Telling.{Telling}
 use Rattle.qp_main.specs.declared.run_report.Telling.TheVariants.{Report, Summary}
@@ -189,6 +198,22 @@ abbrev pub Dumps : ℕ → Style → Name → Result Version (Refused ZoneKind) 
 Dumps chunks style origin (Ok zone) = IfFits (fits chunks zone) chunks zone (Ends status.Done (dump style origin zone))
 Dumps chunks style origin (Err e) = ZoneRefuses e
 
+-- What makes of a zone another one: the text has its transactions. Each of these is taken, one after another on the zone before, and
+-- together they make the zone after, but for its serial where that doesn't count. A script is read back as these transactions, where
+-- they are no more than a list of commands may have. The status says whether there is any.
+pub record Different (style : DiffStyle) (serial : Serial) (origin : Name) (before after : Version) (s : Status) (text : List ℕ) : Type 0 where
+  pub is : text ≡ text_in style origin (difference serial before after)
+  pub taken : in_turn origin (blocks (difference serial before after)) before ≡ Ok (made serial origin before after)
+  pub the_other : serial ≡ Keep → made serial origin before after ≡ after
+  pub read_back : style ≡ Script → length (blocks (difference serial before after)) ≤ 10000 → list_of origin 1 (lines_of text) ≡ Ok (map committed (blocks (difference serial before after)))
+  pub ended : s ≡ (if length (difference serial before after) == 0 then status.Done else status.Differ)
+
+-- the status and the text for the two zones that bytes say; what is wrong with the first is told first
+abbrev pub Differs : DiffStyle → Serial → Name → Result Version (Refused ZoneKind) → Result Version (Refused ZoneKind) → Status → List ℕ → Type 0
+Differs style serial origin (Err e) second = ZoneRefuses e
+Differs style serial origin (Ok before) (Err e) = ZoneRefuses e
+Differs style serial origin (Ok before) (Ok after) = Different style serial origin before after
+
 -- what is due for bytes within the limit; a check and a dump read the zone alone
 abbrev pub DueInput : Verb → ℕ → Name → List ℕ → Status → List ℕ → Type 0
 DueInput Run chunks origin bytes = Answers Report chunks (job_of origin bytes)
@@ -197,6 +222,7 @@ DueInput (Make load) chunks origin bytes = Answers Summary chunks (job_of origin
 DueInput Size chunks origin bytes = Sizes (job_of origin bytes)
 DueInput Zones chunks origin bytes = ZonesAnswers chunks (zones_job_of bytes)
 DueInput Check chunks origin bytes = Checks chunks (zone_said origin bytes)
+DueInput (Diff style serial) chunks origin bytes = Differs style serial origin (zone_said origin bytes) (second_said origin bytes)
 DueInput (Dump style) chunks origin bytes = Dumps chunks style origin (zone_said origin bytes)
 
 -- the same by an invocation

@@ -25,13 +25,16 @@ pub use Rattle.trie_write.specs.Entries.{entries_of_items}
 pub use Rattle.trie_size.specs.Sizes.{IsSizeOf}
 pub use Rattle.job_commands.specs.Histories.{IsZone}
 pub use Rattle.zones_threads.specs.Sites.{IsSaid}
-pub use Rattle.qp_main.specs.Due.{Answers, Checks, CutShort, Due, DueUnder, Dumps, EndsLoad, FedAnswers, GaveFor, IsAnswerDue, IsMade, IsUnwritten}
+pub use Rattle.qp_main.specs.Due.{Answers, Checks, CutShort, Differs, Due, DueUnder, Dumps, EndsLoad, FedAnswers, GaveFor, IsAnswerDue, IsMade, IsUnwritten}
 pub use Rattle.qp_main.specs.Due.{IsWritten, MayBeShort, RefusesScript, Sized, Sizes, Written, ZonesAnswers, input_of}
 pub use Rattle.qp_main.specs.Due.{is_streamed, refusal_text, script_kind_text, streams, zone_kind_text}
 pub use Rattle.qp_main.specs.Invocations.{DueFor, invocation_in}
 pub use Rattle.qp_main.specs.Jobs.{fed_job_on, job_on, zones_job_on}
 pub use Rattle.qp_main.specs.Needs.{AreNeedsOf, chunks_text, needs_text}
 pub use Rattle.qp_main.specs.Opens.{AreAllItems, AreItemsOf}
-pub use Rattle.qp_main.specs.Saids.{IsRead, zone_said}
+pub use Rattle.qp_main.specs.Saids.{IsRead, second_said, zone_said}
 pub use Rattle.qp_main.specs.Stops.{IsStop, JobStops, ListStops, ScriptStops, ZoneStops}
 pub use Rattle.qp_main.specs.Tellings.{finished_text}
+pub use Rattle.zone_model.specs.MasterFile.{zone_at}
+pub use Rattle.zone_diff.specs.Differences.{difference}
+pub use Rattle.zone_diff.specs.declared.Serial.{Serial}

@@ -1,11 +1,11 @@
 //! An input: the bytes of a zone or of several zones, and those of a script behind them.
 ghost use Rattle.std.specs.Prelude.{◌≡◌, ◌<◌, ◌≤◌, ◌+◌, ◌^◌, List, length, IfOk, IfErr, Ok, vec_len, false};
-ghost use Rattle.qp_main.specs.Prelude.{AllByRecursion, lines_of, zone_said, IsName, CanBeDumped, InTurn, NeedsNoSnapshot, fed_job_of, job_of};
+ghost use Rattle.qp_main.specs.Prelude.{AllByRecursion, lines_of, second_said, zone_said, IsName, CanBeDumped, InTurn, NeedsNoSnapshot, fed_job_of, job_of};
 ghost use Rattle.qp_main.specs.Prelude.{list_of, script_lines, script_of, script_start, zone_lines, job_view, list_view, AllAsked, zones_of};
 ghost use Rattle.qp_main.specs.Prelude.{AreListed, workers_view, IsSaid, RefusesScript, IsRead, IsStop, JobStops, ListStops, ScriptStops, ZoneStops};
 ghost use Rattle.zones_script.specs.Scripts as over_zones;
 
-use crate::reading::{job_in, list_in, zone_in, zones_in, zones_script_in};
+use crate::reading::{job_in, list_in, zone_from, zone_in, zones_in, zones_script_in};
 use crate::refusal_lines::script_refused;
 use crate::refusing::{Stop, script_stop, zone_stop};
 use crate::status::Status;
@@ -78,6 +78,18 @@ impl Input {
         ensures stops { IfErr result (IsStop (ZoneStops (zone_said origin.now self.now))) }
     {
         match zone_in(alloc, self.zone_bytes(), origin) {
+            Ok(zone) => Ok(zone),
+            Err(refusal) => Err(zone_stop(refusal)),
+        }
+    }
+
+    /// The zone behind the cut, whose lines are counted through the whole input; or what is told in the place of that.
+    pub fn second_zone(&self, alloc: Global, origin: &Name) -> Result<Zone, Stop>
+        ensures zone { IfOk result (λ z. second_said origin.now self.now ≡ Ok z.pairs) }
+        ensures of_origin { IfOk result (λ z. CanBeDumped origin.now z.pairs) }
+        ensures stops { IfErr result (IsStop (ZoneStops (second_said origin.now self.now))) }
+    {
+        match zone_from(alloc, self.script_bytes(), self.first_line(), origin) {
             Ok(zone) => Ok(zone),
             Err(refusal) => Err(zone_stop(refusal)),
         }

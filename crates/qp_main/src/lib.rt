@@ -1,8 +1,10 @@
 //! The program: reads a job (a zone and its workers' script), runs it, and prints the report; or hands one list of commands
 //! out to workers; or reads a zone and says how large its index is, or writes it as a master file; or makes a job, runs it, and sums
-//! it up; or reads a job and says how many chunks it needs; or runs a job over several zones.
+//! it up; or reads a job and says how many chunks it needs; or runs a job over several zones; or
+//! reads two zones and writes what makes of the first the second.
 #![tactic(auto)]
 
+mod differing;
 mod dumping;
 mod feeding;
 mod input;

@@ -5,6 +5,7 @@ ghost use Rattle.qp_main.specs.Prelude.{Due, DueFor, GaveFor, Consumes, zone_sai
 ghost use Rattle.qp_main.specs.Prelude.{load_view, IsUnder, Make, invocation_in, invocation_view, verb_view, IsStop, Answers, Checks, CutShort};
 ghost use Rattle.qp_main.specs.Prelude.{DueUnder, EndsLoad, IsAnswerDue, IsMade, IsUnwritten, IsWritten, MayBeShort, Written, input_of, is_streamed, streams};
 
+use crate::differing::compare_zones;
 use crate::dumping::dump_input;
 use crate::feeding::answer_list;
 use crate::input::Input;
@@ -94,6 +95,7 @@ fn serve_input<R: Threads + Wait + Sync, K: Sink, G: Gate>(
         Verb::Check => check_zone(alloc, invocation, input),
         Verb::Size => size_job(alloc, invocation, input),
         Verb::Zones => answer_zones(rt, alloc, invocation, input, gate),
+        Verb::Diff(comparison) => compare_zones(alloc, invocation, comparison, input),
     };
     match due {
         Ok((status, text)) => write_answer(sink, status, &text),
@@ -200,6 +202,7 @@ fn serve_invocation<R: Threads + Wait + Sync, S: Source, K: Sink, G: Gate>(
         Verb::Check => serve(rt, alloc, invocation, source, sink, gate),
         Verb::Size => serve(rt, alloc, invocation, source, sink, gate),
         Verb::Zones => serve(rt, alloc, invocation, source, sink, gate),
+        Verb::Diff(_) => serve(rt, alloc, invocation, source, sink, gate),
         Verb::Dump(_) => serve(rt, alloc, invocation, source, sink, gate),
     }
 }

@@ -1,12 +1,12 @@
 //! What octets say, read with what is so of all that they may say.
 ghost use Rattle.std.specs.Prelude.{◌≡◌, ◌<◌, ◌≤◌, ◌+◌, ◌^◌, List, length, IfOk, vec_len, false};
-ghost use Rattle.qp_main.specs.Prelude.{AllByRecursion, lines_of, zone_of, Reads, CanBeDumped, InTurn, NeedsNoSnapshot, list_of, script_of};
+ghost use Rattle.qp_main.specs.Prelude.{AllByRecursion, lines_of, zone_at, zone_of, Reads, CanBeDumped, InTurn, NeedsNoSnapshot, list_of, script_of};
 ghost use Rattle.qp_main.specs.Prelude.{Says, job_view, list_view, AllAsked, IsName, workers_view, zones_of, AreListed, IsRead, IsSaid};
 ghost use Rattle.zones_script.specs.Scripts as over_zones;
 
 use dns_name::Name;
 use job_script::{Command, Job, JobRefusal, read_job, read_list};
-use master_file::{Zone, read_zone};
+use master_file::{Zone, read_zone, read_zone_at};
 use std::alloc::Global;
 use zone_list::read_zones;
 use zone_text::ZoneRefusal;
@@ -21,6 +21,23 @@ pub fn zone_in(alloc: Global, bytes: &[u8], origin: &Name) -> Result<Zone, ZoneR
 {
     let _wire = origin.wire(); // for the proof: it is a name
     read_zone(alloc, bytes, origin)
+}
+
+/// The same where the first line has another number.
+pub fn zone_from(
+    alloc: Global,
+    bytes: &[u8],
+    first_line: u32,
+    origin: &Name,
+) -> Result<Zone, ZoneRefusal>
+    requires short { length bytes.now ≤ 2 ^ 24 }
+    requires early { first_line ≤ 2 ^ 25 }
+    ensures zone { Reads result (λ z. z.pairs) (zone_at first_line origin.now (lines_of bytes.now)) }
+    ensures of_origin { IfOk result (λ z. CanBeDumped origin.now z.pairs) }
+    ensures origin { IfOk result (λ z. z.origin ≡ origin.now) }
+{
+    let _wire = origin.wire(); // for the proof: it is a name
+    read_zone_at(alloc, bytes, first_line, origin)
 }
 
 /// The job whose script octets say. What its commands ask for are changes of a zone of the origin.

@@ -25,10 +25,12 @@ pub enum Status {
     TooLong,
     /// The zone may need more cells than the chunks have.
     DoesNotFit,
+    /// What makes of a zone another one was written, and it is something.
+    Differ,
 }
 
 impl Status {
-    /// The exit status, from 0 to 9 in the order of the variants.
+    /// The exit status, from 0 to 9 in the order of the variants; 1 where zones differ, as where a block is refused.
     pub fn code(self) -> u8
         ensures { result ≡ code_of self }
     {
@@ -43,6 +45,7 @@ impl Status {
             Status::NoMemory => 7,
             Status::TooLong => 8,
             Status::DoesNotFit => 9,
+            Status::Differ => 1,
         }
     }
 }

@@ -42,11 +42,12 @@ pub struct Locked<'i, L: Law, N: Named> {
 fn leave<N: Named>(lock: HeldLock<'_, N>, place: u32, desk: Desk)
     requires { slice_get N.tables place ≡ Some desk.seat.place.table_id }
 {
-    let _there = lock.put_back(Turn {
+    let turn = Turn {
         place,
         desk,
         names: PhantomData,
-    });
+    };
+    let _there = lock.put_back(turn);
 }
 
 impl<L: Law, N: Named> Drop for Locked<'_, L, N> {

@@ -20,10 +20,10 @@ use Rattle.job_model.specs.Words.{says}
 use Rattle.job_model.specs.Questions.{asked_of, response_wanted}
 use Rattle.job_model.specs.Phrases.{Phrase, Worker, Asks, AsksWhole, Holds, AsksHeld, AsksHeldWhole, asks_held, Releases, Opens, Needs, Adds, Deletes, Ends, Compacts, without_parens, script_tokens, lone_word, adds, needs, argued, no_question, phrase_of}
 use Rattle.job_model.specs.Arguments.{needed, inner_name, octets_needed, addition_of, deletion_of}
-use Rattle.job_model.proofs.ScriptLaws.{IsKept, IsLone, IsOn, free, operation_of, script_whole, list_whole}
-use Rattle.job_model.specs.Jobs.{Unfinished, Script, next_worker, script_of, list_of}
+use Rattle.job_model.proofs.ScriptLaws.{IsKept, IsLone, IsOn, free, operation_of, line_taken, script_whole, list_whole}
+use Rattle.job_model.specs.Jobs.{Unfinished, Script, next_worker, script_line, script_of, list_of}
 use Rattle.report_laws.specs.Octets.{AllOctets}
-use Rattle.report_laws.specs.Changes.{IsInside, IsSaid, AllSaid, AllAsked}
+use Rattle.report_laws.specs.Changes.{IsInside, IsSaid, IsBlock, AllSaid, AllAsked}
 use Rattle.report_laws.proofs.DataLemmas.{IsTokenText, AllTexts, data_is, bound}
 use Rattle.report_laws.proofs.TokenLemmas.{either, line_is, fresh_is}
 use Rattle.report_laws.proofs.ReaderLemmas.{name_said, time_said, type_said}
@@ -172,10 +172,6 @@ deletion_is origin n owner (rtype ∷ first ∷ rest) operation b o h =
 
 -- ---- scripts
 
-abbrev IsBlock : Name → Option Unfinished → Type 0
-IsBlock origin None = Unit {0}
-IsBlock origin (Some b) = AllSaid origin b.asked
-
 abbrev pub AllCommands : Name → List Command → Type 0
 AllCommands origin commands = AllByRecursion (AllAsked origin) commands
 
@@ -183,10 +179,10 @@ abbrev pub AllLists : Name → List (List Command) → Type 0
 AllLists origin lists = AllByRecursion (AllCommands origin) lists
 
 -- a script so far
-record IsScript (origin : Name) (s : Script) : Type 0 where
-  earlier : AllLists origin s.earlier
-  commands : AllCommands origin s.commands
-  block : IsBlock origin s.block
+pub record IsScript (origin : Name) (s : Script) : Type 0 where
+  pub earlier : AllLists origin s.earlier
+  pub commands : AllCommands origin s.commands
+  pub block : IsBlock origin s.block
 
 -- a command that is no block asks for no change
 lone_asks : (origin : Name) (command : Command) → IsLone command → AllAsked origin command
@@ -233,6 +229,11 @@ kept origin o = record {
   };
   block = λ b s ending h. record { earlier = h.earlier; commands = all_push (AllAsked origin) s.commands (Block b.weight b.asked ending) h.commands h.block; block = tt };
 }
+
+-- ---- one line
+
+pub line_asks : (origin : Name) (n : ℕ) (line : List ℕ) (s next : Script) → IsName origin → AllOctets line → IsScript origin s → script_line origin n line s ≡ Ok next → IsScript origin next
+line_asks origin n line s next o l = line_taken origin AllOctets (IsScript origin) (kept origin o) n line s next l
 
 -- ---- the whole
 

@@ -1,5 +1,5 @@
 -- Operations and commands as scripts say them.
-use Rattle.std.specs.Prelude.{◌≡◌, true}
+use Rattle.std.specs.Prelude.{◌≡◌, true, Option, Some, None}
 use Rattle.std.specs.List.{AllByRecursion}
 use Rattle.zone_model.specs.Names.{Name, IsName, is_under}
 use Rattle.zone_model.specs.Versions.{Operation, Add, DeleteName, DeleteSet, DeleteRecord, Addition}
@@ -7,6 +7,7 @@ use Rattle.zone_model.specs.Rows.{Row}
 use Rattle.zone_model.specs.Transactions.{Transaction}
 use Rattle.master_file.specs.Rows.{IsRecord}
 use Rattle.job_model.specs.Commands.{Command}
+use Rattle.job_model.specs.Jobs.{Unfinished}
 use Rattle.job_model.specs.Outcomes.{asked_by}
 
 -- a name at or under the origin
@@ -32,3 +33,8 @@ AllSaid origin t = AllByRecursion (IsSaid origin) t.operations
 -- and each of those that commands ask for
 abbrev pub AllAsked : Name → Command → Type 0
 AllAsked origin command = AllSaid origin (asked_by command)
+
+-- so is what is asked of a transaction that is open
+abbrev pub IsBlock : Name → Option Unfinished → Type 0
+IsBlock origin None = Unit {0}
+IsBlock origin (Some b) = AllSaid origin b.asked

@@ -24,4 +24,5 @@ returns-in_default c =
     (past word (codes "dump") _ _ None none.not-dump
     (past word (codes "feed") _ _ None none.not-feed
     (past word (codes "size") _ _ None none.not-size
-    (past word (codes "zones") _ _ None none.not-zones refl)))))))
+    (past word (codes "zones") _ _ None none.not-zones
+    (past word (codes "diff") _ _ None none.not-diff refl))))))))

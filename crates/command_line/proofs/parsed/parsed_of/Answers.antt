@@ -1,4 +1,4 @@
-use Rattle.std.proofs.Common.{◌≡◌, ◌∙◌, sym, map}
+use Rattle.std.proofs.Common.{◌∙◌, sym, map}
 use Rattle.std.specs.String.{string_bytes}
 use Rattle.clap.specs.Simple.{app_of}
 use Rattle.command_line.proofs.ParsedLemmas.{refused, taken, told}

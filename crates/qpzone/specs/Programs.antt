@@ -1,0 +1,21 @@
+-- What the program does with the words that it was started with.
+use Rattle.std.specs.Prelude.{◌≡◌, ℕ, List, [], Option, None, Bool, Result, Ok, Err, String}
+use Rattle.std.specs.Vec.Iter.{into_iter_items}
+use Rattle.std.specs.declared.vec.IntoIter.{IntoIter}
+use Rattle.outer_io.specs.Bytes.{Held}
+use Rattle.qp_main.specs.Prelude.{CutShort, Due, GaveFor, IsUnwritten, IsWritten, MayBeShort, Written, invocation_in, streams}
+use Rattle.qp_main.specs.declared.status.Status.{Status}
+use Rattle.qp_main.specs.declared.status.Status.TheVariants as Status
+
+-- What was written is due for the words: whole under a status that says so, a front of it where the sink failed or a dump ran out of
+-- memory, and else nothing.
+pub record Ran {Z : Type 0} (words : List (String Z)) (given given' : List ℕ) (ended : Bool) (held held' : Held) (status : Status) : Type 0 where
+  pub whole : IsWritten status → GaveFor (invocation_in words) given given' ended (λ left. Written (Due (invocation_in words) left) held held' status)
+  pub front : MayBeShort (streams (invocation_in words)) status → (held' ≡ held → ⊥) → GaveFor (invocation_in words) given given' ended (λ left. CutShort (Due (invocation_in words) left) held held')
+  pub unwritten : IsUnwritten (streams (invocation_in words)) status → held' ≡ held
+  pub refused : status ≡ Status.WordsRefused → invocation_in words ≡ None
+
+-- the words, where the runtime gives them: it gives none where one of them isn't UTF-8
+abbrev pub words_in : {Z E : Type 0} → Result (IntoIter (String Z) Z) E → List (String Z)
+words_in (Ok args) = into_iter_items args
+words_in (Err e) = []

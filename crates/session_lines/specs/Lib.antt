@@ -1,0 +1,5 @@
+pub mod Taking
+pub mod Views
+pub mod Printing
+pub mod Well
+pub mod Prelude

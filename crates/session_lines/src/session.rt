@@ -1,0 +1,189 @@
+//! What one line of a session says.
+ghost use Rattle.std.specs.Prelude.{◌≡◌, ◌<◌, ◌≤◌, ◌∷◌, ◌++◌, ◌^◌, [], ℕ, Bool, true, false, List, length, map, IfOk, Some, None, Option};
+ghost use Rattle.session_lines.specs.Prelude.{is_some, lines_of, script_view, first_session, left_open, passed_over, refused_in, script_at, session_line, went_on};
+ghost use Rattle.session_lines.specs.Views.{StepsTo, open_view, said_view, session_view};
+ghost use Rattle.session_lines.specs.Prelude.{Asked, State, command_view, completed, held_by, is_last_word as ends_line};
+
+use crate::words::is_last_word;
+use dns_name::Name;
+use job_model::{Listing, ScriptKind};
+use job_script::{Command, JobRefusal, Script, Unfinished, script_line};
+use std::alloc::{AllocError, Global};
+use zone_text::Token;
+
+/// What a session is between two lines: whether it holds a snapshot; the transaction that is open, and the number of its first line;
+/// and whether a refused line gave one up, whose last word is still to come.
+#[derive(Drop)]
+pub struct Session {
+    pub held: bool,
+    pub block: Option<Unfinished>,
+    pub opened: u64,
+    pub given_up: bool,
+}
+
+/// What a line says.
+#[derive(Drop)]
+pub enum Said {
+    /// Nothing is to be done or told.
+    Nothing,
+    /// This is to be run.
+    Runs(Command),
+    /// The line is refused.
+    Refuses(ScriptKind),
+    /// The last word has come of a transaction that a refused line gave up.
+    GivesUp,
+    /// The line is refused, and is the last word of the transaction that was open.
+    RefusesLastWord(ScriptKind),
+}
+
+// A line's command is run.
+fn said_by(commands: Vec<Command>) -> Said
+    ensures { (n : ℕ) → said_view n result ≡ completed (map command_view commands.items) }
+{
+    match commands.into_iter().next() {
+        Some(command) => Said::Runs(command),
+        None => Said::Nothing,
+    }
+}
+
+// Whether a snapshot is held behind what a line says.
+fn held_behind(held: bool, said: &Said) -> bool
+    ensures { (n : ℕ) (commands : List Asked) → said_view n said.now ≡ completed commands → result ≡ held_by held commands }
+{
+    match said {
+        Said::Runs(Command::Hold) => true,
+        Said::Runs(Command::Release) => false,
+        _ => held,
+    }
+}
+
+impl Session {
+    /// No line has come yet.
+    pub fn new() -> Session
+        ensures { session_view result ≡ first_session }
+    {
+        Session {
+            held: false,
+            block: None,
+            opened: 0,
+            given_up: false,
+        }
+    }
+
+    // The script of a line alone. The open transaction goes into it.
+    fn script(&mut self, alloc: Global) -> Script
+        ensures script { script_view result ≡ script_at (session_view self.old) }
+        ensures block { session_view self.new ≡ record (session_view self.old) { block = None } }
+    {
+        Script {
+            listing: Listing::Live,
+            earlier: Vec::new(alloc),
+            begun: true,
+            commands: Vec::new(alloc),
+            held: self.held,
+            block: self.block.take(),
+        }
+    }
+
+    // A line was taken, which has a number.
+    fn go_on(&mut self, script: Script, number: u64, was_open: bool) -> Said
+        ensures { (s : State) → session_view self.old ≡ record s { block = None } → is_some s.block ≡ was_open
+            → StepsTo (went_on number s (script_view script)) self.new number result }
+    {
+        let Script {
+            listing: _,
+            earlier: _,
+            begun: _,
+            commands,
+            held: _,
+            block,
+        } = script;
+        let said = said_by(commands);
+        self.held = held_behind(self.held, &said);
+        self.block = block;
+        self.opened = if was_open { self.opened } else { number };
+        said
+    }
+
+    // A line is refused. What was open is given up.
+    fn refuse(
+        &mut self,
+        alloc: Global,
+        line: &[u8],
+        kind: ScriptKind,
+        was_open: bool,
+        lent: &mut Vec<Token>,
+    ) -> Result<Said, AllocError>
+        requires some { 0 < length line.now }
+        requires short { length line.now ≤ 2 ^ 24 }
+        ensures { (s : State) (number : ℕ) (text : List ℕ) → session_view self.old ≡ record s { block = None } → is_some s.block ≡ was_open → lines_of line.now ≡ text ∷ []
+            → IfOk result (StepsTo (refused_in number kind s (ends_line text) s.block) self.new number) }
+    {
+        if !was_open {
+            return Ok(Said::Refuses(kind));
+        }
+        if is_last_word(alloc, line, lent)? {
+            return Ok(Said::RefusesLastWord(kind));
+        }
+        self.given_up = true;
+        Ok(Said::Refuses(kind))
+    }
+
+    // Passes a line over, but for the last word of the transaction that was given up.
+    fn pass_over(
+        &mut self,
+        alloc: Global,
+        line: &[u8],
+        lent: &mut Vec<Token>,
+    ) -> Result<Said, AllocError>
+        requires some { 0 < length line.now }
+        requires short { length line.now ≤ 2 ^ 24 }
+        ensures { (number : ℕ) (text : List ℕ) → lines_of line.now ≡ text ∷ []
+            → IfOk result (StepsTo (passed_over (session_view self.old) (ends_line text)) self.new number) }
+    {
+        if is_last_word(alloc, line, lent)? {
+            self.given_up = false;
+            return Ok(Said::GivesUp);
+        }
+        Ok(Said::Nothing)
+    }
+
+    /// Takes a line by its number. Its tokens lie in memory that is lent.
+    #[tactic(auto, unfolding(job_model::specs::Sessions::session_line))]
+    pub fn take_line(
+        &mut self,
+        alloc: Global,
+        line: &[u8],
+        number: u64,
+        origin: &Name,
+        lent: &mut Vec<Token>,
+    ) -> Result<Said, AllocError>
+        requires some { 0 < length line.now }
+        requires short { length line.now ≤ 2 ^ 24 }
+        ensures { (text : List ℕ) → lines_of line.now ≡ text ∷ []
+            → IfOk result (StepsTo (session_line origin.now number text (session_view self.old)) self.new number) }
+    {
+        if self.given_up {
+            return self.pass_over(alloc, line, lent);
+        }
+        let was_open = self.block.is_some();
+        let mut script = self.script(alloc);
+        match script_line(&mut script, alloc, line, origin, 0, 1, lent) {
+            Ok(_) => Ok(self.go_on(script, number, was_open)),
+            Err(JobRefusal::Refused { line: _, kind }) => {
+                self.refuse(alloc, line, kind, was_open, lent)
+            }
+            Err(JobRefusal::Memory) => Err(AllocError),
+        }
+    }
+
+    /// The first line of a transaction that is still open.
+    pub fn left_open(&self) -> Option<u64>
+        ensures { left_open (session_view self.now).opened (session_view self.now).block ≡ open_view result }
+    {
+        if self.block.is_some() {
+            return Some(self.opened);
+        }
+        None
+    }
+}

@@ -1,0 +1,16 @@
+pub mod RecordLemmas
+pub mod EntryLemmas
+pub mod FitLemmas
+pub mod SoaLemmas
+pub mod EntryLaws
+pub mod SoaForms
+pub mod VersionLemmas
+pub mod DifferenceLaws
+pub mod SaidLemmas
+pub mod BlockLaws
+pub mod MergeLemmas
+pub mod WalkLemmas
+pub mod NameLemmas
+pub mod HeldLemmas
+pub mod LineLemmas
+pub mod ScriptLemmas

@@ -1,0 +1,13 @@
+pub mod Serials
+pub mod Differences
+pub mod Blocks
+pub mod Texts
+pub mod Merges
+pub mod Walks
+pub mod Sinks
+pub mod Prelude
+pub mod DifferenceExample
+pub mod Cuts
+pub mod NamesAhead
+pub mod Held
+pub mod Commands

@@ -1,0 +1,53 @@
+//! Laws of differences, each as the contract of a function that does nothing.
+
+ghost use Rattle.std.specs.Prelude.{◌≡◌, ◌<◌, ◌≤◌, List, length, ◌++◌, Ok};
+ghost use Rattle.zone_diff.specs.Prelude.{Serial, Keep, Name, Version, Operation, all_applied, CanBeDumped, difference, made, CutAt};
+ghost use Rattle.zone_diff.specs.Prelude.{blocks, block_limit, in_turn, StopsAt, AllByRecursion};
+ghost use Rattle.std.specs.Prelude.{ℕ, ◌+◌, map};
+ghost use Rattle.zone_diff.specs.Prelude.{Script, TakesCommands, committed, lines_of, list_of, script_from, text_in};
+ghost use Rattle.zone_diff.specs.declared.DiffStyle.TheVariants.{Script as AsScript};
+ghost use Rattle.zone_diff.specs.Prelude.{Entry, IsEntry, deletions, additions, deletions_walked, additions_walked};
+
+/// Of two zones of one origin the difference makes of the one before the one after. No rule refuses any operation of it. Where a change
+/// of the serial alone doesn't count, what is made has the SOA from before if the one after counts as the same.
+pub fn differences_make_the_other()
+    ensures every { (origin : Name) (before after : Version) → CanBeDumped origin before → CanBeDumped origin after
+        → all_applied origin (difference Keep before after) before ≡ Ok after }
+    ensures but_serials { (mode : Serial) (origin : Name) (before after : Version) → CanBeDumped origin before → CanBeDumped origin after
+        → all_applied origin (difference mode before after) before ≡ Ok (made mode origin before after) }
+{}
+
+/// A difference may be cut anywhere, as into transactions: what stands before the cut is taken and leaves a zone, and what stands behind
+/// it makes of that what is due.
+pub fn differences_may_be_cut()
+    ensures { (mode : Serial) (origin : Name) (before after : Version) (front back : List Operation) → CanBeDumped origin before → CanBeDumped origin after
+        → difference mode before after ≡ front ++ back → (middle : Version) × CutAt origin front back before (made mode origin before after) middle }
+{}
+
+/// In transactions of at most 10,000 operations each, which are taken one after another, a difference makes what is due, and behind each
+/// of them stands a zone.
+pub fn differences_in_transactions()
+    ensures sizes { (operations : List Operation) → AllByRecursion (λ (block : List Operation). (0 < length block) × (length block ≤ block_limit)) (blocks operations) }
+    ensures every { (mode : Serial) (origin : Name) (before after : Version) → CanBeDumped origin before → CanBeDumped origin after
+        → in_turn origin (blocks (difference mode before after)) before ≡ Ok (made mode origin before after) }
+    ensures zones { (mode : Serial) (origin : Name) (before after : Version) (front back : List (List Operation)) → CanBeDumped origin before → CanBeDumped origin after
+        → blocks (difference mode before after) ≡ front ++ back → (middle : Version) × StopsAt origin front back before (made mode origin before after) middle }
+{}
+
+/// What goes and what comes of an entry is found by going through its RRsets and the other's side by side, each looked at once.
+pub fn differences_side_by_side()
+    ensures deletions { (owner : Name) (before after : Entry) → IsEntry before → IsEntry after → deletions_walked owner before after ≡ deletions owner before after }
+    ensures additions { (owner : Name) (before after : Entry) → IsEntry before → IsEntry after → additions_walked owner before after ≡ additions owner before after }
+{}
+
+/// The text of a difference as a script says its transactions, as blocks `update` that are committed: where it is one list of commands,
+/// and wherever else commands may come, as behind a `worker` or in a live session. A list has at most 10,000 commands.
+pub fn differences_read_back()
+    ensures list { (mode : Serial) (origin : Name) (before after : Version) → CanBeDumped origin before → CanBeDumped origin after
+        → (line : ℕ) → length (blocks (difference mode before after)) ≤ 10000
+        → list_of origin line (lines_of (text_in AsScript origin (difference mode before after))) ≡ Ok (map committed (blocks (difference mode before after))) }
+    ensures anywhere { (mode : Serial) (origin : Name) (before after : Version) → CanBeDumped origin before → CanBeDumped origin after
+        → (line : ℕ) (s : Script) → TakesCommands s → length s.commands + length (blocks (difference mode before after)) ≤ 10000
+        → script_from origin line (lines_of (text_in AsScript origin (difference mode before after))) s
+        ≡ Ok (record s { commands = s.commands ++ map committed (blocks (difference mode before after)) }) }
+{}

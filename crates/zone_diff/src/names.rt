@@ -1,0 +1,247 @@
+//! The names of two zones, gone through side by side in canonical order.
+ghost use Rattle.std.specs.Prelude.{◌≡◌, ◌≤◌, ◌∷◌, [], length, IfOk, OnOk, Some};
+ghost use Rattle.zone_diff.specs.Prelude.{Adds, Comes, DeleteName, Meets, Stands, Version, Went, behind_first, difference, item_limit, owner_ahead, pairs_ahead};
+
+use crate::Serial;
+use crate::changes::{Change, OperationSink};
+use crate::entries::push_entry;
+use dns_name::Name;
+use master_file::{Zone, ZoneItems};
+use rr_data::item_buffer;
+use std::alloc::{AllocError, Global};
+use std::cmp::Ordering;
+use std::marker::Model;
+
+/// The names of a version that are left, the first of which is laid down as an item.
+pub trait Names {
+    ghost use Rattle.std.specs.Prelude.{◌≡◌, [], IsTrue, ◌↔◌};
+    ghost use Rattle.zone_model.specs.Versions.{Version};
+    ghost use Rattle.zone_diff.specs.NamesAhead.{SaysFirst, behind_first, owner_ahead};
+
+    // These names are left, each with its entry.
+    ghost shows: { Self → Version → Type 0 };
+
+    /// No name is left.
+    fn is_empty(&self) -> bool
+        ensures { (left : Version) → shows self.now left → IsTrue result ↔ (left ≡ []) };
+
+    /// The first name.
+    fn owner(&self) -> Option<Name>
+        ensures { (left : Version) → shows self.now left → result ≡ owner_ahead left };
+
+    /// The first name's item; no octets where no name is left.
+    fn item(&self) -> &[u8]
+        requires { (left : Version) × shows self.now left }
+        ensures { (left : Version) → shows self.now left → SaysFirst left result.now };
+
+    /// Passes the first name.
+    fn pass(&mut self)
+        requires { (left : Version) × shows self.old left }
+        ensures { (left : Version) → shows self.old left → shows self.new (behind_first left) };
+}
+
+/// The name whose item is laid down, and how many octets that has.
+#[derive(Clone, Copy)]
+pub struct Ahead {
+    pub owner: Name,
+    pub len: usize,
+}
+
+/// The names of a zone from one on, which is laid down as an item. Contracts see the pairs of name and entry.
+#[derive(Drop)]
+pub struct NameCursor {
+    ahead: Option<Ahead>,
+    octets: Vec<u8>,
+    behind: ZoneItems,
+}
+
+impl Model for NameCursor {
+    ghost use Rattle.std.specs.Prelude.{◌≤◌, length};
+    ghost use Rattle.zone_model.specs.Records.{item_limit};
+    ghost use Rattle.zone_model.specs.Versions.{Version};
+    ghost use Rattle.zone_diff.specs.NamesAhead.{Stands, pairs_ahead};
+
+    ghost Value = { Version };
+
+    ghost view = { λ c. pairs_ahead c.ahead c.octets.items c.behind };
+
+    ghost invariant = { λ c. (item_limit ≤ length c.octets.items) × Stands c.ahead c.octets.items };
+}
+
+// Lays down the item of the next name.
+fn next_of(behind: &mut ZoneItems, octets: &mut [u8]) -> Option<Ahead>
+    requires { item_limit ≤ length octets.old }
+    ensures names { pairs_ahead result octets.new behind.new ≡ behind.old }
+    ensures stands { Stands result octets.new }
+{
+    let len = behind.next(octets)?;
+    let Some(owner) = Name::from_wire(&octets[..len]) else {
+        // An item begins with its owner's octets.
+        unreachable!();
+    };
+    Some(Ahead { owner, len })
+}
+
+impl NameCursor {
+    /// All names of a zone.
+    pub fn new(alloc: Global, zone: Zone) -> Result<Self, AllocError>
+        ensures { IfOk result (λ c. c ≡ zone.pairs) }
+    {
+        let mut octets = item_buffer(alloc)?;
+        let mut behind = zone.into_items();
+        let ahead = next_of(&mut behind, &mut octets);
+        Ok(NameCursor {
+            ahead,
+            octets,
+            behind,
+        })
+    }
+}
+
+impl Names for NameCursor {
+    ghost use Rattle.std.specs.Prelude.{◌≡◌};
+
+    ghost shows = { λ c left. left ≡ c };
+
+    fn is_empty(&self) -> bool {
+        self.ahead.is_none()
+    }
+
+    fn owner(&self) -> Option<Name> {
+        match &self.ahead {
+            Some(ahead) => Some(ahead.owner),
+            None => None,
+        }
+    }
+
+    fn item(&self) -> &[u8] {
+        match &self.ahead {
+            Some(ahead) => &self.octets.as_slice()[..ahead.len],
+            None => &[],
+        }
+    }
+
+    fn pass(&mut self) {
+        if self.ahead.is_some() {
+            self.ahead = next_of(&mut self.behind, &mut self.octets);
+        }
+    }
+}
+
+// The first name goes.
+fn push_old<B: Names, K: OperationSink>(
+    owner: &Name,
+    before: &mut B,
+    sink: &mut K,
+) -> Result<(), AllocError>
+    requires { (left : Version) × B.shows before.old left }
+    ensures added { OnOk result (Adds (K.has sink.old) (K.has sink.new) (DeleteName owner.now ∷ [])) }
+    ensures left { OnOk result ((left : Version) → B.shows before.old left → B.shows before.new (behind_first left)) }
+{
+    sink.push(owner, &Change::Goes)?;
+    before.pass();
+    Ok(())
+}
+
+// The first name comes.
+fn push_new<A: Names, K: OperationSink>(
+    alloc: Global,
+    serial: Serial,
+    owner: &Name,
+    after: &mut A,
+    sink: &mut K,
+) -> Result<(), AllocError>
+    requires some { (left : Version) × A.shows after.old left }
+    requires first { (left : Version) → A.shows after.old left → owner_ahead left ≡ Some owner.now }
+    ensures added { OnOk result ((left : Version) → A.shows after.old left → Comes serial owner.now left (K.has sink.old) (K.has sink.new)) }
+    ensures left { OnOk result ((left : Version) → A.shows after.old left → A.shows after.new (behind_first left)) }
+{
+    push_entry(alloc, serial, owner, &[], after.item(), sink)?;
+    after.pass();
+    Ok(())
+}
+
+// The first name stays.
+fn push_both<B: Names, A: Names, K: OperationSink>(
+    alloc: Global,
+    serial: Serial,
+    owner: &Name,
+    before: &mut B,
+    after: &mut A,
+    sink: &mut K,
+) -> Result<(), AllocError>
+    requires some_before { (left : Version) × B.shows before.old left }
+    requires some_after { (left : Version) × A.shows after.old left }
+    requires before { (left : Version) → B.shows before.old left → owner_ahead left ≡ Some owner.now }
+    requires after { (left : Version) → A.shows after.old left → owner_ahead left ≡ Some owner.now }
+    ensures added { OnOk result ((b a : Version) → B.shows before.old b → A.shows after.old a → Meets serial owner.now b a (K.has sink.old) (K.has sink.new)) }
+    ensures left_before { OnOk result ((left : Version) → B.shows before.old left → B.shows before.new (behind_first left)) }
+    ensures left_after { OnOk result ((left : Version) → A.shows after.old left → A.shows after.new (behind_first left)) }
+{
+    push_entry(alloc, serial, owner, before.item(), after.item(), sink)?;
+    before.pass();
+    after.pass();
+    Ok(())
+}
+
+// What becomes of the name that comes first.
+fn push_first<B: Names, A: Names, K: OperationSink>(
+    alloc: Global,
+    serial: Serial,
+    before: &mut B,
+    after: &mut A,
+    sink: &mut K,
+) -> Result<(), AllocError>
+    requires some_before { (left : Version) × B.shows before.old left }
+    requires some_after { (left : Version) × A.shows after.old left }
+    ensures { OnOk result ((b a : Version) → B.shows before.old b → A.shows after.old a
+        → Went serial (K.has sink.old) (K.has sink.new) b a (B.shows before.new) (A.shows after.new)) }
+{
+    match (before.owner(), after.owner()) {
+        (None, None) => Ok(()),
+        (Some(old), None) => push_old(&old, before, sink),
+        (None, Some(new)) => push_new(alloc, serial, &new, after, sink),
+        (Some(old), Some(new)) => match old.cmp(&new) {
+            Ordering::Less => push_old(&old, before, sink),
+            Ordering::Equal => push_both(alloc, serial, &old, before, after, sink),
+            Ordering::Greater => push_new(alloc, serial, &new, after, sink),
+        },
+    }
+}
+
+/// Pushes the operations that make of a version another one, name by name; no name that was passed is looked at again. More names than
+/// 64 bits count are taken for want of memory.
+pub fn push_between<B: Names, A: Names, K: OperationSink>(
+    alloc: Global,
+    serial: Serial,
+    before: &mut B,
+    after: &mut A,
+    sink: &mut K,
+) -> Result<(), AllocError>
+    requires some_before { (left : Version) × B.shows before.old left }
+    requires some_after { (left : Version) × A.shows after.old left }
+    ensures { OnOk result ((b a : Version) → B.shows before.old b → A.shows after.old a → Adds (K.has sink.old) (K.has sink.new) (difference serial b a)) }
+{
+    'names: for _ in 0..u64::MAX {
+        if before.is_empty() && after.is_empty() {
+            return Ok(());
+        }
+        push_first(alloc, serial, before, after, sink)?;
+    }
+    Err(AllocError)
+}
+
+/// The same of two zones. Each of both is in memory once, and what was passed isn't.
+pub fn push_difference<K: OperationSink>(
+    alloc: Global,
+    serial: Serial,
+    before: Zone,
+    after: Zone,
+    sink: &mut K,
+) -> Result<(), AllocError>
+    ensures { OnOk result (Adds (K.has sink.old) (K.has sink.new) (difference serial before.pairs after.pairs)) }
+{
+    let mut old = NameCursor::new(alloc, before)?;
+    let mut new = NameCursor::new(alloc, after)?;
+    push_between(alloc, serial, &mut old, &mut new, sink)
+}

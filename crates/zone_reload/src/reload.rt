@@ -1,0 +1,60 @@
+//! A version's zone exchanged whole.
+ghost use Rattle.std.specs.Prelude.{◌≡◌, map, Err, IfOk, IsSomeAnd, OnOk};
+ghost use Rattle.zone_reload.specs.Prelude.{Becomes, Between, CanBeDumped, IsAccepted, IsOfTheSame, Keep, Replaces, Shows, ShowsSome, Version, WorksOnSome, difference, operation_view};
+
+use crate::operations::OperationList;
+use crate::versions::VersionNames;
+use dns_name::Name;
+use master_file::Zone;
+use qp_multi::{Law, Named, Transaction};
+use std::alloc::{AllocError, Global};
+use trie_read::Reading;
+use zone_change::Operation;
+use zone_diff::{NameCursor, Serial, push_between};
+use zone_edit::{EditRefusal, ItemBuffers, execute};
+
+/// The operations that make of a version a zone.
+pub fn operations_between<V: Reading>(
+    alloc: Global,
+    serial: Serial,
+    version: &mut V,
+    zone: Zone,
+) -> Result<Vec<Operation>, AllocError>
+    requires { ShowsSome (V.holds version.old) }
+    ensures { IfOk result (λ operations. (before : Version) → Shows (V.holds version.old) before
+        → map operation_view operations.items ≡ difference serial before zone.pairs) }
+{
+    let mut list = OperationList::new(alloc);
+    let mut before = VersionNames::new(alloc, version)?;
+    let mut after = NameCursor::new(alloc, zone)?;
+    push_between(alloc, serial, &mut before, &mut after, &mut list)?;
+    let OperationList { operations } = list;
+    Ok(operations)
+}
+
+/// Makes of a transaction's working set, which is the zone of a version that is read beside it, another zone: what differs is changed, and
+/// nothing else is touched. No rule of zones refuses any of it. Where memory is wanting before all that differs is known, nothing is done.
+pub fn replace_all<L: Law, N: Named, K, V: Reading>(
+    alloc: Global,
+    origin: &Name,
+    transaction: &mut Transaction<'_, '_, L, N, K>,
+    version: &mut V,
+    zone: Zone,
+    buffers: &mut ItemBuffers,
+) -> Result<(), EditRefusal>
+    requires works { IsSomeAnd transaction.old.locked.now.draft WorksOnSome }
+    requires shown { ShowsSome (V.holds version.old) }
+    ensures same_reference { IsOfTheSame transaction.old transaction.new }
+    ensures place { transaction.new.locked.now.place ≡ transaction.old.locked.now.place }
+    ensures replaces { (before : Version) → Shows (V.holds version.old) before
+        → Replaces origin.now (difference Keep before zone.pairs) result transaction.old.locked.now.draft transaction.new.locked.now.draft }
+    ensures accepted { (before : Version) → Shows (V.holds version.old) before → CanBeDumped origin.now before → CanBeDumped origin.now zone.pairs
+        → Between (IsAccepted before result) transaction.old.locked.now.draft transaction.new.locked.now.draft }
+    ensures made { (before : Version) → Shows (V.holds version.old) before → CanBeDumped origin.now before → CanBeDumped origin.now zone.pairs
+        → OnOk result (Between (Becomes before zone.pairs) transaction.old.locked.now.draft transaction.new.locked.now.draft) }
+{
+    let Ok(operations) = operations_between(alloc, Serial::Keep, version, zone) else {
+        return Err(EditRefusal::Memory);
+    };
+    execute(alloc, origin, transaction, &[], &operations, buffers)
+}

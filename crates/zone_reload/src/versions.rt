@@ -1,0 +1,95 @@
+//! The names of a version that is read.
+ghost use Rattle.std.specs.Prelude.{◌≡◌, ◌≤◌, length, IfOk};
+ghost use Rattle.zone_reload.specs.Prelude.{Faces, FacesSome, GivesNext, Shows, ShowsLeft, ShowsNames, ShowsSome, Version, most_item_octets};
+
+use dns_name::Name;
+use rr_data::item_buffer;
+use std::alloc::{AllocError, Global};
+use trie_read::{Iter, Reading};
+use zone_diff::{Ahead, Names};
+
+/// The names of a version from one on, which is laid down as an item.
+#[derive(Drop)]
+pub struct VersionNames<'v, V: Reading> {
+    version: &'v mut V,
+    iter: Iter,
+    ahead: Option<Ahead>,
+    octets: Vec<u8>,
+}
+
+// Reads the item of the next name into the beginning of a buffer, and gives its length.
+fn next_item<V: Reading>(version: &mut V, iter: &mut Iter, item: &mut [u8]) -> Option<usize>
+    requires faces { FacesSome (V.stands version.old iter.old) }
+    requires room { most_item_octets ≤ length item.old }
+    ensures same { version.new ≡ version.old }
+    ensures next { (left : Version) → Faces (V.stands version.old iter.old) left → GivesNext (V.stands version.old iter.new) left item.new result }
+{
+    match version.next_leaf(iter) {
+        Some(leaf) => Some(version.read(leaf, item)),
+        None => None,
+    }
+}
+
+// Lays down the item of the next name.
+fn next_of<V: Reading>(version: &mut V, iter: &mut Iter, octets: &mut [u8]) -> Option<Ahead>
+    requires faces { FacesSome (V.stands version.old iter.old) }
+    requires room { most_item_octets ≤ length octets.old }
+    ensures same { version.new ≡ version.old }
+    ensures names { (left : Version) → Faces (V.stands version.old iter.old) left → ShowsLeft (V.stands version.old iter.new) result octets.new left }
+{
+    let len = next_item(version, iter, octets)?;
+    let Some(owner) = Name::from_wire(&octets[..len]) else {
+        // An item begins with its owner's octets.
+        unreachable!();
+    };
+    Some(Ahead { owner, len })
+}
+
+impl<'v, V: Reading> VersionNames<'v, V> {
+    /// All names of a version.
+    pub fn new(alloc: Global, version: &'v mut V) -> Result<Self, AllocError>
+        requires { ShowsSome (V.holds version.old) }
+        ensures { IfOk result (λ n. (zone : Version) → Shows (V.holds version.old) zone
+            → ShowsNames (V.stands n.version.now n.iter) n.ahead n.octets.items zone) }
+    {
+        let mut octets = item_buffer(alloc)?;
+        let mut iter = version.iter();
+        let ahead = next_of(version, &mut iter, &mut octets);
+        Ok(VersionNames {
+            version,
+            iter,
+            ahead,
+            octets,
+        })
+    }
+}
+
+impl<V: Reading> Names for VersionNames<'_, V> {
+    ghost use Rattle.zone_reload.specs.Shown.{ShowsNames};
+
+    ghost shows = { λ n left. ShowsNames (V.stands n.version.now n.iter) n.ahead n.octets.items left };
+
+    fn is_empty(&self) -> bool {
+        self.ahead.is_none()
+    }
+
+    fn owner(&self) -> Option<Name> {
+        match &self.ahead {
+            Some(ahead) => Some(ahead.owner),
+            None => None,
+        }
+    }
+
+    fn item(&self) -> &[u8] {
+        match &self.ahead {
+            Some(ahead) => &self.octets.as_slice()[..ahead.len],
+            None => &[],
+        }
+    }
+
+    fn pass(&mut self) {
+        if self.ahead.is_some() {
+            self.ahead = next_of(self.version, &mut self.iter, &mut self.octets);
+        }
+    }
+}
