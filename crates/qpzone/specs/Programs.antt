@@ -1,11 +1,10 @@
 -- What the program does with the words that it was started with.
-use Rattle.std.specs.Prelude.{◌≡◌, ℕ, List, [], Option, None, Bool, Result, Ok, Err, String}
+use Rattle.std.specs.Prelude.{◌≡◌, ℕ, List, [], None, Bool, Result, Ok, Err, String}
 use Rattle.std.specs.Vec.Iter.{into_iter_items}
 use Rattle.std.specs.declared.vec.IntoIter.{IntoIter}
 use Rattle.outer_io.specs.Bytes.{Held}
 use Rattle.qp_main.specs.Prelude.{CutShort, Due, GaveFor, IsUnwritten, IsWritten, MayBeShort, Written, invocation_in, streams}
 use Rattle.qp_main.specs.declared.status.Status.{Status}
-use Rattle.qp_main.specs.declared.status.Status.TheVariants as Status
 
 -- What was written is due for the words: whole under a status that says so, a front of it where the sink failed or a dump ran out of
 -- memory, and else nothing.
