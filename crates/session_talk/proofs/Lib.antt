@@ -3,3 +3,4 @@ pub mod TextLaws
 pub mod FedLaws
 pub mod LineLaws
 pub mod SoFarLaws
+pub mod ServeLaws

@@ -25,10 +25,10 @@ said_well origin worker_origin holds n text s new said name same held block octe
     let w : StepsWell origin s (step_of new said) = subst (StepsWell origin s) e (line_well origin n text s name octets block) in
     (rw (same, held) w.runs, w.block)
 
-pub on_sound : {A E : Type 0} (r : Result A E) (origin before after : Name) (holds : Bool) (s : Session) (old next lines : ℕ) → IsName origin → before ≡ origin → OnOk r (after ≡ before) → OnOk r (holds ≡ s.held)
-    → IsBlock origin s.block → OnOk r (next ≤ old + 1) → old ≤ lines + 1 → OnOk r (IsSound origin after holds s next (lines + 1))
-on_sound (Ok x) origin before after holds s old next lines name same kept held block more few = record { name = name; same = kept ∙ same; held = held; block = block; few = omega arith }
-on_sound (Err e) origin before after holds s old next lines name same kept held block more few = tt
+pub on_sound : {A E : Type 0} (r : Result A E) (ready : Type 0) (origin before after : Name) (holds : Bool) (s : Session) (old next lines : ℕ) → OnOk r ready → IsName origin → before ≡ origin → OnOk r (after ≡ before) → OnOk r (holds ≡ s.held)
+    → IsBlock origin s.block → OnOk r (next ≤ old + 1) → old ≤ lines + 1 → OnOk r (IsSound ready origin after holds s next (lines + 1))
+on_sound (Ok x) ready origin before after holds s old next lines fit name same kept held block more few = record { fit = fit; name = name; same = kept ∙ same; held = held; block = block; few = omega arith }
+on_sound (Err e) ready origin before after holds s old next lines fit name same kept held block more few = tt
 
 module _ (ran_before ran_now : List Command → List Outcome → Type 0) (o : Opened) (first : ℕ) (done line text written : List ℕ) (s new : Session) (said : List Said) (p now : Printing) (lines : ℕ) (origin : Name)
     (same : o.origin ≡ origin) (fed : IsFed done) (one : lines_of line ≡ text ∷ []) (h : SoFar ran_before o first done written s p lines) (stepped : session_line origin (lines + 1) text s ≡ step_of new said) where

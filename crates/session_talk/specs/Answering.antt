@@ -16,9 +16,10 @@ use Rattle.session_talk.specs.Workers.{Opened}
 abbrev pub IsFed : List ℕ → Type 0
 IsFed bytes = (bytes ≡ []) ⊎ ((front : List ℕ) × (bytes ≡ front ++ 10 ∷ []))
 
--- What is so of a session between two lines: the worker holds a snapshot where the session does, and is of its origin; what is open is as
+-- What is so of a session between two lines: the worker can go on, holds a snapshot where the session does, and is of its origin; what is open is as
 -- scripts say it; and there were no more commands than lines.
-pub record IsSound (origin worker_origin : Name) (holds : Bool) (s : Session) (next lines : ℕ) : Type 0 where
+pub record IsSound (ready : Type 0) (origin worker_origin : Name) (holds : Bool) (s : Session) (next lines : ℕ) : Type 0 where
+  pub fit : ready
   pub name : IsName origin
   pub same : worker_origin ≡ origin
   pub held : holds ≡ s.held

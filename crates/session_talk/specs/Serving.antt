@@ -1,12 +1,21 @@
 -- What a session has read and written.
 use Rattle.std.specs.Prelude.{◌≡◌, ◌⊎◌, ◌<◌, ◌≤◌, ◌^◌, ◌+◌, ℕ, Bool, List, [], ◌∷◌, ◌++◌, length, take}
 use Rattle.job_model.specs.Commands.{Command}
-use Rattle.job_model.specs.Sessions.{Session}
+use Rattle.job_model.specs.Sessions.{Session, left_open}
 use Rattle.job_script.specs.declared.outcomes.Outcome.{Outcome}
 use Rattle.outer_io.specs.Bytes.{Grows, GrowsByFront, Held}
 use Rattle.session_lines.specs.Printing.{Printing}
 use Rattle.session_lines.specs.Taking.{IsUnbroken}
+use Rattle.session_talk.specs.Entries.{Entry, commands_in, outcomes_in, said_in, with_entries}
 use Rattle.session_talk.specs.Answering.{AnswersLines, EndsLines, IsFed, SoFar, Way}
+
+-- A transaction that is still open was refused, where no more lines come.
+pub record LeftOpen (s : Session) (before now : Printing) : Type 0 where
+  pub more : List Entry
+  pub same : said_in more ≡ left_open s.opened s.block
+  pub no_commands : commands_in more ≡ []
+  pub no_outcomes : outcomes_in more ≡ []
+  pub printed : now ≡ with_entries before more
 
 -- Whole lines behind a session's beginning were answered, and other bytes were taken. What was written lies in the sink.
 pub record AtWork (has_run : List Command → List Outcome → Type 0) (way : Way) (given : List ℕ) (held : Held) (s : Session) (p : Printing) (lines : ℕ) (pending : List ℕ) : Type 0 where
@@ -14,6 +23,14 @@ pub record AtWork (has_run : List Command → List Outcome → Type 0) (way : Wa
   pub written : List ℕ
   pub fed : IsFed done
   pub gave : given ≡ (way.given ++ done) ++ pending
+  pub grew : Grows way.held held written
+  pub so_far : SoFar has_run way.opened way.first done written s p lines
+
+-- All lines that came were answered, the last of which may have no line feed.
+pub record LinesDone (has_run : List Command → List Outcome → Type 0) (way : Way) (given : List ℕ) (held : Held) (s : Session) (p : Printing) (lines : ℕ) : Type 0 where
+  pub done : List ℕ
+  pub written : List ℕ
+  pub gave : given ≡ way.given ++ done
   pub grew : Grows way.held held written
   pub so_far : SoFar has_run way.opened way.first done written s p lines
 

@@ -31,8 +31,10 @@ fn reply<W: Worker>(
     line: u64,
     said: &Said,
 ) -> Result<(), AllocError>
+    requires ready { W.is_ready worker.old }
     requires few { replies.old.next < 2 ^ 64 - 1 }
     requires well { (now : Bool) × RunsWell (W.origin worker.old) (W.holds worker.old) now (said_view line said.now) }
+    ensures ready { OnOk result (W.is_ready worker.new) }
     ensures origin { OnOk result (W.origin worker.new ≡ W.origin worker.old) }
     ensures held { (now : Bool) → RunsWell (W.origin worker.old) (W.holds worker.old) now (said_view line said.now) → OnOk result (W.holds worker.new ≡ now) }
     ensures few { OnOk result (replies.new.next ≤ replies.old.next + 1) }
@@ -63,9 +65,10 @@ pub fn begin<W: Worker>(
     names: u64,
 ) -> Result<Answering<'_, W>, AllocError>
     requires first { 0 < first }
+    requires ready { W.is_ready worker }
     requires same { W.origin worker ≡ origin.now }
     requires free { W.holds worker ≡ false }
-    ensures sound { IfOk result (λ a. IsSound a.origin.now (W.origin a.worker) (W.holds a.worker) (session_view a.session) a.replies.next a.lines) }
+    ensures sound { IfOk result (λ a. IsSound (W.is_ready a.worker) a.origin.now (W.origin a.worker) (W.holds a.worker) (session_view a.session) a.replies.next a.lines) }
     ensures so_far { (o : Opened) → o.origin ≡ origin.now → length o.zone ≡ names → W.has_run worker o [] []
         → IfOk result (λ a. SoFar (W.has_run a.worker o) o first [] [] (session_view a.session) (printing a.replies) a.lines) }
 {
@@ -86,12 +89,12 @@ pub fn begin<W: Worker>(
 impl<W: Worker> Answering<'_, W> {
     /// Answers a line, which has its line feed unless it is the last.
     pub fn answer(&mut self, line: &[u8]) -> Result<(), AllocError>
-        requires sound { IsSound self.old.origin.now (W.origin self.old.worker) (W.holds self.old.worker) (session_view self.old.session) self.old.replies.next self.old.lines }
+        requires sound { IsSound (W.is_ready self.old.worker) self.old.origin.now (W.origin self.old.worker) (W.holds self.old.worker) (session_view self.old.session) self.old.replies.next self.old.lines }
         requires few { self.old.lines < 2 ^ 63 }
         requires some { 0 < length line.now }
         requires short { length line.now ≤ 2 ^ 24 }
         requires one { (text : List ℕ) × (lines_of line.now ≡ text ∷ []) }
-        ensures sound { OnOk result (IsSound self.new.origin.now (W.origin self.new.worker) (W.holds self.new.worker) (session_view self.new.session) self.new.replies.next self.new.lines) }
+        ensures sound { OnOk result (IsSound (W.is_ready self.new.worker) self.new.origin.now (W.origin self.new.worker) (W.holds self.new.worker) (session_view self.new.session) self.new.replies.next self.new.lines) }
         ensures lines { OnOk result (self.new.lines ≡ self.old.lines + 1) }
         ensures origin { OnOk result (self.new.origin ≡ self.old.origin) }
         ensures so_far { (o : Opened) (first : ℕ) (done written : List ℕ) → o.origin ≡ self.old.origin.now → IsFed done
@@ -111,8 +114,8 @@ impl<W: Worker> Answering<'_, W> {
 
     /// Writes what is to be written.
     pub fn put<K: Sink>(&mut self, sink: &mut K) -> Result<(), Failed>
-        requires sound { IsSound self.old.origin.now (W.origin self.old.worker) (W.holds self.old.worker) (session_view self.old.session) self.old.replies.next self.old.lines }
-        ensures sound { OnOk result (IsSound self.new.origin.now (W.origin self.new.worker) (W.holds self.new.worker) (session_view self.new.session) self.new.replies.next self.new.lines) }
+        requires sound { IsSound (W.is_ready self.old.worker) self.old.origin.now (W.origin self.old.worker) (W.holds self.old.worker) (session_view self.old.session) self.old.replies.next self.old.lines }
+        ensures sound { OnOk result (IsSound (W.is_ready self.new.worker) self.new.origin.now (W.origin self.new.worker) (W.holds self.new.worker) (session_view self.new.session) self.new.replies.next self.new.lines) }
         ensures lines { self.new.lines ≡ self.old.lines }
         ensures origin { self.new.origin ≡ self.old.origin }
         ensures nothing { OnOk result (self.new.replies.text.items ≡ []) }

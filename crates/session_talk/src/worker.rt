@@ -20,6 +20,9 @@ pub trait Worker: Drop {
     /// The zone's origin.
     ghost origin: { Self → Labels };
 
+    /// It can go on. One who wanted memory for a command can't.
+    ghost is_ready: { Self → Type 0 };
+
     /// A snapshot is held.
     ghost holds: { Self → Bool };
 
@@ -28,8 +31,10 @@ pub trait Worker: Drop {
 
     /// Runs the next command.
     fn run(&mut self, command: &Command) -> Result<Outcome, AllocError>
+        requires ready { is_ready self.old }
         requires may { MayCome (holds self.old) (command_view command.now) }
         requires asked { AllAsked (origin self.old) (command_view command.now) }
+        ensures ready { IfOk result (λ _. is_ready self.new) }
         ensures origin { IfOk result (λ _. origin self.new ≡ origin self.old) }
         ensures held { IfOk result (λ _. holds self.new ≡ held_after (holds self.old) (command_view command.now)) }
         ensures ran { (o : Opened) (commands : List Asked) (os : List Ran) → has_run self.old o commands os
@@ -37,6 +42,8 @@ pub trait Worker: Drop {
 
     /// Shows that what the commands came to is all that has become of the index. It takes no memory and waits for nobody.
     fn tell(&mut self)
+        requires ready { is_ready self.old }
+        ensures ready { is_ready self.new }
         ensures origin { origin self.new ≡ origin self.old }
         ensures held { holds self.new ≡ holds self.old }
         ensures ran { (o : Opened) (commands : List Asked) (os : List Ran) → has_run self.old o commands os → has_run self.new o commands os }
@@ -44,5 +51,6 @@ pub trait Worker: Drop {
 
     /// Measures the last version. A snapshot that is held is given back.
     fn end(self) -> LastVersion
+        requires { is_ready self }
         ensures { (o : Opened) (commands : List Asked) (os : List Ran) → has_run self o commands os → EndsAt o commands os result };
 }

@@ -15,7 +15,7 @@ returns-clause-sound g c =
     let one = c.requires.one in
     let octets = octets_in _ one.0 one.1 (octets_of c.args.line.now (λ i. let k : get_or c.args.line.now i 0 < 256 = omega (arith, c.type_inv.line i) in k)) in
     let well = said_well _ _ _ _ one.0 _ _ _ c.requires.sound.name c.requires.sound.same c.requires.sound.held c.requires.sound.block octets (c.in_ok-said.ensures one.0 one.1) in
-    on_sound c.reply.result _ _ _ _ _ _ _ _ c.requires.sound.name c.requires.sound.same c.reply.ensures.origin (c.reply.ensures.held _ well.0) well.1 c.reply.ensures.few c.requires.sound.few
+    on_sound c.reply.result _ _ _ _ _ _ _ _ _ c.reply.ensures.ready c.requires.sound.name c.requires.sound.same c.reply.ensures.origin (c.reply.ensures.held _ well.0) well.1 c.reply.ensures.few c.requires.sound.few
 
 pub returns-clause-so_far : goal.returns-clause-so_far
 returns-clause-so_far g c = λ o first done written same fed h.
