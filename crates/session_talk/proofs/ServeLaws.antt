@@ -7,7 +7,7 @@ use Rattle.std.specs.Option.{option_map}
 use Rattle.std.proofs.lemmas.Bool.Decides.{nat_tests}
 use Rattle.std.proofs.lemmas.List.{get_or-take, length-take-le, take_at}
 use Rattle.std.proofs.lemmas.List.Sums.{fails_before_first, position_or_len_is}
-use Rattle.zone_text.proofs.LineLemmas.{found}
+use Rattle.zone_text.proofs.LineLemmas.{found, missed}
 use Rattle.session_talk.proofs.FedLaws.{feed_at}
 use Rattle.zone_model.specs.Lines.{lines_of}
 use Rattle.job_model.specs.Commands.{Command}
@@ -18,6 +18,12 @@ use Rattle.outer_io.specs.Bytes.{Grows, GrowsByFront, Held}
 use Rattle.outer_io.proofs.GrowsLemmas.{Grows-nil, Grows-trans}
 use Rattle.std.proofs.Common.{Result, Ok, Err}
 use Rattle.std.specs.Prelude.{OnErr, OnOk}
+use Rattle.std.specs.Result.{IsErrAnd}
+use Rattle.session_talk.specs.declared.serving.Stop.{Stop}
+use Rattle.session_talk.specs.declared.serving.Stop.TheVariants as stop
+use Rattle.session_talk.specs.Stops.{stop_of}
+use Rattle.session_lines.specs.declared.intake.NoMore.{NoMore}
+use Rattle.session_lines.specs.declared.intake.NoMore.TheVariants as no_more
 use Rattle.job_model.specs.declared.ScriptKind.TheVariants.{OpenBlock}
 use Rattle.session_lines.specs.Views.{open_view}
 use Rattle.session_lines.specs.Printing.{Printing, with_refused, with_text}
@@ -169,3 +175,31 @@ long_line bytes count e over =
     (λ lt. absurd (omega arith)) in
     let outside = not_below (length (take (2 ^ 24) bytes)) in
     (ap (λ (x : ℕ). cond (ltb x (length (take (2 ^ 24) bytes))) (Some x) None) none ∙ ap (λ (t : Bool). cond t (Some (length (take (2 ^ 24) bytes))) None) outside, omega (arith, f.1, p.1))
+
+-- the error that is passed on
+pub same_error : {A : Type 0} (r : Result A Stop) (e x : Stop) → IsErrAnd r (λ y. y ≡ e) → r ≡ Err x → x ≡ e
+same_error (Ok a) e x f is = absurd cc
+same_error (Err y) e x f is = let s : y ≡ x = cc in sym s ∙ f
+
+-- the first of bytes without a line feed have none
+pub front_unbroken : (n : ℕ) (bytes : List ℕ) → n ≤ length bytes → IsUnbroken bytes → IsUnbroken (take n bytes)
+front_unbroken n bytes le whole =
+    let far = missed (λ b. eqb b 10) bytes whole in
+    let short : length (take n bytes) ≡ n = length-take-le n bytes le in
+    let none : position_or_len (λ b. eqb b 10) (take n bytes) ≡ length (take n bytes) =
+    position_or_len_is (λ b. eqb b 10) (take n bytes) (length (take n bytes)) 0 (omega arith)
+    (λ k lt. ap (λ (c : ℕ). eqb c 10) (get_or-take n bytes k 0 (omega (arith, short))) ∙ fails_before_first (λ b. eqb b 10) bytes k 0 (omega (arith, far, short)))
+    (λ lt. absurd (omega arith)) in
+    let outside = not_below (length (take n bytes)) in
+    ap (λ (x : ℕ). cond (ltb x (length (take n bytes))) (Some x) None) none ∙ ap (λ (t : Bool). cond t (Some (length (take n bytes))) None) outside
+
+-- why no more was taken
+pub fault_of : (e : NoMore) → stop.Fault ≡ stop_of e → e ≡ no_more.Fault
+fault_of no_more.Fault is = refl
+fault_of no_more.TooLong is = cc
+fault_of no_more.Memory is = cc
+
+pub too_long_of : (e : NoMore) → stop.TooLong ≡ stop_of e → e ≡ no_more.TooLong
+too_long_of no_more.Fault is = cc
+too_long_of no_more.TooLong is = refl
+too_long_of no_more.Memory is = cc

@@ -210,16 +210,19 @@ fn finish<W: Worker, K: Sink>(
     ensures stands { (way : Way) (given : List ℕ) → way.opened.origin ≡ answering.entry.origin.now
         → AtWork (W.has_run answering.entry.worker way.opened) way given (K.held sink.old) (session_view answering.entry.session) (printing answering.entry.replies) answering.entry.lines intake.now.bytes
         → Stands way given (K.held sink.old) → OnErr result (Stands way given (K.held sink.new)) }
-    ensures too_long { IsErrOf result Stop.TooLong → (2 ^ 24 < length intake.now.bytes) × (K.held sink.new ≡ K.held sink.old) }
+    ensures too_long { (way : Way) (given : List ℕ) → way.opened.origin ≡ answering.entry.origin.now
+        → AtWork (W.has_run answering.entry.worker way.opened) way given (K.held sink.old) (session_view answering.entry.session) (printing answering.entry.replies) answering.entry.lines intake.now.bytes
+        → IsErrOf result Stop.TooLong → IsTooLong way given (K.held sink.new) }
 {
     let rest = intake.len();
+    let mut answering = answering;
     if rest > LONGEST {
+        answering.put(sink)?;
         return Err(Stop::TooLong);
     }
     if rest == 0 {
         return end(answering, sink);
     }
-    let mut answering = answering;
     answering.answer(intake.front(rest))?;
     end(answering, sink)
 }
@@ -246,6 +249,9 @@ fn answer_due<W: Worker, K: Sink>(
     ensures settled { (way : Way) (given : List ℕ) → way.opened.origin ≡ answering.old.origin.now
         → AtWork (W.has_run answering.old.worker way.opened) way given (K.held sink.old) (session_view answering.old.session) (printing answering.old.replies) answering.old.lines intake.old.bytes
         → OnOk result (Settled way given (K.held sink.new)) }
+    ensures long { (way : Way) (given : List ℕ) → way.opened.origin ≡ answering.old.origin.now
+        → AtWork (W.has_run answering.old.worker way.opened) way given (K.held sink.old) (session_view answering.old.session) (printing answering.old.replies) answering.old.lines intake.old.bytes
+        → OnOk result (2 ^ 24 < length intake.new.bytes → IsTooLong way given (K.held sink.new)) }
     ensures stands { (way : Way) (given : List ℕ) → way.opened.origin ≡ answering.old.origin.now
         → AtWork (W.has_run answering.old.worker way.opened) way given (K.held sink.old) (session_view answering.old.session) (printing answering.old.replies) answering.old.lines intake.old.bytes
         → Stands way given (K.held sink.old) → Stands way given (K.held sink.new) }
@@ -274,7 +280,9 @@ fn turn<W: Worker, K: Sink, T: Talk<K>>(
     ensures origin { OnOk result (answering.new.origin ≡ answering.old.origin) }
     ensures may { OnOk result (MayServe T.is_settled (λ way. W.has_run answering.new.worker way.opened) answering.new.origin.now (T.given talk.new) (K.held sink.new)
         (session_view answering.new.session) (printing answering.new.replies) answering.new.lines intake.new.bytes) }
-    ensures over { result ≡ Ok false → IsUnbroken intake.new.bytes × (intake.old.ended ≡ true) }
+    ensures over { result ≡ Ok false → IsUnbroken intake.new.bytes × (intake.old.ended ≡ true) × (T.ended talk.new ≡ T.ended talk.old) }
+    ensures more { result ≡ Ok true → intake.new.ended ≡ false → length (T.given talk.old) < length (T.given talk.new) }
+    ensures begun { result ≡ Ok true → intake.old.ended ≡ false }
     ensures ended { OnOk result (intake.old.ended ≡ false → intake.new.ended ≡ true → IsTrue (T.ended talk.new)) }
     ensures quiet_sink { (IsErrOf result Stop.Sink → ⊥) → K.faults sink.new ≡ K.faults sink.old }
     ensures sink_fault { IsErrOf result Stop.Sink → Rose (K.faults sink.old) (K.faults sink.new) }
@@ -299,4 +307,46 @@ fn turn<W: Worker, K: Sink, T: Talk<K>>(
     }
     intake.take(talk, sink)?;
     Ok(true)
+}
+
+/// Answers a session's lines to the end of input, or to the 2^46th read. What is due for all lines that are whole is written before more is
+/// asked for. Tells whether anything was refused.
+pub fn serve<W: Worker, K: Sink, T: Talk<K>>(
+    answering: Answering<'_, W>,
+    intake: &mut Intake,
+    talk: &mut T,
+    sink: &mut K,
+) -> Result<bool, Stop>
+    requires sound { IsSound (W.is_ready answering.worker) answering.origin.now (W.origin answering.worker) (W.holds answering.worker) (session_view answering.session) answering.replies.next answering.lines }
+    requires few { answering.lines + length intake.old.bytes ≤ 2 ^ 26 }
+    requires ended { intake.old.ended ≡ true → IsTrue (T.ended talk.old) }
+    requires may { MayServe T.is_settled (λ way. W.has_run answering.worker way.opened) answering.origin.now (T.given talk.old) (K.held sink.old)
+        (session_view answering.session) (printing answering.replies) answering.lines intake.old.bytes }
+    ensures ok { (way : Way) → way.opened.origin ≡ answering.entry.origin.now
+        → AtWork (W.has_run answering.entry.worker way.opened) way (T.given talk.old) (K.held sink.old) (session_view answering.entry.session) (printing answering.entry.replies) answering.entry.lines intake.old.bytes
+        → IfOk result (λ refused. Finished way refused (T.given talk.new) (K.held sink.new)) }
+    ensures ended { OnOk result (IsTrue (T.ended talk.new) ⊎ (2 ^ 46 ≤ length (T.given talk.new))) }
+    ensures settled { IsErrOf result Stop.Fault → (way : Way) → way.opened.origin ≡ answering.entry.origin.now
+        → AtWork (W.has_run answering.entry.worker way.opened) way (T.given talk.old) (K.held sink.old) (session_view answering.entry.session) (printing answering.entry.replies) answering.entry.lines intake.old.bytes
+        → Settled way (T.given talk.new) (K.held sink.new) }
+    ensures too_long { IsErrOf result Stop.TooLong → (way : Way) → way.opened.origin ≡ answering.entry.origin.now
+        → AtWork (W.has_run answering.entry.worker way.opened) way (T.given talk.old) (K.held sink.old) (session_view answering.entry.session) (printing answering.entry.replies) answering.entry.lines intake.old.bytes
+        → IsTooLong way (T.given talk.new) (K.held sink.new) }
+    ensures stands { (way : Way) → way.opened.origin ≡ answering.entry.origin.now
+        → AtWork (W.has_run answering.entry.worker way.opened) way (T.given talk.old) (K.held sink.old) (session_view answering.entry.session) (printing answering.entry.replies) answering.entry.lines intake.old.bytes
+        → OnErr result (Stands way (T.given talk.new) (K.held sink.new)) }
+    ensures quiet_sink { (IsErrOf result Stop.Sink → ⊥) → K.faults sink.new ≡ K.faults sink.old }
+    ensures sink_fault { IsErrOf result Stop.Sink → Rose (K.faults sink.old) (K.faults sink.new) }
+    ensures quiet_talk { (IsErrOf result Stop.Fault → ⊥) → T.faults talk.new ≡ T.faults talk.old }
+    ensures talk_fault { IsErrOf result Stop.Fault → Rose (T.faults talk.old) (T.faults talk.new) }
+{
+    let mut answering = answering;
+    answering.put(sink)?;
+    'reads: for _ in 0..READS {
+        if !turn(&mut answering, intake, talk, sink)? {
+            return finish(answering, intake, sink);
+        }
+    }
+    answer_lines(&mut answering, intake, sink)?;
+    finish(answering, intake, sink)
 }

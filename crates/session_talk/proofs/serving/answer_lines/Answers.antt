@@ -1,5 +1,6 @@
-use Rattle.std.proofs.Common.{◌≡◌, ◌∙◌, ◌<◌, ◌^◌, ℕ, List, length, refl, sym, ap, arith}
-use Rattle.session_talk.proofs.ServeLaws.{grows_front, long_line, no_line, put_stands, too_long_by}
+use Rattle.std.proofs.Common.{◌≡◌, ◌∙◌, ◌<◌, ◌^◌, ℕ, List, length, Err, refl, sym, ap, arith}
+use Rattle.session_talk.proofs.ServeLaws.{grows_front, long_line, no_line, put_stands, same_error, too_long_by}
+use Rattle.session_talk.specs.declared.serving.Stop.TheVariants.{Sink, TooLong}
 use Rattle.session_talk.proofs.serving.answer_lines.Goals as goal
 
 pub lines-init : goal.lines-init
@@ -38,7 +39,9 @@ returns-in_err-put-clause-stands g c = λ way given same w st.
     put_stands way given _ _ _ _ _ _ c.lines.intake.bytes work (c.in_err-put.ensures.answers way.opened way.first work.done work.written work.so_far) c.in_err-put.ensures.err
 
 pub returns-in_err-put-clause-too_long : goal.returns-in_err-put-clause-too_long
-returns-in_err-put-clause-too_long g c = λ way given same w is. let f = c.from_residual.ensures in ?
+returns-in_err-put-clause-too_long g c = λ way given same w is. absurd (let n : TooLong ≡ Sink = same_error c.from_residual.result _ _ c.from_residual.ensures.1 is in cc)
 
 pub returns-in_err-answer_next-clause-too_long : goal.returns-in_err-answer_next-clause-too_long
-returns-in_err-answer_next-clause-too_long g c = λ way given same w is. let f = c.from_residual.ensures in ?
+returns-in_err-answer_next-clause-too_long g c = λ way given same w is.
+    let n = same_error c.from_residual-in_err-answer_next.result _ _ c.from_residual-in_err-answer_next.ensures.1 is in
+    absurd (c.in_err-answer_next.ensures.others.1 (ap Err (sym n)))
