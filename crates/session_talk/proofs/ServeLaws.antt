@@ -58,7 +58,13 @@ module _ (way : Way) (given : List ℕ) (held now : Held) (ran : List Command �
 
   pub settled_by : IsUnbroken pending → AnswersLines way.opened way.first w.done (w.written ++ p.text) → Grows held now p.text → Settled way given now
   settled_by unbroken answers g = record {
-    done = w.done; rest = pending; fed = w.fed; unbroken = unbroken; gave = w.gave; text = w.written ++ p.text; answers = answers;
+    done = w.done;
+    rest = pending;
+    fed = w.fed;
+    unbroken = unbroken;
+    gave = w.gave;
+    text = w.written ++ p.text;
+    answers = answers;
     grew = Grows-trans way.held held now w.written p.text w.grew g;
   }
 
@@ -70,7 +76,14 @@ module _ (way : Way) (given : List ℕ) (held now : Held) (ran : List Command �
 
   pub too_long_by : IsUnbroken (take (2 ^ 24) pending) → 2 ^ 24 < length pending → AnswersLines way.opened way.first w.done (w.written ++ p.text) → Grows held now p.text → IsTooLong way given now
   too_long_by unbroken over answers g = record {
-    done = w.done; rest = pending; fed = w.fed; long = unbroken; over = over; gave = w.gave; text = w.written ++ p.text; answers = answers;
+    done = w.done;
+    rest = pending;
+    fed = w.fed;
+    long = unbroken;
+    over = over;
+    gave = w.gave;
+    text = w.written ++ p.text;
+    answers = answers;
     grew = Grows-trans way.held held now w.written p.text w.grew g;
   }
 
@@ -79,24 +92,35 @@ module _ (way : Way) (given : List ℕ) (held now : Held) (ran : List Command �
   pub line_work : (ran' : List Command → List Outcome → Type 0) (s' : Session) (p' : Printing) (lines' count : ℕ) → IsFed (w.done ++ take count pending)
       → SoFar ran' way.opened way.first (w.done ++ take count pending) w.written s' p' lines' → AtWork ran' way given held s' p' lines' (drop count pending)
   line_work ran' s' p' lines' count fed h = record {
-    done = w.done ++ take count pending; written = w.written; fed = fed;
+    done = w.done ++ take count pending;
+    written = w.written;
+    fed = fed;
     gave = w.gave ∙ ap (λ (l : List ℕ). (way.given ++ w.done) ++ l) (let e : pending ≡ take count pending ++ drop count pending = grind (arith, common_steps) in e)
         ∙ sym (append_assoc (way.given ++ w.done) (take count pending) (drop count pending)) ∙ ap (λ (l : List ℕ). l ++ drop count pending) (append_assoc way.given w.done (take count pending));
-    grew = w.grew; so_far = h;
+    grew = w.grew;
+    so_far = h;
   }
 
   -- ---- more was taken
 
   pub more_work : (more : List ℕ) → AtWork ran way (given ++ more) held s p lines (pending ++ more)
   more_work more = record {
-    done = w.done; written = w.written; fed = w.fed;
+    done = w.done;
+    written = w.written;
+    fed = w.fed;
     gave = ap (λ (l : List ℕ). l ++ more) w.gave ∙ append_assoc (way.given ++ w.done) pending more;
-    grew = w.grew; so_far = w.so_far;
+    grew = w.grew;
+    so_far = w.so_far;
   }
 
 pub more_stands : (way : Way) (given more : List ℕ) (held : Held) → Stands way given held → Stands way (given ++ more) held
 more_stands way given more held h = record {
-  lines = h.lines; rest = h.rest ++ more; gave = ap (λ (l : List ℕ). l ++ more) h.gave ∙ append_assoc (way.given ++ h.lines) h.rest more; text = h.text; due = h.due; grew = h.grew;
+  lines = h.lines;
+  rest = h.rest ++ more;
+  gave = ap (λ (l : List ℕ). l ++ more) h.gave ∙ append_assoc (way.given ++ h.lines) h.rest more;
+  text = h.text;
+  due = h.due;
+  grew = h.grew;
 }
 
 -- ---- the end
@@ -133,7 +157,12 @@ module _ (way : Way) (done written : List ℕ) (ran : List Command → List Outc
 
   pub ended_stands : (given : List ℕ) (held now : Held) → given ≡ way.given ++ done → Grows way.held held written → GrowsByFront held now all'.text → Stands way given now
   ended_stands given held now gave grew g = record {
-    lines = done; rest = []; gave = gave ∙ sym (append-nil (way.given ++ done)); text = written ++ all'.text; due = inr (all'.refused, ends_lines); grew = front_behind way.held held now written all'.text grew g;
+    lines = done;
+    rest = [];
+    gave = gave ∙ sym (append-nil (way.given ++ done));
+    text = written ++ all'.text;
+    due = inr (all'.refused, ends_lines);
+    grew = front_behind way.held held now written all'.text grew g;
   }
 
 pub on_err : {A E P : Type 0} (r : Result A E) → P → OnErr r P

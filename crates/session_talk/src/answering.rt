@@ -102,13 +102,9 @@ impl<W: Worker> Answering<'_, W> {
             → OnOk result (SoFar (W.has_run self.new.worker o) o first (done ++ line.now) written (session_view self.new.session) (printing self.new.replies) self.new.lines) }
     {
         self.lines += 1;
-        let said = self.session.take_line(
-            self.alloc,
-            line,
-            self.lines,
-            self.origin,
-            &mut self.lent,
-        )?;
+        let said = self
+            .session
+            .take_line(self.alloc, line, self.lines, self.origin, &mut self.lent)?;
         reply(&mut self.worker, &mut self.replies, self.lines, &said)
     }
 

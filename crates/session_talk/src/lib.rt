@@ -6,5 +6,5 @@ mod serving;
 mod worker;
 
 pub use answering::{Answering, begin};
-pub use serving::{Stop, serve};
+pub use serving::{Stop, finish, turn};
 pub use worker::{LastVersion, Worker};

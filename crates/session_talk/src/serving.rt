@@ -1,5 +1,5 @@
 //! The loop of a session: what is due for all lines that were taken is written before more are asked for.
-ghost use Rattle.std.specs.Prelude.{◌≡◌, ◌⊎◌, ◌<◌, ◌≤◌, ◌+◌, ◌++◌, ◌^◌, [], ℕ, Bool, true, false, Ok, Err, List, Some, IsTrue, IfOk, IsErrOf, OnOk, OnErr, length, take, drop};
+ghost use Rattle.std.specs.Prelude.{◌≡◌, ◌<◌, ◌≤◌, ◌+◌, ◌++◌, ◌^◌, [], ℕ, Bool, true, false, Ok, Err, List, Some, IsTrue, IfOk, IsErrOf, OnOk, OnErr, length, take, drop};
 ghost use Rattle.session_talk.specs.Prelude.{Grows, GrowsByFront, IsUnbroken, Rose, line_end, printing, session_view};
 ghost use Rattle.session_talk.specs.Answering.{IsSound, Way};
 ghost use Rattle.session_talk.specs.Serving.{AtWork, Finished, IsTooLong, LeftOpen, LinesDone, MayServe, Settled, Stands};
@@ -60,9 +60,6 @@ impl From<NoMore> for Stop {
 
 // So many octets of replies are written, though more lines are there.
 const LONG: usize = 65536;
-
-// The most reads. Each but the last gives something, so there are no more lines than a counter of 64 bits can count.
-const READS: u64 = 1 << 46;
 
 // Writes what is to be written where that is much.
 fn flush<W: Worker, K: Sink>(answering: &mut Answering<'_, W>, sink: &mut K) -> Result<(), Stop>
@@ -192,8 +189,8 @@ fn end<W: Worker, K: Sink>(answering: Answering<'_, W>, sink: &mut K) -> Result<
     Ok(replies.refused)
 }
 
-// Answers a last line, which needs no line feed, and ends.
-fn finish<W: Worker, K: Sink>(
+/// Answers a last line, which needs no line feed, and ends: where no more lines come. Tells whether anything was refused.
+pub fn finish<W: Worker, K: Sink>(
     answering: Answering<'_, W>,
     intake: &Intake,
     sink: &mut K,
@@ -264,8 +261,8 @@ fn answer_due<W: Worker, K: Sink>(
     Ok(())
 }
 
-// Answers the whole lines that were taken, writes what is due, and takes more where the end of input wasn't told.
-fn turn<W: Worker, K: Sink, T: Talk<K>>(
+/// Answers the whole lines that were taken, writes what is due, and takes more where the end of input wasn't told. Whether there may be more.
+pub fn turn<W: Worker, K: Sink, T: Talk<K>>(
     answering: &mut Answering<'_, W>,
     intake: &mut Intake,
     talk: &mut T,
@@ -307,46 +304,4 @@ fn turn<W: Worker, K: Sink, T: Talk<K>>(
     }
     intake.take(talk, sink)?;
     Ok(true)
-}
-
-/// Answers a session's lines to the end of input, or to the 2^46th read. What is due for all lines that are whole is written before more is
-/// asked for. Tells whether anything was refused.
-pub fn serve<W: Worker, K: Sink, T: Talk<K>>(
-    answering: Answering<'_, W>,
-    intake: &mut Intake,
-    talk: &mut T,
-    sink: &mut K,
-) -> Result<bool, Stop>
-    requires sound { IsSound (W.is_ready answering.worker) answering.origin.now (W.origin answering.worker) (W.holds answering.worker) (session_view answering.session) answering.replies.next answering.lines }
-    requires few { answering.lines + length intake.old.bytes ≤ 2 ^ 26 }
-    requires ended { intake.old.ended ≡ true → IsTrue (T.ended talk.old) }
-    requires may { MayServe T.is_settled (λ way. W.has_run answering.worker way.opened) answering.origin.now (T.given talk.old) (K.held sink.old)
-        (session_view answering.session) (printing answering.replies) answering.lines intake.old.bytes }
-    ensures ok { (way : Way) → way.opened.origin ≡ answering.entry.origin.now
-        → AtWork (W.has_run answering.entry.worker way.opened) way (T.given talk.old) (K.held sink.old) (session_view answering.entry.session) (printing answering.entry.replies) answering.entry.lines intake.old.bytes
-        → IfOk result (λ refused. Finished way refused (T.given talk.new) (K.held sink.new)) }
-    ensures ended { OnOk result (IsTrue (T.ended talk.new) ⊎ (2 ^ 46 ≤ length (T.given talk.new))) }
-    ensures settled { IsErrOf result Stop.Fault → (way : Way) → way.opened.origin ≡ answering.entry.origin.now
-        → AtWork (W.has_run answering.entry.worker way.opened) way (T.given talk.old) (K.held sink.old) (session_view answering.entry.session) (printing answering.entry.replies) answering.entry.lines intake.old.bytes
-        → Settled way (T.given talk.new) (K.held sink.new) }
-    ensures too_long { IsErrOf result Stop.TooLong → (way : Way) → way.opened.origin ≡ answering.entry.origin.now
-        → AtWork (W.has_run answering.entry.worker way.opened) way (T.given talk.old) (K.held sink.old) (session_view answering.entry.session) (printing answering.entry.replies) answering.entry.lines intake.old.bytes
-        → IsTooLong way (T.given talk.new) (K.held sink.new) }
-    ensures stands { (way : Way) → way.opened.origin ≡ answering.entry.origin.now
-        → AtWork (W.has_run answering.entry.worker way.opened) way (T.given talk.old) (K.held sink.old) (session_view answering.entry.session) (printing answering.entry.replies) answering.entry.lines intake.old.bytes
-        → OnErr result (Stands way (T.given talk.new) (K.held sink.new)) }
-    ensures quiet_sink { (IsErrOf result Stop.Sink → ⊥) → K.faults sink.new ≡ K.faults sink.old }
-    ensures sink_fault { IsErrOf result Stop.Sink → Rose (K.faults sink.old) (K.faults sink.new) }
-    ensures quiet_talk { (IsErrOf result Stop.Fault → ⊥) → T.faults talk.new ≡ T.faults talk.old }
-    ensures talk_fault { IsErrOf result Stop.Fault → Rose (T.faults talk.old) (T.faults talk.new) }
-{
-    let mut answering = answering;
-    answering.put(sink)?;
-    'reads: for _ in 0..READS {
-        if !turn(&mut answering, intake, talk, sink)? {
-            return finish(answering, intake, sink);
-        }
-    }
-    answer_lines(&mut answering, intake, sink)?;
-    finish(answering, intake, sink)
 }
