@@ -1,5 +1,5 @@
 -- What a session has read and written, step by step.
-use Rattle.std.proofs.Common.{◌≡◌, ◌∙◌, ℕ, ◌+◌, ◌-◌, ◌<◌, ◌≤◌, ◌^◌, suc, zero-add, Bool, true, false, List, [], ◌∷◌, ◌++◌, length, take, drop, Option, Some, None, refl, sym, ap, arith, subst, inl, inr, append_assoc, append-nil, length-append}
+use Rattle.std.proofs.Common.{◌≡◌, ◌∙◌, ◌⊎◌, ℕ, ◌+◌, ◌-◌, ◌<◌, ◌≤◌, ◌^◌, suc, zero-add, Bool, true, false, List, [], ◌∷◌, ◌++◌, length, take, drop, Option, Some, None, refl, sym, ap, arith, subst, inl, inr, append_assoc, append-nil, length-append}
 use Rattle.std.proofs.lemmas.Grind.{common_steps}
 use Rattle.std.proofs.Common.{cond, eqb, get_or, ltb}
 use Rattle.std.specs.List.{position, position_or_len}
@@ -18,7 +18,7 @@ use Rattle.outer_io.specs.Bytes.{Grows, GrowsByFront, Held}
 use Rattle.outer_io.proofs.GrowsLemmas.{Grows-nil, Grows-trans}
 use Rattle.std.proofs.Common.{Result, Ok, Err}
 use Rattle.std.specs.Prelude.{OnErr, OnOk}
-use Rattle.std.specs.Result.{IsErrAnd}
+use Rattle.std.specs.Result.{IsErrAnd, IsErrOf}
 use Rattle.session_talk.specs.declared.serving.Stop.{Stop}
 use Rattle.session_talk.specs.declared.serving.Stop.TheVariants as stop
 use Rattle.session_talk.specs.Stops.{stop_of}
@@ -232,3 +232,12 @@ pub too_long_of : (e : NoMore) → stop.TooLong ≡ stop_of e → e ≡ no_more.
 too_long_of no_more.Fault is = cc
 too_long_of no_more.TooLong is = refl
 too_long_of no_more.Memory is = cc
+
+pub passed_as : {A B : Type 0} (r : Result A Stop) (e x : Stop) → IsErrAnd r (λ y. y ≡ e) → IsErrOf {T = B} (Err e) x → r ≡ Err x
+passed_as (Ok a) e x f k = absurd f
+passed_as (Err y) e x f k = let s : e ≡ x = cc in ap Err (f ∙ s)
+
+-- the end of input was told, or so many reads were made
+pub either_end : (b : Bool) (P : Type 0) (n counter many : ℕ) → (b ≡ true → P) → (b ≡ false → counter ≤ many) → n ≤ counter → P ⊎ (n ≤ many)
+either_end true P n counter many t f le = inl (t refl)
+either_end false P n counter many t f le = inr (let m : counter ≤ many = f refl in omega arith)

@@ -2,9 +2,11 @@
 #![tactic(auto)]
 
 mod answering;
+mod reads;
 mod serving;
 mod worker;
 
 pub use answering::{Answering, begin};
-pub use serving::{Stop, finish, turn};
+pub use reads::serve_lines;
+pub use serving::{Stop, answer_due, finish};
 pub use worker::{LastVersion, Worker};

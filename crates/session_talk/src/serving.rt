@@ -224,8 +224,8 @@ pub fn finish<W: Worker, K: Sink>(
     end(answering, sink)
 }
 
-// Answers the whole lines that were taken, and writes what is due.
-fn answer_due<W: Worker, K: Sink>(
+/// Answers the whole lines that were taken, and writes what is due.
+pub fn answer_due<W: Worker, K: Sink>(
     answering: &mut Answering<'_, W>,
     intake: &mut Intake,
     sink: &mut K,
@@ -261,7 +261,8 @@ fn answer_due<W: Worker, K: Sink>(
     Ok(())
 }
 
-/// Answers the whole lines that were taken, writes what is due, and takes more where the end of input wasn't told. Whether there may be more.
+/// Answers the whole lines that were taken, writes what is due, and takes more where the end of input wasn't told. Tells whether there may be
+/// more.
 pub fn turn<W: Worker, K: Sink, T: Talk<K>>(
     answering: &mut Answering<'_, W>,
     intake: &mut Intake,
