@@ -154,6 +154,7 @@ impl Intake {
         ensures grows { (more : List ℕ) × Consumes (T.left talk.old) (T.left talk.new) more × (T.given talk.new ≡ T.given talk.old ++ more) × (length more ≤ 65536)
             × OnOk result (self.new.bytes ≡ self.old.bytes ++ more) }
         ensures ended { OnOk result (self.new.ended ≡ true → self.old.ended ≡ false → IsTrue (T.ended talk.new)) }
+        ensures some { OnOk result (self.new.ended ≡ false → length (T.given talk.old) < length (T.given talk.new)) }
         ensures short { OnOk result (length self.old.bytes ≤ 2 ^ 24) }
         ensures too_long { IsErrOf result NoMore.TooLong → (2 ^ 24 < length self.old.bytes) × (self.new ≡ self.old) × (T.given talk.new ≡ T.given talk.old) }
         ensures fault { IsErrOf result NoMore.Fault → Rose (T.faults talk.old) (T.faults talk.new) }

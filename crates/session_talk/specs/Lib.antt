@@ -1,0 +1,6 @@
+pub mod Workers
+pub mod Entries
+pub mod Answering
+pub mod Serving
+pub mod Stops
+pub mod Prelude

@@ -1,0 +1,30 @@
+-- What one worker's commands have come to at an index that is open.
+use Rattle.std.specs.Prelude.{◌≡◌, ℕ, List, [], ◌∷◌, length}
+use Rattle.zone_model.specs.Names.{Name}
+use Rattle.zone_model.specs.Versions.{Version}
+use Rattle.job_model.specs.Commands.{Command}
+use Rattle.job_model.specs.Feeds.{passes_fed}
+use Rattle.job_model.specs.Outcomes.{Lawful, all_pairs, version_at}
+use Rattle.job_script.specs.Outcomes.{EachTells, pairs_of}
+use Rattle.job_script.specs.declared.outcomes.Outcome.{Outcome}
+use Rattle.session_talk.specs.declared.worker.LastVersion.{LastVersion}
+
+-- how many chunks an index has, the zone's origin, and version 0
+pub record Opened : Type 0 where
+  pub chunks : ℕ
+  pub origin : Name
+  pub zone : Version
+
+-- the versions of the zone that the outcomes make
+abbrev pub versions_by : Opened → List Command → List Outcome → ℕ → Version
+versions_by o commands os = version_at o.origin o.zone (all_pairs (pairs_of commands os ∷ []))
+
+-- The outcomes are lawful, where this is the current version, and tell what is so of the versions that they make.
+pub record ComesTo (o : Opened) (commands : List Command) (os : List Outcome) (last : ℕ) : Type 0 where
+  pub lawful : Lawful o.chunks (passes_fed 1) o.origin o.zone (pairs_of commands os ∷ []) last
+  pub tell : EachTells o.origin (versions_by o commands os) commands os
+
+-- and that version has so many names
+pub record EndsAt (o : Opened) (commands : List Command) (os : List Outcome) (last : LastVersion) : Type 0 where
+  pub comes_to : ComesTo o commands os last.version
+  pub names_are : last.names ≡ length (versions_by o commands os last.version)

@@ -1,0 +1,134 @@
+//! What was answered so far, and what one line more comes to.
+ghost use Rattle.std.specs.Prelude.{◌≡◌, ◌<◌, ◌≤◌, ◌+◌, ◌-◌, ◌++◌, ◌∷◌, ◌^◌, [], ℕ, Bool, List, false, IfOk, OnOk, OnErr, length};
+ghost use Rattle.session_talk.specs.Prelude.{Grows, GrowsByFront, IsName, Rose, lines_of, printing, said_view, session_view, RunsWell};
+ghost use Rattle.session_talk.specs.Entries.{Entry, Ran, Replied};
+ghost use Rattle.session_talk.specs.Answering.{AnswersLines, IsFed, IsSound, SoFar};
+ghost use Rattle.session_talk.specs.Workers.{Opened};
+
+use crate::worker::Worker;
+use dns_name::Name;
+use outer_io::{Failed, Sink, write_all};
+use session_lines::{Replies, Said, Session};
+use std::alloc::{AllocError, Global};
+use zone_text::Token;
+
+/// A session with its worker: what it is between two lines, what is printed, and the number of the last line.
+#[derive(Drop)]
+pub struct Answering<'a, W: Worker> {
+    pub alloc: Global,
+    pub origin: &'a Name,
+    pub worker: W,
+    pub session: Session,
+    pub replies: Replies,
+    pub lines: u64,
+    pub lent: Vec<Token>,
+}
+
+// Runs what a line says, or puts down that the line is refused.
+fn reply<W: Worker>(
+    worker: &mut W,
+    replies: &mut Replies,
+    line: u64,
+    said: &Said,
+) -> Result<(), AllocError>
+    requires ready { W.is_ready worker.old }
+    requires few { replies.old.next < 2 ^ 64 - 1 }
+    requires well { (now : Bool) × RunsWell (W.origin worker.old) (W.holds worker.old) now (said_view line said.now) }
+    ensures ready { OnOk result (W.is_ready worker.new) }
+    ensures origin { OnOk result (W.origin worker.new ≡ W.origin worker.old) }
+    ensures held { (now : Bool) → RunsWell (W.origin worker.old) (W.holds worker.old) now (said_view line said.now) → OnOk result (W.holds worker.new ≡ now) }
+    ensures few { OnOk result (replies.new.next ≤ replies.old.next + 1) }
+    ensures replied { (o : Opened) (entries : List Entry) → Ran (W.has_run worker.old o) entries
+        → OnOk result (Replied (W.has_run worker.new o) entries (said_view line said.now) (printing replies.old) (printing replies.new)) }
+{
+    match said {
+        Said::Nothing => Ok(()),
+        Said::Runs(command) => {
+            let outcome = worker.run(command)?;
+            replies.push_ran(command, &outcome)
+        }
+        Said::Refuses(kind) => replies.push_refused(line, *kind),
+        Said::GivesUp => replies.push_given_up(),
+        Said::RefusesLastWord(kind) => {
+            replies.push_refused(line, *kind)?;
+            replies.push_given_up()
+        }
+    }
+}
+
+/// A session over a worker who has run nothing yet, whose first line has a number. Version 0 has so many names.
+pub fn begin<W: Worker>(
+    alloc: Global,
+    origin: &Name,
+    worker: W,
+    first: u64,
+    names: u64,
+) -> Result<Answering<'_, W>, AllocError>
+    requires first { 0 < first }
+    requires ready { W.is_ready worker }
+    requires same { W.origin worker ≡ origin.now }
+    requires free { W.holds worker ≡ false }
+    ensures sound { IfOk result (λ a. IsSound (W.is_ready a.worker) a.origin.now (W.origin a.worker) (W.holds a.worker) (session_view a.session) a.replies.next a.lines) }
+    ensures so_far { (o : Opened) → o.origin ≡ origin.now → length o.zone ≡ names → W.has_run worker o [] []
+        → IfOk result (λ a. SoFar (W.has_run a.worker o) o first [] [] (session_view a.session) (printing a.replies) a.lines) }
+{
+    let _wire = origin.wire(); // for the proof: it is a name
+    let mut replies = Replies::new(alloc);
+    replies.push_ready(names)?;
+    Ok(Answering {
+        alloc,
+        origin,
+        worker,
+        session: Session::new(),
+        replies,
+        lines: first - 1,
+        lent: Vec::new(alloc),
+    })
+}
+
+impl<W: Worker> Answering<'_, W> {
+    /// Answers a line, which has its line feed unless it is the last.
+    pub fn answer(&mut self, line: &[u8]) -> Result<(), AllocError>
+        requires sound { IsSound (W.is_ready self.old.worker) self.old.origin.now (W.origin self.old.worker) (W.holds self.old.worker) (session_view self.old.session) self.old.replies.next self.old.lines }
+        requires few { self.old.lines < 2 ^ 63 }
+        requires some { 0 < length line.now }
+        requires short { length line.now ≤ 2 ^ 24 }
+        requires one { (text : List ℕ) × (lines_of line.now ≡ text ∷ []) }
+        ensures sound { OnOk result (IsSound (W.is_ready self.new.worker) self.new.origin.now (W.origin self.new.worker) (W.holds self.new.worker) (session_view self.new.session) self.new.replies.next self.new.lines) }
+        ensures lines { OnOk result (self.new.lines ≡ self.old.lines + 1) }
+        ensures origin { OnOk result (self.new.origin ≡ self.old.origin) }
+        ensures so_far { (o : Opened) (first : ℕ) (done written : List ℕ) → o.origin ≡ self.old.origin.now → IsFed done
+            → SoFar (W.has_run self.old.worker o) o first done written (session_view self.old.session) (printing self.old.replies) self.old.lines
+            → OnOk result (SoFar (W.has_run self.new.worker o) o first (done ++ line.now) written (session_view self.new.session) (printing self.new.replies) self.new.lines) }
+    {
+        self.lines += 1;
+        let said = self
+            .session
+            .take_line(self.alloc, line, self.lines, self.origin, &mut self.lent)?;
+        reply(&mut self.worker, &mut self.replies, self.lines, &said)
+    }
+
+    /// Writes what is to be written.
+    pub fn put<K: Sink>(&mut self, sink: &mut K) -> Result<(), Failed>
+        requires sound { IsSound (W.is_ready self.old.worker) self.old.origin.now (W.origin self.old.worker) (W.holds self.old.worker) (session_view self.old.session) self.old.replies.next self.old.lines }
+        ensures sound { OnOk result (IsSound (W.is_ready self.new.worker) self.new.origin.now (W.origin self.new.worker) (W.holds self.new.worker) (session_view self.new.session) self.new.replies.next self.new.lines) }
+        ensures lines { self.new.lines ≡ self.old.lines }
+        ensures origin { self.new.origin ≡ self.old.origin }
+        ensures nothing { OnOk result (self.new.replies.text.items ≡ []) }
+        ensures ok { OnOk result (Grows (K.held sink.old) (K.held sink.new) self.old.replies.text.items) }
+        ensures err { OnErr result (GrowsByFront (K.held sink.old) (K.held sink.new) self.old.replies.text.items) }
+        ensures failed { OnErr result (Rose (K.faults sink.old) (K.faults sink.new)) }
+        ensures quiet { OnOk result (K.faults sink.new ≡ K.faults sink.old) }
+        ensures answers { (o : Opened) (first : ℕ) (done written : List ℕ)
+            → SoFar (W.has_run self.old.worker o) o first done written (session_view self.old.session) (printing self.old.replies) self.old.lines
+            → AnswersLines o first done (written ++ self.old.replies.text.items) }
+        ensures so_far { (o : Opened) (first : ℕ) (done written : List ℕ)
+            → SoFar (W.has_run self.old.worker o) o first done written (session_view self.old.session) (printing self.old.replies) self.old.lines
+            → OnOk result (SoFar (W.has_run self.new.worker o) o first done (written ++ self.old.replies.text.items) (session_view self.new.session) (printing self.new.replies) self.new.lines) }
+    {
+        self.worker.tell();
+        write_all(sink, &self.replies.text)?;
+        self.replies.text.clear();
+        Ok(())
+    }
+}

@@ -1,0 +1,56 @@
+//! Who runs the commands of a session.
+ghost use Rattle.std.specs.Prelude.{◌≡◌, ◌++◌, ◌∷◌, [], ℕ, Bool, List, IfOk};
+ghost use Rattle.session_talk.specs.Prelude.{AllAsked, Command as Asked, Labels, MayCome, command_view, held_after};
+ghost use Rattle.session_talk.specs.Workers.{ComesTo, EndsAt, Opened};
+
+use job_script::{Command, Outcome};
+use std::alloc::AllocError;
+
+/// The last version, and how many names it has.
+#[derive(Clone, Copy)]
+pub struct LastVersion {
+    pub version: u64,
+    pub names: u64,
+}
+
+/// One worker alone at the index of a zone, who runs commands one by one.
+pub trait Worker: Drop {
+    ghost use Rattle.job_script.specs.declared.outcomes.Outcome.{Outcome as Ran};
+
+    /// The zone's origin.
+    ghost origin: { Self → Labels };
+
+    /// It can go on. One who wanted memory for a command can't.
+    ghost is_ready: { Self → Type 0 };
+
+    /// A snapshot is held.
+    ghost holds: { Self → Bool };
+
+    /// These commands came to these outcomes, on an index that was opened so.
+    ghost has_run: { Self → Opened → List Asked → List Ran → Type 0 };
+
+    /// Runs the next command.
+    fn run(&mut self, command: &Command) -> Result<Outcome, AllocError>
+        requires ready { is_ready self.old }
+        requires may { MayCome (holds self.old) (command_view command.now) }
+        requires asked { AllAsked (origin self.old) (command_view command.now) }
+        ensures ready { IfOk result (λ _. is_ready self.new) }
+        ensures origin { IfOk result (λ _. origin self.new ≡ origin self.old) }
+        ensures held { IfOk result (λ _. holds self.new ≡ held_after (holds self.old) (command_view command.now)) }
+        ensures ran { (o : Opened) (commands : List Asked) (os : List Ran) → has_run self.old o commands os
+            → IfOk result (λ outcome. has_run self.new o (commands ++ command_view command.now ∷ []) (os ++ outcome ∷ [])) };
+
+    /// Shows that what the commands came to is all that has become of the index. It takes no memory and waits for nobody.
+    fn tell(&mut self)
+        requires ready { is_ready self.old }
+        ensures ready { is_ready self.new }
+        ensures origin { origin self.new ≡ origin self.old }
+        ensures held { holds self.new ≡ holds self.old }
+        ensures ran { (o : Opened) (commands : List Asked) (os : List Ran) → has_run self.old o commands os → has_run self.new o commands os }
+        ensures told { (o : Opened) (commands : List Asked) (os : List Ran) → has_run self.old o commands os → (last : ℕ) × ComesTo o commands os last };
+
+    /// Measures the last version. A snapshot that is held is given back.
+    fn end(self) -> LastVersion
+        requires { is_ready self }
+        ensures { (o : Opened) (commands : List Asked) (os : List Ran) → has_run self o commands os → EndsAt o commands os result };
+}
