@@ -12,8 +12,6 @@ mod gates;
 #[cfg(test)]
 mod plain;
 #[cfg(test)]
-mod responses;
-#[cfg(test)]
 mod runs;
 #[cfg(test)]
 mod workers;
