@@ -16,7 +16,7 @@ build-requires-clause-rising c =
     let stands = subst (λ (items : List Item). StandsAs (entries_of_items items) c.args.zone.pairs) (sym c.deref.ensures.value) c.in_ok-items.ensures in
     subst Rises stands.entries (entries_rise c.args.zone.pairs stands.valid.rising stands.valid.items)
 
-pub reply_text-requires : goal.answer-requires
+pub reply_text-requires : goal.reply_text-requires
 reply_text-requires c =
     let stands = subst (λ (items : List Item). StandsAs (entries_of_items items) c.args.zone.pairs) (sym c.deref.ensures.value) c.in_ok-items.ensures in
     let same = sym stands.entries in (
