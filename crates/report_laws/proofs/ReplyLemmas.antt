@@ -1,5 +1,5 @@
 -- Where the text of a reply ends is told by what it begins with.
-use Rattle.std.proofs.Common.{◌≡◌, ◌∙◌, ℕ, ◌+◌, ◌<◌, ◌≤◌, ◌^◌, Bool, true, false, List, [], ◌++◌, length, drop, subst, Option, Some, None, refl, sym, ap, arith, append_assoc, length-append, codes}
+use Rattle.std.proofs.Common.{◌≡◌, ◌∙◌, ℕ, ◌+◌, ◌<◌, ◌^◌, Bool, true, false, List, [], ◌++◌, length, drop, subst, Option, Some, None, refl, sym, ap, arith, append_assoc, length-append, codes}
 use Rattle.std.specs.Fmt.{decimal}
 use Rattle.std.specs.List.{flat_map}
 use Rattle.std.proofs.lemmas.Fmt.{decimal_injective}
@@ -106,9 +106,9 @@ record SameNumbers (a b n m x y : ℕ) : Type 0 where
 numbers_told : (code coded : Code) (flag flagged : Bool) (a b n m x y : ℕ) → header_text code flag a n x ≡ header_text coded flagged b m y → SameNumbers a b n m x y
 numbers_told code coded flag flagged a b n m x y e =
     let apart = append_cancel_left (codes "ask ") (code_text code ++ (codes " " ++ (flag_text flag ++ (codes " " ++ (decimal a ++ (codes " " ++ (decimal n ++ (codes " " ++ (decimal x ++ codes "\n")))))))))
-        (code_text coded ++ (codes " " ++ (flag_text flagged ++ (codes " " ++ (decimal b ++ (codes " " ++ (decimal m ++ (codes " " ++ (decimal y ++ codes "\n")))))))))
-        (sym (by_words (codes "ask ") (code_text code) (codes " ") (flag_text flag) (decimal a) (decimal n) (decimal x) (codes "\n")) ∙ e
-        ∙ by_words (codes "ask ") (code_text coded) (codes " ") (flag_text flagged) (decimal b) (decimal m) (decimal y) (codes "\n")) in
+    (code_text coded ++ (codes " " ++ (flag_text flagged ++ (codes " " ++ (decimal b ++ (codes " " ++ (decimal m ++ (codes " " ++ (decimal y ++ codes "\n")))))))))
+    (sym (by_words (codes "ask ") (code_text code) (codes " ") (flag_text flag) (decimal a) (decimal n) (decimal x) (codes "\n")) ∙ e
+    ∙ by_words (codes "ask ") (code_text coded) (codes " ") (flag_text flagged) (decimal b) (decimal m) (decimal y) (codes "\n")) in
     let flags = worded (code_text code) (code_text coded) _ _ (code_word code) (code_word coded) apart in
     let first = worded (flag_text flag) (flag_text flagged) _ _ (flag_word flag) (flag_word flagged) flags.1 in
     let second = worded (decimal a) (decimal b) _ _ (decimal_word a) (decimal_word b) first.1 in
@@ -136,7 +136,7 @@ response_cut a b s t small e =
     let behind = flat_map row_text (response_rows a) in
     let after = flat_map row_text (response_rows b) in
     let parts = line_cut first second (behind ++ s) (after ++ t) (header_line a.code a.authoritative (length a.answer) (length a.authority) (length a.additional))
-        (header_line b.code b.authoritative (length b.answer) (length b.authority) (length b.additional)) (sym (append_assoc first behind s) ∙ e ∙ append_assoc second after t) in
+    (header_line b.code b.authoritative (length b.answer) (length b.authority) (length b.additional)) (sym (append_assoc first behind s) ∙ e ∙ append_assoc second after t) in
     let told = numbers_told a.code b.code a.authoritative b.authoritative (length a.answer) (length b.answer) (length a.authority) (length b.authority) (length a.additional) (length b.additional) parts.0 in
     let few = few_records a s small in
     let few_too = few_records b t (subst (λ (l : List ℕ). length l < 2 ^ 64) e small) in
