@@ -19,6 +19,7 @@ import dns.edns
 import dns.exception
 import dns.flags
 import dns.message
+import dns.name
 import dns.opcode
 import dns.rcode
 import dns.rdataclass
@@ -91,7 +92,10 @@ class Session:
 
     def end(self):
         """Ends the input, and gives the last line."""
-        self.process.stdin.close()
+        try:
+            self.process.stdin.close()
+        except BrokenPipeError:
+            pass
         last = self.process.stdout.read().decode("latin-1").splitlines()[-1:]
         self.process.wait()
         return last[0] if last else "the session has ended"

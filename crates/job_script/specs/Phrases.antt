@@ -10,17 +10,17 @@ use Rattle.zone_model.specs.Names.{Name}
 use Rattle.zone_model.specs.Refusals.{Refused}
 use Rattle.zone_model.specs.Versions.{Operation}
 use Rattle.zone_text.specs.Tokens.{IsPlaced, token_view}
-use Rattle.job_script.specs.Asked.{asked_view, AskedPlaced}
+use Rattle.job_script.specs.Asked.{asked_view, whole_view, AskedPlaced}
 use Rattle.job_script.specs.declared.phrases.Phrase.{Phrase}
 use Rattle.job_script.specs.declared.phrases.Phrase.TheVariants as phrase
 
 abbrev pub phrase_view : Name → List ℕ → Phrase → phrases.Phrase
 phrase_view origin bytes phrase.Worker = phrases.Worker
 phrase_view origin bytes (phrase.Asks asked) = phrases.Asks (asked_view origin bytes asked)
-phrase_view origin bytes (phrase.AsksWhole asked) = phrases.AsksWhole (asked_view origin bytes asked)
+phrase_view origin bytes (phrase.AsksWhole name rtype) = phrases.AsksWhole (whole_view origin bytes name rtype)
 phrase_view origin bytes phrase.Holds = phrases.Holds
 phrase_view origin bytes (phrase.AsksHeld asked) = phrases.AsksHeld (asked_view origin bytes asked)
-phrase_view origin bytes (phrase.AsksHeldWhole asked) = phrases.AsksHeldWhole (asked_view origin bytes asked)
+phrase_view origin bytes (phrase.AsksHeldWhole name rtype) = phrases.AsksHeldWhole (whole_view origin bytes name rtype)
 phrase_view origin bytes phrase.Releases = phrases.Releases
 phrase_view origin bytes (phrase.Opens weight) = phrases.Opens weight
 phrase_view origin bytes (phrase.Needs wanted owner rtype) = phrases.Needs wanted (token_view bytes owner) (option_map (token_view bytes) rtype)
@@ -33,10 +33,10 @@ phrase_view origin bytes phrase.Compacts = phrases.Compacts
 abbrev pub PhrasePlaced : List ℕ → Phrase → Type 0
 PhrasePlaced bytes phrase.Worker = Unit {0}
 PhrasePlaced bytes (phrase.Asks asked) = AskedPlaced bytes asked
-PhrasePlaced bytes (phrase.AsksWhole asked) = AskedPlaced bytes asked
+PhrasePlaced bytes (phrase.AsksWhole name rtype) = IsPlaced bytes name × IsPlaced bytes rtype
 PhrasePlaced bytes phrase.Holds = Unit {0}
 PhrasePlaced bytes (phrase.AsksHeld asked) = AskedPlaced bytes asked
-PhrasePlaced bytes (phrase.AsksHeldWhole asked) = AskedPlaced bytes asked
+PhrasePlaced bytes (phrase.AsksHeldWhole name rtype) = IsPlaced bytes name × IsPlaced bytes rtype
 PhrasePlaced bytes phrase.Releases = Unit {0}
 PhrasePlaced bytes (phrase.Opens _) = Unit {0}
 PhrasePlaced bytes (phrase.Needs wanted owner rtype) = IsPlaced bytes owner × IfSome rtype (IsPlaced bytes)

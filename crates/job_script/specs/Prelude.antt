@@ -18,7 +18,7 @@ pub use Rattle.job_model.specs.Outcomes.{asked_by, is_committed, is_refused}
 pub use Rattle.job_model.specs.Replies.{answer_text, count_text, kind_text, rows_text}
 pub use Rattle.job_model.specs.Reports.{cause_text, end_text, ended_text, head_text, rule_text}
 pub use Rattle.job_model.specs.Summaries.{counts_text, sized_end_text}
-pub use Rattle.job_script.specs.Asked.{AskedPlaced, asked_view}
+pub use Rattle.job_script.specs.Asked.{AskedPlaced, asked_view, whole_view}
 pub use Rattle.job_script.specs.Outcomes.{cause_view, ended_view, outcome_text, told_text}
 pub use Rattle.job_script.specs.Parts.{IsCutAt}
 pub use Rattle.job_script.specs.Phrases.{PhrasePlaced, operation_said, phrase_view}

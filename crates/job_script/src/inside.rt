@@ -30,10 +30,10 @@ pub fn inside(
     match phrase {
         Phrase::Worker => Err(refused(block.start, ScriptKind::OpenBlock)),
         Phrase::Asks(_)
-        | Phrase::AsksWhole(_)
+        | Phrase::AsksWhole(_, _)
         | Phrase::Holds
         | Phrase::AsksHeld(_)
-        | Phrase::AsksHeldWhole(_)
+        | Phrase::AsksHeldWhole(_, _)
         | Phrase::Releases
         | Phrase::Opens(_)
         | Phrase::Compacts => Err(refused(line.number, ScriptKind::BadCommand)),

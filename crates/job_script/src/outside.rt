@@ -1,17 +1,18 @@
 //! Lines outside a block.
 ghost use Rattle.std.specs.Prelude.{◌≡◌, ◌<◌, ◌≤◌, ◌+◌, ◌∷◌, ◌++◌, [], ℕ, List, length, map, Some, None, Option, Ok, Err, Result, nat_lt};
-ghost use Rattle.job_script.specs.Prelude.{asked_view, AskedPlaced, command_view, phrase_view, PhrasePlaced, script_view, Passes, ScriptReads, with_asked};
+ghost use Rattle.job_script.specs.Prelude.{asked_view, whole_view, IsPlaced, AskedPlaced, command_view, phrase_view, PhrasePlaced, script_view, Passes, ScriptReads, with_asked};
 ghost use Rattle.job_model.specs.Jobs as jobs;
 ghost use Rattle.job_model.specs.Phrases as phrases;
 
 use crate::commands::{COMMAND_LIMIT, Command, WORKER_LIMIT, Worker};
 use crate::phrases::Phrase;
-use crate::questions::{Asked, question_of};
+use crate::questions::{Asked, question_of, whole_of};
 use crate::refusal::{JobRefusal, demand, refused, too_many};
 use crate::script::{Script, Unfinished};
 use crate::words::Line;
 use job_model::{ScriptKind, Weight};
 use std::mem;
+use zone_text::Token;
 
 /// Takes a line.
 pub fn outside(script: &mut Script, line: Line, phrase: &Phrase) -> Result<(), JobRefusal>
@@ -22,15 +23,24 @@ pub fn outside(script: &mut Script, line: Line, phrase: &Phrase) -> Result<(), J
 {
     match phrase {
         Phrase::Worker => begin_worker(script, line),
-        Phrase::Asks(asked) | Phrase::AsksWhole(asked) => {
+        Phrase::Asks(asked) => {
             demand(script.begun, line.number, ScriptKind::NoWorker)?;
             add_question(script, line, asked, false)
         }
+        Phrase::AsksWhole(name, rtype) => {
+            demand(script.begun, line.number, ScriptKind::NoWorker)?;
+            add_whole(script, line, *name, *rtype, false)
+        }
         Phrase::Holds => hold(script, line.number),
-        Phrase::AsksHeld(asked) | Phrase::AsksHeldWhole(asked) => {
+        Phrase::AsksHeld(asked) => {
             demand(script.begun, line.number, ScriptKind::NoWorker)?;
             demand(script.held, line.number, ScriptKind::NotHeld)?;
             add_question(script, line, asked, true)
+        }
+        Phrase::AsksHeldWhole(name, rtype) => {
+            demand(script.begun, line.number, ScriptKind::NoWorker)?;
+            demand(script.held, line.number, ScriptKind::NotHeld)?;
+            add_whole(script, line, *name, *rtype, true)
         }
         Phrase::Releases => release(script, line.number),
         Phrase::Opens(weight) => open_block(script, line, *weight),
@@ -92,6 +102,28 @@ fn add_question(
 {
     has_room(script, line.number)?;
     match question_of(line.bytes, line.origin, asked) {
+        Ok(question) if held => add(script, Command::AskHeld(question)),
+        Ok(question) => add(script, Command::Ask(question)),
+        Err(kind) => Err(refused(line.number, kind)),
+    }
+}
+
+// A question for a whole response joins them. It stands by itself, since a function clears the room for all names that it may read.
+#[inline(never)]
+fn add_whole(
+    script: &mut Script,
+    line: Line,
+    name: Token,
+    rtype: Token,
+    held: bool,
+) -> Result<(), JobRefusal>
+    requires name { IsPlaced line.bytes.now name }
+    requires rtype { IsPlaced line.bytes.now rtype }
+    ensures { ScriptReads result (script_view script.new)
+        (with_asked line.entry.number held (whole_view line.entry.origin.now line.entry.bytes.now name rtype) (script_view script.old)) }
+{
+    has_room(script, line.number)?;
+    match whole_of(line.bytes, line.origin, name, rtype) {
         Ok(question) if held => add(script, Command::AskHeld(question)),
         Ok(question) => add(script, Command::Ask(question)),
         Err(kind) => Err(refused(line.number, kind)),

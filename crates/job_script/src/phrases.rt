@@ -15,14 +15,14 @@ pub enum Phrase<'a> {
     Worker,
     /// A question.
     Asks(Asked),
-    /// A question for a whole response.
-    AsksWhole(Asked),
+    /// A question for the whole response for a name and a type.
+    AsksWhole(Token, Token),
     /// A snapshot is taken.
     Holds,
     /// A question to the snapshot.
     AsksHeld(Asked),
-    /// A question for a whole response to the snapshot.
-    AsksHeldWhole(Asked),
+    /// The same to the snapshot.
+    AsksHeldWhole(Token, Token),
     /// The snapshot is given back.
     Releases,
     /// A block begins.
@@ -118,7 +118,7 @@ fn asks_held<'a>(bytes: &[u8], word: Token, operands: &[Token]) -> Option<Phrase
 {
     if says(bytes, word, b"ask") {
         let (name, rtype) = pair(operands)?;
-        return Some(Phrase::AsksHeldWhole(Asked::Respond(name, rtype)));
+        return Some(Phrase::AsksHeldWhole(name, rtype));
     }
     match asked_of(bytes, word, operands) {
         Some(asked) => Some(Phrase::AsksHeld(asked)),
@@ -143,7 +143,7 @@ fn argued<'a>(bytes: &[u8], word: Token, first: Token, rest: &'a [Token]) -> Opt
     }
     if says(bytes, word, b"ask") {
         let rtype = lone(rest)?;
-        return Some(Phrase::AsksWhole(Asked::Respond(first, rtype)));
+        return Some(Phrase::AsksWhole(first, rtype));
     }
     if says(bytes, word, b"at") {
         return asks_held(bytes, first, rest);

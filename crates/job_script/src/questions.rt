@@ -1,6 +1,6 @@
 //! The questions of scripts: the word of each, and what its operands say.
-ghost use Rattle.std.specs.Prelude.{◌≡◌, if◌then◌else◌, map, Option, IfSome};
-ghost use Rattle.job_script.specs.Prelude.{option_map, All, Labels, IsPlaced, token_view, asked_view, AskedPlaced};
+ghost use Rattle.std.specs.Prelude.{◌≡◌, map, Option, IfSome};
+ghost use Rattle.job_script.specs.Prelude.{option_map, All, Labels, IsPlaced, token_view, asked_view, whole_view, AskedPlaced};
 ghost use Rattle.job_model.specs.Questions as questions;
 ghost use Rattle.job_script.specs.declared.questions.Asked.TheVariants as asked;
 
@@ -14,7 +14,6 @@ use zone_text::Token;
 #[derive(Clone, Copy)]
 pub enum Asked {
     Get(Token, Token),
-    Respond(Token, Token),
     Find(Token),
     Walk(Token, Token),
     Back(Token, Token),
@@ -58,17 +57,11 @@ pub fn asked_of(bytes: &[u8], word: Token, operands: &[Token]) -> Option<Asked>
     None
 }
 
-// A question for a name and a type: for the whole response, or for the answer.
-fn typed_of(
-    bytes: &[u8],
-    origin: &Name,
-    name: Token,
-    rtype: Token,
-    whole: bool,
-) -> Result<Question, ScriptKind>
+// A question for the records of a name and a type.
+fn get_of(bytes: &[u8], origin: &Name, name: Token, rtype: Token) -> Result<Question, ScriptKind>
     requires name { IsPlaced bytes.now name }
     requires rtype { IsPlaced bytes.now rtype }
-    ensures { result ≡ asked_view origin.now bytes.now (if whole then asked.Respond name rtype else asked.Get name rtype) }
+    ensures { result ≡ asked_view origin.now bytes.now (asked.Get name rtype) }
 {
     let Some(name) = name_word(bytes, origin, name) else {
         return Err(ScriptKind::BadName);
@@ -76,10 +69,27 @@ fn typed_of(
     let Some(number) = type_word(bytes, rtype) else {
         return Err(ScriptKind::BadType);
     };
-    if whole {
-        return Ok(Question::Respond(name, number));
-    }
     Ok(Question::Get(name, number))
+}
+
+/// A question for the whole response for a name and a type.
+pub fn whole_of(
+    bytes: &[u8],
+    origin: &Name,
+    name: Token,
+    rtype: Token,
+) -> Result<Question, ScriptKind>
+    requires name { IsPlaced bytes.now name }
+    requires rtype { IsPlaced bytes.now rtype }
+    ensures { result ≡ whole_view origin.now bytes.now name rtype }
+{
+    let Some(name) = name_word(bytes, origin, name) else {
+        return Err(ScriptKind::BadName);
+    };
+    let Some(number) = type_word(bytes, rtype) else {
+        return Err(ScriptKind::BadType);
+    };
+    Ok(Question::Respond(name, number))
 }
 
 // A question for what there is of a name.
@@ -120,8 +130,7 @@ pub fn question_of(bytes: &[u8], origin: &Name, asked: &Asked) -> Result<Questio
     ensures { result ≡ asked_view origin.now bytes.now asked.now }
 {
     match asked {
-        Asked::Get(name, rtype) => return typed_of(bytes, origin, *name, *rtype, false),
-        Asked::Respond(name, rtype) => return typed_of(bytes, origin, *name, *rtype, true),
+        Asked::Get(name, rtype) => return get_of(bytes, origin, *name, *rtype),
         Asked::Find(name) => return find_of(bytes, origin, *name),
         Asked::Walk(start, number) => {
             stretch_of(bytes, origin, *start, *number).map(Question::Walk)

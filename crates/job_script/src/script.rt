@@ -47,7 +47,7 @@ fn may_stand(listing: Listing, phrase: &Phrase) -> bool
 {
     match phrase {
         Phrase::Worker => matches!(listing, Listing::ByWorker),
-        Phrase::AsksWhole(_) | Phrase::AsksHeldWhole(_) => matches!(listing, Listing::Live),
+        Phrase::AsksWhole(_, _) | Phrase::AsksHeldWhole(_, _) => matches!(listing, Listing::Live),
         Phrase::Holds | Phrase::AsksHeld(_) | Phrase::Releases => {
             matches!(listing, Listing::ByWorker | Listing::Live)
         }

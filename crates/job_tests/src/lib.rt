@@ -12,6 +12,8 @@ mod gates;
 #[cfg(test)]
 mod plain;
 #[cfg(test)]
+mod responses;
+#[cfg(test)]
 mod runs;
 #[cfg(test)]
 mod workers;
