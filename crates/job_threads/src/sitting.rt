@@ -99,11 +99,7 @@ pub fn run_next<'i, R: Wait, N: Named>(
 }
 
 // Accounts for the second pass, wherever it is, at a moment behind the note's.
-fn account_second<N: Named>(
-    index: &Index<ZoneLaw, N>,
-    passes: &mut Passes<'_, N>,
-    seen: Note<N>,
-)
+fn account_second<N: Named>(index: &Index<ZoneLaw, N>, passes: &mut Passes<'_, N>, seen: Note<N>)
     requires at { AreAt index.now.place passes.old }
     requires note { seen.place ≡ index.now.place }
     ensures at { AreAt index.now.place passes.new }
@@ -136,7 +132,7 @@ pub fn tell_all<N: Named>(index: &Index<ZoneLaw, N>, passes: &mut Passes<'_, N>)
     ensures told { (s : Setup) (zone : Version) (commands : _) (os : _) → IsIndex s s.origin (table_size index.now) → StandsAs s.opening zone
         → Sits s (station_of passes.old) commands os
         → ComesTo s zone commands os (length (known_at passes.new.asks.seat).seen.history)
-            × AreVersions s (known_at passes.new.asks.seat).seen.history (versions_by s zone commands os) }
+        × AreVersions s (known_at passes.new.asks.seat).seen.history (versions_by s zone commands os) }
 {
     passes.asks.account(index);
     let seen = passes.asks.note(index);
