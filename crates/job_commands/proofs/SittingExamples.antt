@@ -1,6 +1,6 @@
 -- What is said of one worker alone, computed on an example: it asks, takes a snapshot of version 3, makes version 4, asks the snapshot
 -- and gives it back.
-use Rattle.std.proofs.Common.{◌≡◌, ◌⊎◌, inl, inr, ℕ, zero, suc, ◌<◌, List, [], ◌∷◌, Some, None, refl, arith}
+use Rattle.std.proofs.Common.{◌≡◌, inl, inr, zero, suc, List, [], ◌∷◌, Some, None, refl, arith}
 use Rattle.zone_model.specs.Transactions.{no_changes}
 use Rattle.job_model.specs.declared.Question.TheVariants.{Dump}
 use Rattle.job_model.specs.declared.Ending.TheVariants.{Commit}

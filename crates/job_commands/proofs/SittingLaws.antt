@@ -1,7 +1,7 @@
 -- One worker alone at an index of two passes. What these tell of the history shows that its outcomes are lawful so far.
-use Rattle.std.proofs.Common.{◌≡◌, ◌∙◌, ◌⊎◌, inl, inr, ⊎_elim, ℕ, zero, suc, ◌+◌, ◌-◌, ◌<◌, ◌≤◌, Bool, true, false, cond, eqb, List, [], ◌∷◌, ◌++◌, length, map, Option, Some, None, refl, sym, ap, subst, arith, append-nil, length-append, eq-eqb}
+use Rattle.std.proofs.Common.{◌≡◌, ◌∙◌, ◌⊎◌, inl, inr, ⊎_elim, ℕ, ◌+◌, ◌<◌, ◌≤◌, Bool, true, false, cond, List, [], ◌∷◌, ◌++◌, length, map, Option, Some, refl, sym, ap, subst, arith, append-nil, length-append, eq-eqb}
 use Rattle.std.specs.Prelude.{Contains}
-use Rattle.std.specs.List.{All, AllByRecursion}
+use Rattle.std.specs.List.{AllByRecursion}
 use Rattle.std.proofs.lemmas.List.{length-map}
 use Rattle.std.proofs.lemmas.List.Elements.{All-contains, Contains-append_left, Contains-push_cases}
 use Rattle.pin_core.proofs.Lists.{contains_cases}
@@ -10,7 +10,7 @@ use Rattle.zone_answer.specs.Standing.{trie_entry}
 use Rattle.trie_model.specs.Shape.{nodes, keys_of}
 use Rattle.job_model.specs.Commands.{Command, MayCome}
 use Rattle.job_model.specs.Sizes.{node_count}
-use Rattle.job_model.specs.Outcomes.{Pair, AllAlong, all_pairs, asked_at, at_first, shown_in, times_made}
+use Rattle.job_model.specs.Outcomes.{Pair, AllAlong, all_pairs, asked_at, shown_in, times_made}
 use Rattle.job_script.specs.Outcomes.{pairs_of}
 use Rattle.job_script.specs.declared.outcomes.Outcome.{Outcome}
 use Rattle.shared_cells.specs.declared.view.Naming.{Naming}
@@ -22,8 +22,8 @@ use Rattle.qp_multi.specs.Passes.{Known, first_version, version_seen}
 use Rattle.qp_multi.specs.Closings.{AllSeen, AreAll}
 use Rattle.job_commands.specs.declared.closing.Last.{Last}
 use Rattle.job_commands.specs.Histories.{Setup, Commit, Entries, StandsAs, AreVersions, Deeds, Explains, judged_by, times_by}
-use Rattle.job_commands.specs.Steps.{HoldsLast, IsSight, IsUnder, Station, Step}
-use Rattle.job_commands.specs.Works.{AreNew, IsNew, Numbers, Replayed, WorkerRan, ended}
+use Rattle.job_commands.specs.Steps.{HoldsLast, Station, Step}
+use Rattle.job_commands.specs.Works.{AreNew, IsNew, Numbers, Replayed, ended}
 use Rattle.job_commands.specs.Endings.{Measured}
 use Rattle.job_commands.specs.Sittings.{AreBoth, AtWork, ComesTo, EndsAt, Sits, versions_by}
 use Rattle.job_commands.proofs.HistoryLaws.{begins_more, begins_length, by-append, index_last, opened_same, part_same, times_front, times_none, versions_front}

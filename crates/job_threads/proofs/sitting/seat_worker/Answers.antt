@@ -1,6 +1,6 @@
-use Rattle.std.proofs.Common.{List, [], ◌∷◌, map, ap, subst}
+use Rattle.std.proofs.Common.{map, ap, subst}
 use Rattle.qp_multi.specs.Closings.{AreAll}
-use Rattle.qp_multi.specs.Passes.{Known, known_at}
+use Rattle.qp_multi.specs.Passes.{known_at}
 use Rattle.job_commands.specs.Works.{AreNew}
 use Rattle.job_commands.proofs.SittingLaws.{sits_down, two_popped}
 use Rattle.job_threads.proofs.sitting.seat_worker.Goals as goal
