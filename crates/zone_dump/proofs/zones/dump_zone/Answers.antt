@@ -1,6 +1,6 @@
-use Rattle.std.proofs.Common.{◌≡◌, ℕ, List, ◌++◌, subst}
+use Rattle.std.proofs.Common.{subst}
 use Rattle.outer_io.specs.Bytes.{Grows, GrowsByFront}
-use Rattle.zone_model.specs.Dumps.{version_lines, dump}
+use Rattle.zone_model.specs.Dumps.{version_lines}
 use Rattle.zone_dump.proofs.WritingLaws.{front_end, on_any_err, on_err_more, on_ok_more}
 use Rattle.zone_dump.proofs.ZoneLaws.{passes_all, zone_text}
 use Rattle.zone_dump.proofs.zones.dump_zone.Goals as goal
