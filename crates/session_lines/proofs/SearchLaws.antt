@@ -26,8 +26,8 @@ none_behind : (k n : ℕ) (bytes : List ℕ) → k ≤ length bytes → IsUnbrok
 none_behind k n bytes le whole far j lt = elim (cases_lt j k) [
   | inl m ↦ none_in k bytes le whole j m
   | inr m ↦ (let i : ℕ = j - k in
-    let at : k + i ≡ j = omega arith in
-    ap (λ (x : ℕ). is_feed (get_or bytes x 0)) (sym at) ∙ ap is_feed (sym (get_or-drop k bytes i 0)) ∙ fails_before_first is_feed (drop k bytes) i 0 (omega arith))
+      let at : k + i ≡ j = omega arith in
+      ap (λ (x : ℕ). is_feed (get_or bytes x 0)) (sym at) ∙ ap is_feed (sym (get_or-drop k bytes i 0)) ∙ fails_before_first is_feed (drop k bytes) i 0 (omega arith))
 ]
 
 pub found_behind : (k n : ℕ) (bytes : List ℕ) → k ≤ length bytes → IsUnbroken (take k bytes) → position is_feed (drop k bytes) ≡ Some n → position is_feed bytes ≡ Some (k + n)

@@ -18,11 +18,7 @@ fn are_last_word(bytes: &[u8], tokens: &[Token]) -> bool
 }
 
 /// Whether a line is the last word of a transaction. Its tokens lie in memory that is lent.
-pub fn is_last_word(
-    alloc: Global,
-    line: &[u8],
-    lent: &mut Vec<Token>,
-) -> Result<bool, AllocError>
+pub fn is_last_word(alloc: Global, line: &[u8], lent: &mut Vec<Token>) -> Result<bool, AllocError>
     requires some { 0 < length line.now }
     requires short { length line.now ≤ 2 ^ 24 }
     ensures { (text : List ℕ) → lines_of line.now ≡ text ∷ [] → IfOk result (λ last. last ≡ is_last_word text) }
