@@ -1,3 +1,4 @@
 pub mod SearchLaws
 pub mod StepLaws
 pub mod SoundLaws
+pub mod Examples
