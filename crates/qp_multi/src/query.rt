@@ -3,6 +3,7 @@ ghost use Rattle.std.specs.Prelude.{◌≡◌, Some, IsSome, slice_get};
 ghost use Rattle.shared_cells.specs.declared.view.Progress.TheVariants as progress;
 ghost use Rattle.shared_cells.specs.Views.{with_progress, pinned_image};
 ghost use Rattle.qp_multi.specs.Passes.{known_at, version_seen, Pinned};
+ghost use Rattle.qp_multi.specs.Bases.{CommitsAreWithin};
 ghost use Rattle.qp_multi.specs.Meanings.{Holds, IsVersion};
 
 use crate::index::Index;
@@ -34,6 +35,7 @@ impl<N: Named> Pass<N> {
         ensures same_reference { result.home.ghost_name ≡ self.entry.ghost_name }
         ensures place { result.place ≡ self.old.place }
         ensures pinned { Pinned L.lawful (known_at self.old.seat) result.seat.place.me.0 result.seat.version }
+        ensures few_operations { CommitsAreWithin L.most_operations result.seat.place.me.0 }
         ensures shows { IsVersion (pinned_image result.seat.place.me.0.progress) result.seat.root (version_seen result.seat.place.me.0.seen) }
         ensures holds { Holds (pinned_image result.seat.place.me.0.progress) result.seat.root (version_seen result.seat.place.me.0.seen) }
     {

@@ -5,6 +5,7 @@ ghost use Rattle.shared_cells.specs.declared.pass.PassSeat.{PassSeat};
 ghost use Rattle.shared_cells.specs.declared.view.Progress.TheVariants as progress;
 ghost use Rattle.shared_cells.specs.Views.{with_progress, pinned_image};
 ghost use Rattle.qp_multi.specs.Passes.{known_at, version_seen, Pinned};
+ghost use Rattle.qp_multi.specs.Bases.{CommitsAreWithin};
 ghost use Rattle.qp_multi.specs.Meanings.{Holds, IsVersion};
 ghost use Rattle.qp_multi.specs.declared.meaning.Operation.{Operation};
 
@@ -39,6 +40,7 @@ impl<N: Named> Pass<N> {
         requires place { self.place ≡ index.now.place }
         ensures place { result.place ≡ self.place }
         ensures pinned { Pinned L.lawful (known_at self.seat) result.seat.place.me.0 result.seat.version }
+        ensures few_operations { CommitsAreWithin L.most_operations result.seat.place.me.0 }
         ensures shows { IsVersion (pinned_image result.seat.place.me.0.progress) result.seat.root (version_seen result.seat.place.me.0.seen) }
         ensures holds { Holds (pinned_image result.seat.place.me.0.progress) result.seat.root (version_seen result.seat.place.me.0.seen) }
     {

@@ -29,4 +29,4 @@ pub use Rattle.rr_data.specs.ItemViews.{BeginsWithRecord, BeginsWithRecords, Beg
 pub use Rattle.rr_data.specs.Items.{Decodes, part_view}
 pub use Rattle.rr_data.specs.Places.{AreLower, MissingAt, StandsAt}
 pub use Rattle.rr_data.specs.Printing.{PrintsField, PrintsFields, ReadsUnder}
-pub use Rattle.rr_data.specs.Pushing.{Pushes, ReadsAgain, ReadsData}
+pub use Rattle.rr_data.specs.Pushing.{Pushes, ReadsAgain, ReadsData, is_data}

@@ -1,8 +1,9 @@
 -- What the readers of data push, and what they refuse.
-use Rattle.std.specs.Prelude.{◌≡◌, ℕ, List, Result, Ok, Err}
+use Rattle.std.specs.Prelude.{◌≡◌, ◌&&◌, ℕ, Bool, List, Result, Ok, Err, length, nat_le}
 use Rattle.zone_model.specs.declared.DataRefusal.{DataRefusal}
 use Rattle.zone_model.specs.declared.DataRefusal.TheVariants as says
 use Rattle.zone_model.specs.Data.{ahead}
+use Rattle.zone_model.specs.DataForms.{form_fits}
 use Rattle.rr_data.specs.declared.refusal.RdataRefusal.{RdataRefusal}
 use Rattle.rr_data.specs.declared.refusal.RdataRefusal.TheVariants as refusal
 
@@ -26,3 +27,7 @@ ReadsAgain (Ok u) octets wanted = wanted ≡ Ok octets
 ReadsAgain (Err (refusal.BadRdata at)) octets wanted = wanted ≡ Err (says.BadRdata at)
 ReadsAgain (Err (refusal.LongString at)) octets wanted = wanted ≡ Err (says.LongString at)
 ReadsAgain (Err refusal.Memory) octets wanted = Unit {0}
+
+-- Octets are data of a type: so many as a record can have, and of the type's form.
+abbrev pub is_data : ℕ → List ℕ → Bool
+is_data rtype octets = nat_le (length octets) 65535 && form_fits rtype octets

@@ -1,7 +1,8 @@
 //! The data of a record.
-ghost use Rattle.std.specs.Prelude.{◌≡◌, ◌≤◌, ℕ, List, length, map};
-ghost use Rattle.rr_data.specs.Prelude.{All, data_of, IsPlaced, token_view, ReadsData, ReadsAgain};
+ghost use Rattle.std.specs.Prelude.{◌≡◌, ◌≤◌, ℕ, List, Some, None, length, map, if◌then◌else◌};
+ghost use Rattle.rr_data.specs.Prelude.{All, data_of, is_data, IsPlaced, token_view, ReadsData, ReadsAgain};
 
+use crate::forms::form_fits;
 use crate::reading::push_data;
 use crate::refusal::RdataRefusal;
 use dns_name::Name;
@@ -9,6 +10,9 @@ use std::alloc::{AllocError, Global};
 use std::marker::Model;
 use std::mem::replace;
 use zone_text::Token;
+
+// The most octets that the length of a record's data can say (RFC 1035, section 3.2.1).
+const LONGEST: usize = 65_535;
 
 /// The data of a record, as the octets of its wire form: at most 65,535, names in lower case and without compression.
 #[derive(Drop)]
@@ -43,6 +47,18 @@ impl Rdata {
         ensures { result ≡ octets.items }
     {
         Rdata { octets }
+    }
+
+    /// The data that these octets are, where they are of the type's form: for those that come from elsewhere, as in a
+    /// message. Names in them have to be whole and in lower case (RFC 3597, section 4, names the types that may come
+    /// with compressed ones).
+    pub fn checked(rtype: u16, octets: Vec<u8>) -> Option<Self>
+        ensures { result ≡ (if is_data rtype octets.items then Some octets.items else None) }
+    {
+        if octets.len() > LONGEST || !form_fits(rtype, &octets) {
+            return None;
+        }
+        Some(Rdata { octets })
     }
 
     /// The octets.

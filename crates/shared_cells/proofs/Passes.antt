@@ -2,7 +2,7 @@
 use Rattle.std.proofs.Common.{◌≡◌, ◌≢◌, ◌⊎◌, inl, inr, ⊎_elim, ℕ, ◌+◌, ◌-◌, ◌*◌, ◌%◌, ◌<◌, ◌≤◌, eqb, List, [], ◌∷◌, ◌++◌, length, take, drop, get_or, set, Bool, true, false, true≢false, cond, refl, sym, ap, ◌∙◌, subst, arith, Option, Some, None, length-append, get_or-set_same, get_or-set_other, ne_eqb}
 use Rattle.std.specs.List.{All, Contains}
 use Rattle.std.proofs.lemmas.List.{set-get_or, take_at, take-append-drop, append_assoc, length-take}
-use Rattle.std.proofs.lemmas.List.Elements.{All-contains, All-nil, All-weaker, Contains-push, Contains-append_left}
+use Rattle.std.proofs.lemmas.List.Elements.{All-contains, All-nil, All-take, All-weaker, Contains-push, Contains-append_left}
 use mathlib.Core.Logic.{dite}
 use mathlib.Core.Option.{some, none}
 use native.Mathlib.Decide.{ℕ_discrete}
@@ -275,6 +275,7 @@ module _ {O E : Type 0} (applied : O → E → O) (lawful : O → O → Type 0) 
         more = more;
         view = refl;
         version = sym long;
+        allowed = subst (All (λ (e : Entry E). permitted e.change)) begins (All-take (λ (e : Entry E). permitted e.change) named.0.version r.facts.all.history r.allowed);
         good = λ o' e. subst (λ (h : List (Entry E)). lawful o' (version_after applied o' h)) begins ((versions_of o' e).0 named.0.version below);
         stood = λ o' e. subst (λ (h : List (Entry E)). stands named.0.image named.0.root (version_after applied o' h)) begins
             (All-contains (λ k. stands k.image k.root (version_after applied o' (take k.version r.facts.all.history))) r.facts.turn.kept named.0 (versions_of o' e).1 named.1);
@@ -373,7 +374,7 @@ module _ {O E : Type 0} (applied : O → E → O) (lawful : O → O → Type 0) 
   -- what was pinned, told of the pass as it was before
   settled_since : (v : View O E) (d : Progress) (pin : ℕ) (w : View O E) → Settles applied lawful permitted stands (with_progress v d) pin w → Settles applied lawful permitted stands v pin w
   settled_since v d x w t = let p = t.pins in record {
-    pins = record { kept = p.kept; more = p.more; view = p.view; version = p.version; good = p.good; stood = p.stood };
+    pins = record { kept = p.kept; more = p.more; view = p.view; version = p.version; allowed = p.allowed; good = p.good; stood = p.stood };
     low = t.low;
     version = t.version;
     root = t.root;

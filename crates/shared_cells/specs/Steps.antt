@@ -221,12 +221,14 @@ module _ {O E : Type 0} where
 
 module _ {O E : Type 0} (applied : O → E → O) (lawful : O → O → Type 0) (permitted : E → Type 0) (stands : List CellAt → Option ℕ → O → Type 0) where
   -- What pinning tells. The pass is pinned at a kept version, and has seen the history up to it and no further; so that is
-  -- no older than what it had seen. The image is the version that this history leads to, which is lawful.
+  -- no older than what it had seen. Each entry of this history is one that it may have, and the image is the version that it leads to,
+  -- which is lawful.
   pub record Pins (v w : View O E) : Type 0 where
     pub kept : Kept
     pub more : List (Entry E)
     pub view : w ≡ pinned_view v more kept
     pub version : kept.version ≡ length w.seen.history
+    pub allowed : All (λ e. permitted e.change) w.seen.history
     pub good : (o : O) → w.seen.opening ≡ Some o → lawful o (version_after applied o w.seen.history)
     pub stood : (o : O) → w.seen.opening ≡ Some o → stands kept.image kept.root (version_after applied o w.seen.history)
 
