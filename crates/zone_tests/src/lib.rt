@@ -5,3 +5,5 @@
 mod flat;
 #[cfg(test)]
 mod nested;
+#[cfg(test)]
+mod reloads;
