@@ -16,11 +16,14 @@ use std::thread::{Threads, join, map_vec};
 use trie_read::Reading;
 use trie_write::Item;
 use zone_diff::Serial;
-use zone_edit::ItemBuffers;
-use zone_reload::{operations_between, replace_all};
+use zone_edit::{EditRefusal, ItemBuffers};
+use zone_reload::{operations_between, operations_to, replace_all};
 
 /// How often the zone is exchanged.
 const RELOADS: u64 = 60;
+
+/// How many operations make of either zone the other: the SOA, and of each of sixty names one that goes and one that comes.
+const CHANGES: usize = 121;
 
 /// How often each reader asks at most.
 const ASKED: u32 = 20_000;
@@ -115,7 +118,8 @@ impl<N: Named> Worker<'_, N> {
         (version, texts.is_whole(alloc, &mut query, version))
     }
 
-    /// Makes of the current version, which another pass reads meanwhile, a zone. Nobody else writes. The version that is made.
+    /// Makes of the current version, which another pass reads meanwhile, a zone. Nobody else writes. The version that is made, if there is
+    /// a number for it.
     fn reload<R: Wait>(
         &mut self,
         rt: &R,
@@ -124,37 +128,73 @@ impl<N: Named> Worker<'_, N> {
         origin: &Name,
         zone: Zone,
         buffers: &mut ItemBuffers,
-    ) -> Option<u64> {
+    ) -> Result<Option<u64>, EditRefusal> {
         let mut locked = Locked::of(self.index);
         let mut write = self.index.write(rt, &mut locked, &mut self.pass);
         let mut version = beside.pass.query(beside.index);
-        replace_all(alloc, origin, &mut write, &mut version, zone, buffers).ok()?;
+        replace_all(alloc, origin, &mut write, &mut version, zone, buffers)?;
         match write.commit() {
-            Ok(receipt) => Some(receipt.version),
-            Err(_) => None,
+            Ok(receipt) => Ok(Some(receipt.version)),
+            Err(_) => Ok(None),
         }
+    }
+
+    /// How many operations make of a version the current one.
+    fn changes_since<V: Reading>(&mut self, alloc: Global, version: &mut V) -> Option<usize>
+        requires { ShowsSome (V.holds version.old) }
+    {
+        let mut current = self.pass.query(self.index);
+        let operations = operations_to(alloc, Serial::Keep, version, &mut current).ok()?;
+        Some(operations.len())
     }
 }
 
-/// Exchanges the zone so often. Whether each time the next version was made.
+/// Exchanges the current version's zone for the one of the next, while a third pass keeps the version before. Whether the next version was
+/// made, and as many operations make of the one before that one as are due.
+fn exchange<N: Named, R: Wait>(
+    rt: &R,
+    alloc: Global,
+    writer: &mut Worker<N>,
+    beside: &mut Worker<N>,
+    keeper: &mut Worker<N>,
+    texts: &Texts,
+    buffers: &mut ItemBuffers,
+    next: u64,
+) -> bool {
+    let Some(zone) = texts.zone(alloc, next) else {
+        return false;
+    };
+    let mut before = keeper.pass.query(keeper.index);
+    let made = writer.reload(rt, alloc, beside, &texts.origin, zone, buffers);
+    let changes = writer.changes_since(alloc, &mut before);
+    made.ok().flatten() == Some(next) && changes == Some(CHANGES)
+}
+
+/// Exchanges the zone so often. Whether all went well.
 fn write_on<N: Named, R: Wait>(
     rt: &R,
     alloc: Global,
     writer: Worker<N>,
     beside: Worker<N>,
+    keeper: Worker<N>,
     texts: &Texts,
 ) -> bool {
     let Ok(mut buffers) = ItemBuffers::new(alloc) else {
         return false;
     };
-    let (mut writer, mut beside) = (writer, beside);
-    for number in 0..RELOADS {
-        let next = number.wrapping_add(1);
-        let Some(zone) = texts.zone(alloc, next) else {
-            return false;
-        };
-        let made = writer.reload(rt, alloc, &mut beside, &texts.origin, zone, &mut buffers);
-        if made != Some(next) {
+    let (mut writer, mut beside, mut keeper) = (writer, beside, keeper);
+    for next in 1..=RELOADS {
+        let done = exchange(
+            rt,
+            alloc,
+            &mut writer,
+            &mut beside,
+            &mut keeper,
+            texts,
+            &mut buffers,
+            next,
+        );
+        if !done {
             return false;
         }
     }
@@ -209,9 +249,10 @@ fn act<N: Named + Send + Sync, R: Threads + Wait + Sync>(
     let mut workers = workers;
     let writer = workers.pop()?;
     let beside = workers.pop()?;
+    let keeper = workers.pop()?;
     let (written, read) = join(
         rt,
-        || write_on(rt, alloc, writer, beside, texts),
+        || write_on(rt, alloc, writer, beside, keeper, texts),
         || read_all(rt, alloc, workers, texts),
     );
     Some(written && read)
@@ -264,7 +305,7 @@ fn first_items(alloc: Global, texts: &Texts) -> Option<Vec<Item>>
 fn play<R: Threads + Wait + Sync>(rt: &R, alloc: Global) -> Option<bool> {
     let texts = Texts::new(alloc)?;
     let items = first_items(alloc, &texts)?;
-    let blank = Blank::<Stored>::new(alloc, 64, 5).ok()?;
+    let blank = Blank::<Stored>::new(alloc, 64, 6).ok()?;
     run::<Brand, _>(rt, alloc, blank, &items, &texts)
 }
 
