@@ -1,6 +1,6 @@
 -- How many operations a difference has, by the records of both versions.
-use Rattle.std.proofs.Common.{◌≡◌, ℕ, zero, suc, ◌+◌, ◌-◌, ◌*◌, ◌<◌, ◌≤◌, Bool, true, false, cond, not, eqb, List, [], ◌∷◌, ◌++◌, length, map, filter, refl, sym, ap, subst, arith, Option, Some, None}
-use Rattle.std.specs.List.{AllByRecursion, flat_map, list_any}
+use Rattle.std.proofs.Common.{◌≡◌, ℕ, zero, suc, ◌+◌, ◌*◌, ◌<◌, ◌≤◌, Bool, true, false, cond, not, eqb, List, [], ◌∷◌, ◌++◌, length, map, arith, Option, Some, None}
+use Rattle.std.specs.List.{AllByRecursion, flat_map}
 use Rattle.std.specs.declared.cmp.Ordering.{Ordering}
 use Rattle.std.specs.declared.cmp.Ordering.TheVariants.{Less, Equal, Greater}
 use Rattle.std.specs.Ordering.{match_ordering}
@@ -12,7 +12,7 @@ use Rattle.master_file.specs.Rows.{CanBeDumped}
 use Rattle.zone_diff.specs.declared.Serial.{Serial}
 use Rattle.zone_diff.specs.Differences.{addition, lacking, set_deletions, set_additions, stays, soa_exchange, soa_additions, unless_soa, deletions, additions, entry_difference, merged, difference}
 use Rattle.zone_diff.specs.Serials.{renumbered}
-use Rattle.zone_diff.specs.Blocks.{Parted, parted, blocks, block_limit}
+use Rattle.zone_diff.specs.Blocks.{parted, blocks, block_limit}
 
 -- ---- records
 

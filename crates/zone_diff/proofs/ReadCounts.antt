@@ -1,6 +1,5 @@
 -- How many records a zone has, by the lines that say it.
-use Rattle.std.proofs.Common.{◌≡◌, ◌∙◌, ℕ, suc, ◌+◌, ◌≤◌, Bool, true, false, cond, not, ◌&&◌, eqb, List, [], ◌∷◌, length, codes, refl, sym, ap, subst, arith, Option, Some, None, Result, Ok, Err, unwrap_or}
-use Rattle.std.specs.List.{AllByRecursion}
+use Rattle.std.proofs.Common.{◌≡◌, ℕ, suc, ◌+◌, ◌≤◌, Bool, true, false, cond, not, ◌&&◌, eqb, List, [], ◌∷◌, length, codes, refl, ap, subst, arith, Option, Some, None, Result, Ok, unwrap_or}
 use Rattle.std.specs.List.Sorted.{IsStrictlySortedBy}
 use Rattle.std.specs.Map.{keys_of}
 use Rattle.std.specs.BTreeMap.{insert_entry}
@@ -8,10 +7,10 @@ use Rattle.std.specs.declared.cmp.Ordering.{Ordering}
 use Rattle.std.specs.declared.cmp.Ordering.TheVariants.{Less, Equal, Greater}
 use Rattle.std.specs.Ordering.{nat_cmp, match_ordering, is_eq}
 use Rattle.zone_model.specs.Names.{Name, name_cmp, is_under, same_name}
-use Rattle.zone_model.specs.Refusals.{Refused, ◌>>=◌}
+use Rattle.zone_model.specs.Refusals.{Refused}
 use Rattle.zone_model.specs.declared.ZoneKind.{ZoneKind}
-use Rattle.zone_model.specs.declared.ZoneKind.TheVariants.{BadName, BadTtl, NoOwner, NoTtl, OutsideZone, SoaRule}
-use Rattle.zone_model.specs.Records.{Rrset, Entry, octets_cmp, changed_at, with_record, joined, fresh, with_rr}
+use Rattle.zone_model.specs.declared.ZoneKind.TheVariants.{BadName, BadTtl, NoOwner, NoTtl, SoaRule}
+use Rattle.zone_model.specs.Records.{Entry, octets_cmp, with_record, fresh, with_rr}
 use Rattle.zone_model.specs.Versions.{Version, entry_of, owned, has_soa, soa_type}
 use Rattle.zone_model.specs.Tokens.{Token, refused, line_tokens}
 use Rattle.zone_model.specs.DataWords.{is_word}
