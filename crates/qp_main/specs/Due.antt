@@ -199,13 +199,13 @@ Dumps chunks style origin (Ok zone) = IfFits (fits chunks zone) chunks zone (End
 Dumps chunks style origin (Err e) = ZoneRefuses e
 
 -- What makes of a zone another one: the text has its transactions. Each of these is taken, one after another on the zone before, and
--- together they make the zone after, but for its serial where that doesn't count. A script is read back as these transactions, where
--- they are no more than a list of commands may have. The status says whether there is any.
+-- together they make the zone after, but for its serial where that doesn't count. A script, read as one list of commands, is these
+-- transactions. The status says whether there is any.
 pub record Different (style : DiffStyle) (serial : Serial) (origin : Name) (before after : Version) (s : Status) (text : List ℕ) : Type 0 where
   pub is : text ≡ text_in style origin (difference serial before after)
   pub taken : in_turn origin (blocks (difference serial before after)) before ≡ Ok (made serial origin before after)
   pub the_other : serial ≡ Keep → made serial origin before after ≡ after
-  pub read_back : style ≡ Script → length (blocks (difference serial before after)) ≤ 10000 → list_of origin 1 (lines_of text) ≡ Ok (map committed (blocks (difference serial before after)))
+  pub read_back : style ≡ Script → list_of origin 1 (lines_of text) ≡ Ok (map committed (blocks (difference serial before after)))
   pub ended : s ≡ (if length (difference serial before after) == 0 then status.Done else status.Differ)
 
 -- the status and the text for the two zones that bytes say; what is wrong with the first is told first

@@ -87,6 +87,7 @@ impl Input {
     pub fn second_zone(&self, alloc: Global, origin: &Name) -> Result<Zone, Stop>
         ensures zone { IfOk result (λ z. second_said origin.now self.now ≡ Ok z.pairs) }
         ensures of_origin { IfOk result (λ z. CanBeDumped origin.now z.pairs) }
+        ensures short { length self.now ≤ 2 ^ 24 }
         ensures stops { IfErr result (IsStop (ZoneStops (second_said origin.now self.now))) }
     {
         match zone_from(alloc, self.script_bytes(), self.first_line(), origin) {

@@ -1,5 +1,5 @@
 -- Operations in blocks that are full but for the last, and their text.
-use Rattle.std.proofs.Common.{◌≡◌, ◌∙◌, ℕ, zero, suc, ◌+◌, ◌-◌, ◌<◌, ◌≤◌, eqb, List, [], ◌∷◌, ◌++◌, length, refl, sym, ap, subst, arith, append_assoc, append-nil, Result, Ok, Err, IfOk}
+use Rattle.std.proofs.Common.{◌≡◌, ◌∙◌, ℕ, zero, suc, ◌-◌, ◌<◌, ◌≤◌, eqb, List, [], ◌∷◌, ◌++◌, length, refl, sym, ap, arith, append_assoc, append-nil, Result, Ok, Err, IfOk}
 use Rattle.std.proofs.lemmas.Bool.Decides.{nat_tests}
 use Rattle.std.proofs.lemmas.Grind.{flat_map-append}
 use Rattle.std.specs.List.{AllByRecursion, flat_map}
@@ -11,7 +11,7 @@ use Rattle.zone_diff.specs.declared.DiffStyle.TheVariants.{Script, Nsupdate}
 use Rattle.zone_diff.specs.Blocks.{Parted, parted, blocks_of, block_limit, blocks}
 use Rattle.zone_diff.specs.Texts.{block_text, closing, line, opening, text_in}
 use Rattle.zone_diff.specs.Sinks.{Aim}
-use Rattle.zone_diff.specs.Held.{AreFull, Begun, Closed, Holds, HoldsFor, Opened, joined}
+use Rattle.zone_diff.specs.Held.{Begun, Closed, Holds, HoldsFor, Opened, joined}
 
 abbrev parts : List Operation → List (List Operation) → Parted
 parts here behind = record { here = here; behind = behind }

@@ -14,3 +14,5 @@ pub mod NameLemmas
 pub mod HeldLemmas
 pub mod LineLemmas
 pub mod ScriptLemmas
+pub mod CountLemmas
+pub mod ReadCounts

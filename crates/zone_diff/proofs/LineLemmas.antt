@@ -1,23 +1,18 @@
 -- A line of a script says the operation that it was written of.
-use Rattle.std.proofs.Common.{◌≡◌, ◌∙◌, ℕ, zero, suc, ◌+◌, ◌^◌, ◌<◌, ◌≤◌, Bool, true, false, cond, not, ◌&&◌, eqb, ltb, List, [], ◌∷◌, ◌++◌, length, refl, sym, ap, subst, arith, Option, Some, None, Result, Ok, Err, codes, append_assoc}
-use borrow.Author.Tests.{eqb-true}
-use Rattle.std.specs.List.{AllByRecursion, list_all}
+use Rattle.std.proofs.Common.{◌≡◌, ◌∙◌, ℕ, ◌^◌, ◌<◌, ◌≤◌, Bool, true, false, cond, eqb, List, [], ◌∷◌, ◌++◌, length, refl, sym, ap, arith, Option, Some, None, Ok, Err, codes, append_assoc}
+use Rattle.std.specs.List.{list_all}
 use Rattle.std.specs.Option.{option_map}
 use Rattle.std.specs.Fmt.{decimal}
 use Rattle.std.proofs.lemmas.Fmt.{decimal_nonempty}
-use Rattle.std.proofs.lemmas.Bool.Decides.{nat_tests}
-use Rattle.zone_model.specs.Names.{Name, IsName, is_under}
+use Rattle.zone_model.specs.Names.{Name, is_under}
 use Rattle.zone_model.specs.NameText.{name_of, text_of}
-use Rattle.zone_model.specs.Refusals.{◌>>=◌}
 use Rattle.zone_model.specs.Grammar.{Token, Spells, stops_word}
 use Rattle.zone_model.specs.DataText.{data_text, type_text}
-use Rattle.zone_model.specs.DataWords.{data_type, most_time, time_of, type_named}
-use Rattle.zone_model.specs.DataForms.{form_fits}
-use Rattle.zone_model.specs.Data.{data_of, of_form, read_fields, read_formed}
-use Rattle.zone_model.specs.Types.{Fields, Form, NamedType, Strings, form_of, named_types, type_numbered}
+use Rattle.zone_model.specs.DataWords.{time_of, type_named}
+use Rattle.zone_model.specs.Data.{data_of, read_fields, read_formed}
+use Rattle.zone_model.specs.Types.{Fields, Form, NamedType, Strings, named_types, type_numbered}
 use Rattle.zone_model.specs.Versions.{Operation, Add, DeleteName, DeleteSet, DeleteRecord}
 use Rattle.zone_model.specs.declared.DataRefusal.TheVariants.{BadRdata}
-use Rattle.zone_model.proofs.SplitLemmas.{IsBytes}
 use Rattle.zone_model.proofs.TypeLaws.{found_passes}
 use Rattle.rr_data.proofs.PrintedLemmas.{time_back}
 use Rattle.rr_data.proofs.PrintedFieldLemmas.{name_back}

@@ -1,5 +1,5 @@
 -- Names that are left of two zones.
-use Rattle.std.proofs.Common.{◌≡◌, ◌∙◌, ℕ, ◌+◌, ◌<◌, ◌≤◌, List, [], ◌∷◌, ◌++◌, length, take, drop, refl, sym, ap, subst, arith, append_assoc, Option, Some, None, Result, Ok, Err, OnOk, MatchOption}
+use Rattle.std.proofs.Common.{◌≡◌, ◌∙◌, ℕ, List, [], ◌∷◌, ◌++◌, length, take, drop, refl, sym, ap, subst, append_assoc, Option, Some, None, Result, Ok, OnOk, MatchOption}
 use Rattle.std.specs.List.{flat_map}
 use Rattle.std.specs.Int.{w16, from_be_bytes, to_be_bytes}
 use Rattle.std.specs.declared.alloc.AllocError.{AllocError}
@@ -7,15 +7,14 @@ use Rattle.std.specs.declared.cmp.Ordering.{Ordering}
 use Rattle.std.specs.declared.cmp.Ordering.TheVariants.{Less, Equal, Greater}
 use Rattle.std.specs.Ordering.{match_ordering}
 use Rattle.zone_model.specs.Names.{Name, IsName, BeginsWith, name_cmp, wire}
-use Rattle.zone_model.specs.Items.{split_sets}
 use Rattle.zone_model.specs.Records.{Rrset, Entry, IsItem, rrset_bytes}
 use Rattle.zone_model.specs.Versions.{Version, Operation, DeleteName}
 use Rattle.dns_name.proofs.ScanLemmas.{begins_once}
-use Rattle.rr_data.specs.ItemViews.{SaysEntry, sets_seen}
+use Rattle.rr_data.specs.ItemViews.{SaysEntry}
 use Rattle.rr_data.proofs.ItemViewLemmas.{item_says, item_sets, sets_view}
 use Rattle.zone_model.proofs.NameLemmas.{name_cmp-IsAntisymmetric}
 use Rattle.zone_diff.specs.declared.Serial.{Serial}
-use Rattle.zone_diff.specs.Differences.{difference, entry_difference, merged}
+use Rattle.zone_diff.specs.Differences.{difference, entry_difference}
 use Rattle.zone_diff.specs.Sinks.{Aim, Adds}
 use Rattle.zone_diff.specs.NamesAhead.{Comes, Goes, Meets, SaysFirst, behind_first, entry_laid, owner_ahead}
 

@@ -1,13 +1,11 @@
 -- The text of a difference is a script, whose blocks are its transactions.
-use Rattle.std.proofs.Common.{◌≡◌, ◌∙◌, ℕ, zero, suc, ◌+◌, ◌<◌, ◌≤◌, Bool, true, false, cond, ltb, List, [], ◌∷◌, ◌++◌, length, map, refl, sym, ap, subst, arith, Some, None, Result, Ok, codes, append_assoc, append-nil, length-append}
+use Rattle.std.proofs.Common.{◌≡◌, ◌∙◌, ℕ, suc, ◌+◌, ◌<◌, ◌≤◌, Bool, true, false, ltb, List, [], ◌∷◌, ◌++◌, length, map, refl, sym, ap, subst, arith, Some, None, Ok, codes, append_assoc, append-nil, length-append}
 use Rattle.std.proofs.lemmas.Bool.Decides.{nat_tests}
-use Rattle.std.proofs.lemmas.List.{length-map}
 use Rattle.std.specs.List.{AllByRecursion, flat_map, list_all}
 use Rattle.zone_model.specs.Names.{Name}
 use Rattle.zone_model.specs.Lines.{lines_of}
 use Rattle.zone_model.specs.Refusals.{◌>>=◌}
 use Rattle.zone_model.specs.Grammar.{Token, Spells}
-use Rattle.zone_model.specs.Transactions.{no_changes}
 use Rattle.zone_model.specs.Versions.{Version, Operation}
 use Rattle.zone_model.proofs.GrammarLemmas.{line_is}
 use Rattle.rr_data.proofs.PrintedWordLemmas.{alphabetic_word, is_shown}
@@ -18,7 +16,7 @@ use Rattle.job_model.specs.declared.Listing.{Listing}
 use Rattle.job_model.specs.declared.Listing.TheVariants.{OneList}
 use Rattle.job_model.specs.declared.Weight.TheVariants.{Heavy}
 use Rattle.job_model.specs.Commands.{Command}
-use Rattle.job_model.specs.Jobs.{Script, Unfinished, joined as joins, list_finished, list_of, no_commands, script_from, script_line, tokens_say, with_operation}
+use Rattle.job_model.specs.Jobs.{Script, Unfinished, list_finished, list_of, script_from, script_line, tokens_say}
 use Rattle.job_model.specs.Phrases.{phrase_of, without_parens}
 use Rattle.job_model.specs.Questions.{asked_of}
 use Rattle.zone_diff.specs.declared.DiffStyle.TheVariants.{Script as AsScript}

@@ -43,7 +43,7 @@ turned_back a b e = name_cmp_total.antisymm b a ∙ ap ordering_reverse e
 abbrev pub IsAhead : Name → Version → Type 0
 IsAhead n version = AllByRecursion (λ y. name_cmp n y ≡ Less) (keys_of version)
 
-ahead_of : (a b : Name) (version : Version) → name_cmp a b ≡ Less → IsAhead b version → IsAhead a version
+pub ahead_of : (a b : Name) (version : Version) → name_cmp a b ≡ Less → IsAhead b version → IsAhead a version
 ahead_of a b [] l h = tt
 ahead_of a b (pair ∷ rest) l h = (name_cmp_total.trans a b pair.0 l h.0, ahead_of a b rest l h.1)
 
@@ -53,7 +53,7 @@ abbrev pub stood : Name → Entry → Version → Version
 stood n [] rest = rest
 stood n (s ∷ entry) rest = (n, s ∷ entry) ∷ rest
 
-none_ahead : (n : Name) (rest : Version) → IsAhead n rest → entry_of n rest ≡ None
+pub none_ahead : (n : Name) (rest : Version) → IsAhead n rest → entry_of n rest ≡ None
 none_ahead n [] h = refl
 none_ahead n (pair ∷ rest) h = ap (λ (o : Ordering). cond (is_eq o) (Some pair.1) (entry_of n rest)) h.0 ∙ none_ahead n rest h.1
 

@@ -1,5 +1,5 @@
 -- The commands of a script that transactions are.
-use Rattle.std.specs.Prelude.{◌≡◌, List, true, Option, None}
+use Rattle.std.specs.Prelude.{◌≡◌, List, true, None}
 use Rattle.zone_model.specs.Versions.{Operation}
 use Rattle.job_model.specs.declared.Ending.TheVariants.{Commit}
 use Rattle.job_model.specs.declared.Weight.TheVariants.{Heavy}

@@ -23,5 +23,6 @@ pub use Rattle.zone_diff.specs.Held.{Begun, Holds, HoldsFor, Opened}
 pub use Rattle.zone_model.specs.NameText.{text_of}
 pub use Rattle.zone_model.specs.DataText.{data_text, type_text}
 pub use Rattle.zone_model.specs.Lines.{lines_of}
+pub use Rattle.zone_model.specs.MasterFile.{zone_at}
 pub use Rattle.job_model.specs.Jobs.{Script, list_of, script_from}
 pub use Rattle.zone_diff.specs.Commands.{TakesCommands, committed}

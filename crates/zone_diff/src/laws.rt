@@ -3,8 +3,8 @@
 ghost use Rattle.std.specs.Prelude.{◌≡◌, ◌<◌, ◌≤◌, List, length, ◌++◌, Ok};
 ghost use Rattle.zone_diff.specs.Prelude.{Serial, Keep, Name, Version, Operation, all_applied, CanBeDumped, difference, made, CutAt};
 ghost use Rattle.zone_diff.specs.Prelude.{blocks, block_limit, in_turn, StopsAt, AllByRecursion};
-ghost use Rattle.std.specs.Prelude.{ℕ, ◌+◌, map};
-ghost use Rattle.zone_diff.specs.Prelude.{Script, TakesCommands, committed, lines_of, list_of, script_from, text_in};
+ghost use Rattle.std.specs.Prelude.{ℕ, ◌+◌, ◌*◌, map};
+ghost use Rattle.zone_diff.specs.Prelude.{Script, TakesCommands, committed, lines_of, list_of, script_from, text_in, zone_at};
 ghost use Rattle.zone_diff.specs.declared.DiffStyle.TheVariants.{Script as AsScript};
 ghost use Rattle.zone_diff.specs.Prelude.{Entry, IsEntry, deletions, additions, deletions_walked, additions_walked};
 
@@ -50,4 +50,12 @@ pub fn differences_read_back()
         → (line : ℕ) (s : Script) → TakesCommands s → length s.commands + length (blocks (difference mode before after)) ≤ 10000
         → script_from origin line (lines_of (text_in AsScript origin (difference mode before after))) s
         ≡ Ok (record s { commands = s.commands ++ map committed (blocks (difference mode before after)) }) }
+{}
+
+/// A difference of two zones that lines say has at most one operation for each line of the one before, and two for each of the one after.
+/// All of its transactions but the last are full.
+pub fn differences_are_few()
+    ensures operations { (mode : Serial) (origin : Name) (m n : ℕ) (lines lines' : List (List ℕ)) (before after : Version) → CanBeDumped origin before
+        → zone_at m origin lines ≡ Ok before → zone_at n origin lines' ≡ Ok after → length (difference mode before after) ≤ length lines + 2 * length lines' }
+    ensures transactions { (operations : List Operation) → block_limit * length (blocks operations) < length operations + block_limit }
 {}

@@ -12,8 +12,8 @@ mod text;
 
 pub use changes::{Change, OperationSink};
 pub use laws::{
-    differences_in_transactions, differences_make_the_other, differences_may_be_cut,
-    differences_read_back,
+    differences_are_few, differences_in_transactions, differences_make_the_other,
+    differences_may_be_cut, differences_read_back,
 };
 pub use names::{Ahead, NameCursor, Names, push_between, push_difference};
 pub use sets::{push_additions, push_deletions};

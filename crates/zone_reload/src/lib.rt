@@ -6,5 +6,5 @@ mod reload;
 mod versions;
 
 pub use operations::OperationList;
-pub use reload::{operations_between, replace_all};
+pub use reload::{operations_between, operations_to, replace_all};
 pub use versions::VersionNames;

@@ -10,8 +10,26 @@ use qp_multi::{Law, Named, Transaction};
 use std::alloc::{AllocError, Global};
 use trie_read::Reading;
 use zone_change::Operation;
-use zone_diff::{NameCursor, Serial, push_between};
+use zone_diff::{NameCursor, Names, Serial, push_between};
 use zone_edit::{EditRefusal, ItemBuffers, execute};
+
+// The operations that make of a version that comes name by name another one.
+fn list_between<B: Names, A: Names>(
+    alloc: Global,
+    serial: Serial,
+    before: &mut B,
+    after: &mut A,
+) -> Result<Vec<Operation>, AllocError>
+    requires some_before { (left : Version) × B.shows before.old left }
+    requires some_after { (left : Version) × A.shows after.old left }
+    ensures { IfOk result (λ operations. (b a : Version) → B.shows before.old b → A.shows after.old a
+        → map operation_view operations.items ≡ difference serial b a) }
+{
+    let mut list = OperationList::new(alloc);
+    push_between(alloc, serial, before, after, &mut list)?;
+    let OperationList { operations } = list;
+    Ok(operations)
+}
 
 /// The operations that make of a version a zone.
 pub fn operations_between<V: Reading>(
@@ -24,12 +42,26 @@ pub fn operations_between<V: Reading>(
     ensures { IfOk result (λ operations. (before : Version) → Shows (V.holds version.old) before
         → map operation_view operations.items ≡ difference serial before zone.pairs) }
 {
-    let mut list = OperationList::new(alloc);
     let mut before = VersionNames::new(alloc, version)?;
     let mut after = NameCursor::new(alloc, zone)?;
-    push_between(alloc, serial, &mut before, &mut after, &mut list)?;
-    let OperationList { operations } = list;
-    Ok(operations)
+    list_between(alloc, serial, &mut before, &mut after)
+}
+
+/// The operations that make of a version another one, as of a snapshot the current one. Of either only the name at hand is copied.
+pub fn operations_to<V: Reading, W: Reading>(
+    alloc: Global,
+    serial: Serial,
+    version: &mut V,
+    next: &mut W,
+) -> Result<Vec<Operation>, AllocError>
+    requires shown { ShowsSome (V.holds version.old) }
+    requires next_shown { ShowsSome (W.holds next.old) }
+    ensures { IfOk result (λ operations. (b a : Version) → Shows (V.holds version.old) b → Shows (W.holds next.old) a
+        → map operation_view operations.items ≡ difference serial b a) }
+{
+    let mut before = VersionNames::new(alloc, version)?;
+    let mut after = VersionNames::new(alloc, next)?;
+    list_between(alloc, serial, &mut before, &mut after)
 }
 
 /// Makes of a transaction's working set, which is the zone of a version that is read beside it, another zone: what differs is changed, and

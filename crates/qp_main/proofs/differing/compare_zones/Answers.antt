@@ -31,4 +31,4 @@ returns-clause-told c =
     let text : pieces_text c.of.result ≡ text_in style i.origin operations = c.of.ensures ∙ c.in_ok-text.ensures.text ∙ ap (λ (n : Name). text_in style n operations) c.in_ok-before.ensures.origin in
     let ended : c.status_of.result ≡ cond (eqb (length operations) 0) status.Done status.Differ =
     c.status_of.ensures ∙ ap (λ (l : List ℕ). cond (eqb (length l) 0) status.Done status.Differ) c.deref.ensures.value ∙ ap (λ (b : Bool). cond b status.Done status.Differ) c.in_ok-text.ensures.nothing in
-    told style serial i.origin before after c.in_ok-before.ensures.of_origin c.in_ok-after.ensures.of_origin (zone_said i.origin c.args.input) (second_said i.origin c.args.input) c.in_ok-before.ensures.zone c.in_ok-after.ensures.zone c.status_of.result (pieces_text c.of.result) text ended
+    told style serial i.origin c.args.input before after c.in_ok-before.ensures.of_origin c.in_ok-after.ensures.of_origin c.in_ok-after.ensures.short c.in_ok-before.ensures.zone c.in_ok-after.ensures.zone c.status_of.result (pieces_text c.of.result) text ended

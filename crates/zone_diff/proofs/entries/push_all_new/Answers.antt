@@ -1,13 +1,13 @@
-use Rattle.std.proofs.Common.{◌≡◌, ◌∙◌, [], refl, sym, ap, subst, Option}
+use Rattle.std.proofs.Common.{◌≡◌, [], sym, ap, subst, Option}
 use Rattle.zone_model.specs.Records.{Rrset, Entry}
 use Rattle.zone_model.specs.Versions.{Operation}
 use Rattle.std.proofs.Common.{List, None}
-use Rattle.zone_diff.specs.Differences.{set_additions, unless_soa, additions}
+use Rattle.zone_diff.specs.Differences.{set_additions, unless_soa}
 use Rattle.zone_diff.specs.Merges.{Rises}
-use Rattle.zone_diff.specs.Walks.{additions_walked, each_beside, set_ahead, sets_ahead, sets_reached}
+use Rattle.zone_diff.specs.Walks.{additions_walked, each_beside, sets_ahead, sets_reached}
 use Rattle.zone_diff.specs.Sinks.{Adds, AddsFront}
 use Rattle.zone_diff.proofs.MergeLemmas.{front_ends, front_starts}
-use Rattle.zone_diff.proofs.WalkLemmas.{AllRise, WalksOn, ahead_rises, all_rise, additions_are_walked, reached_rise, walk_goes_on}
+use Rattle.zone_diff.proofs.WalkLemmas.{AllRise, ahead_rises, all_rise, additions_are_walked, reached_rise, walk_goes_on}
 use Rattle.zone_diff.proofs.entries.push_all_new.Goals as goal
 
 pub loop-set-init : goal.loop-set-init

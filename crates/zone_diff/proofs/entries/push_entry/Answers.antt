@@ -1,6 +1,5 @@
-use Rattle.std.proofs.Common.{◌≡◌, ◌∙◌, ◌++◌, ap, sym, subst, List, Option}
+use Rattle.std.proofs.Common.{◌≡◌, ◌∙◌, ◌++◌, ap, subst, Option}
 use Rattle.zone_model.specs.Records.{Rrset, Entry, rrset_of}
-use Rattle.zone_model.specs.Versions.{Operation}
 use Rattle.zone_diff.specs.Differences.{additions, deletions, entry_difference, soa_additions}
 use Rattle.zone_diff.specs.Sinks.{Adds}
 use Rattle.zone_diff.proofs.MergeLemmas.{adds_joined, ok_then}

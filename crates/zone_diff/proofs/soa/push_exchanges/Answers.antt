@@ -1,4 +1,4 @@
-use Rattle.std.proofs.Common.{ℕ, List, ◌++◌, Some, subst}
+use Rattle.std.proofs.Common.{ℕ, List, Some, subst}
 use Rattle.std.specs.List.{flat_map}
 use Rattle.zone_model.specs.Versions.{Operation}
 use Rattle.zone_diff.specs.Differences.{soa_additions, soa_exchange}

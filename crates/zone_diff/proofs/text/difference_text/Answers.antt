@@ -1,4 +1,4 @@
-use Rattle.std.proofs.Common.{◌≡◌, ◌∙◌, ℕ, eqb, length, ap, List, []}
+use Rattle.std.proofs.Common.{◌∙◌, ℕ, eqb, length, ap, List, []}
 use Rattle.zone_model.specs.Names.{Name}
 use Rattle.zone_model.specs.Versions.{Operation}
 use Rattle.zone_diff.specs.Differences.{difference}

@@ -1,7 +1,6 @@
 use Rattle.std.proofs.Common.{◌≡◌, ◌∙◌, ap, ℕ, List, ◌++◌, arith, sym, subst}
-use Rattle.zone_diff.specs.Held.{Begun, Holds}
+use Rattle.zone_diff.specs.Held.{Holds}
 use Rattle.zone_diff.specs.Texts.{closing}
-use Rattle.zone_model.specs.Versions.{Operation}
 use Rattle.zone_diff.proofs.HeldLemmas.{ends}
 use Rattle.zone_diff.proofs.text.DiffText.end_full.Goals as goal
 

@@ -1,4 +1,4 @@
-use Rattle.std.proofs.Common.{◌≡◌, ◌∙◌, ◌<◌, ◌≢◌, ℕ, List, ◌++◌, ap, arith}
+use Rattle.std.proofs.Common.{◌≡◌, ◌∙◌, ◌<◌, ℕ, List, ◌++◌, ap, arith}
 use Rattle.zone_diff.specs.Texts.{closing}
 use Rattle.zone_diff.proofs.HeldLemmas.{aimed_begun, aimed_whole}
 use Rattle.zone_diff.proofs.text.DiffText.finish.Goals as goal
