@@ -1,2 +1,1 @@
 mod OpeningLaws
-mod ReloadLaws
