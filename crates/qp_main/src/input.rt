@@ -57,6 +57,7 @@ impl Input {
     fn script_bytes(&self) -> &[u8]
         ensures lines { lines_of result.now ≡ script_lines self.now }
         ensures short { length result.now ≤ 2 ^ 24 }
+        ensures whole { length self.now ≤ 2 ^ 24 }
     {
         &self.bytes.as_slice()[self.parts.script_from as usize..]
     }

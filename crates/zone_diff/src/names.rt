@@ -21,6 +21,9 @@ pub trait Names {
     // These names are left, each with its entry.
     ghost shows: { Self → Version → Type 0 };
 
+    // What the names are read from stays as it was.
+    ghost stays: { Self → Self → Type 0 };
+
     /// No name is left.
     fn is_empty(&self) -> bool
         ensures { (left : Version) → shows self.now left → IsTrue result ↔ (left ≡ []) };
@@ -37,7 +40,12 @@ pub trait Names {
     /// Passes the first name.
     fn pass(&mut self)
         requires { (left : Version) × shows self.old left }
-        ensures { (left : Version) → shows self.old left → shows self.new (behind_first left) };
+        ensures left { (left : Version) → shows self.old left → shows self.new (behind_first left) }
+        ensures source { stays self.old self.new };
+
+    ghost stays_same: { (n : Self) → stays n n };
+
+    ghost stays_on: { (a b c : Self) → stays a b → stays b c → stays a c };
 }
 
 /// The name whose item is laid down, and how many octets that has.
@@ -103,6 +111,8 @@ impl Names for NameCursor {
 
     ghost shows = { λ c left. left ≡ c };
 
+    ghost stays = { λ a b. Unit {0} };
+
     fn is_empty(&self) -> bool {
         self.ahead.is_none()
     }
@@ -126,6 +136,10 @@ impl Names for NameCursor {
             self.ahead = next_of(&mut self.behind, &mut self.octets);
         }
     }
+
+    ghost stays_same = { λ n. tt };
+
+    ghost stays_on = { λ a b c h k. tt };
 }
 
 // The first name goes.
@@ -137,6 +151,7 @@ fn push_old<B: Names, K: OperationSink>(
     requires { (left : Version) × B.shows before.old left }
     ensures added { OnOk result (Adds (K.has sink.old) (K.has sink.new) (DeleteName owner.now ∷ [])) }
     ensures left { OnOk result ((left : Version) → B.shows before.old left → B.shows before.new (behind_first left)) }
+    ensures source { B.stays before.old before.new }
 {
     sink.push(owner, &Change::Goes)?;
     before.pass();
@@ -155,6 +170,7 @@ fn push_new<A: Names, K: OperationSink>(
     requires first { (left : Version) → A.shows after.old left → owner_ahead left ≡ Some owner.now }
     ensures added { OnOk result ((left : Version) → A.shows after.old left → Comes serial owner.now left (K.has sink.old) (K.has sink.new)) }
     ensures left { OnOk result ((left : Version) → A.shows after.old left → A.shows after.new (behind_first left)) }
+    ensures source { A.stays after.old after.new }
 {
     push_entry(alloc, serial, owner, &[], after.item(), sink)?;
     after.pass();
@@ -177,6 +193,7 @@ fn push_both<B: Names, A: Names, K: OperationSink>(
     ensures added { OnOk result ((b a : Version) → B.shows before.old b → A.shows after.old a → Meets serial owner.now b a (K.has sink.old) (K.has sink.new)) }
     ensures left_before { OnOk result ((left : Version) → B.shows before.old left → B.shows before.new (behind_first left)) }
     ensures left_after { OnOk result ((left : Version) → A.shows after.old left → A.shows after.new (behind_first left)) }
+    ensures sources { B.stays before.old before.new × A.stays after.old after.new }
 {
     push_entry(alloc, serial, owner, before.item(), after.item(), sink)?;
     before.pass();
@@ -194,7 +211,8 @@ fn push_first<B: Names, A: Names, K: OperationSink>(
 ) -> Result<(), AllocError>
     requires some_before { (left : Version) × B.shows before.old left }
     requires some_after { (left : Version) × A.shows after.old left }
-    ensures { OnOk result ((b a : Version) → B.shows before.old b → A.shows after.old a
+    ensures sources { B.stays before.old before.new × A.stays after.old after.new }
+    ensures went { OnOk result ((b a : Version) → B.shows before.old b → A.shows after.old a
         → Went serial (K.has sink.old) (K.has sink.new) b a (B.shows before.new) (A.shows after.new)) }
 {
     match (before.owner(), after.owner()) {
@@ -220,7 +238,8 @@ pub fn push_between<B: Names, A: Names, K: OperationSink>(
 ) -> Result<(), AllocError>
     requires some_before { (left : Version) × B.shows before.old left }
     requires some_after { (left : Version) × A.shows after.old left }
-    ensures { OnOk result ((b a : Version) → B.shows before.old b → A.shows after.old a → Adds (K.has sink.old) (K.has sink.new) (difference serial b a)) }
+    ensures sources { B.stays before.old before.new × A.stays after.old after.new }
+    ensures added { OnOk result ((b a : Version) → B.shows before.old b → A.shows after.old a → Adds (K.has sink.old) (K.has sink.new) (difference serial b a)) }
 {
     'names: for _ in 0..u64::MAX {
         if before.is_empty() && after.is_empty() {

@@ -7,6 +7,7 @@ use crate::versions::VersionNames;
 use dns_name::Name;
 use master_file::Zone;
 use qp_multi::{Law, Named, Transaction};
+use rr_data::item_buffer;
 use std::alloc::{AllocError, Global};
 use trie_read::Reading;
 use zone_change::Operation;
@@ -22,7 +23,8 @@ fn list_between<B: Names, A: Names>(
 ) -> Result<Vec<Operation>, AllocError>
     requires some_before { (left : Version) × B.shows before.old left }
     requires some_after { (left : Version) × A.shows after.old left }
-    ensures { IfOk result (λ operations. (b a : Version) → B.shows before.old b → A.shows after.old a
+    ensures sources { B.stays before.old before.new × A.stays after.old after.new }
+    ensures list { IfOk result (λ operations. (b a : Version) → B.shows before.old b → A.shows after.old a
         → map operation_view operations.items ≡ difference serial b a) }
 {
     let mut list = OperationList::new(alloc);
@@ -39,11 +41,13 @@ pub fn operations_between<V: Reading>(
     zone: Zone,
 ) -> Result<Vec<Operation>, AllocError>
     requires { ShowsSome (V.holds version.old) }
-    ensures { IfOk result (λ operations. (before : Version) → Shows (V.holds version.old) before
+    ensures same { version.new ≡ version.old }
+    ensures list { IfOk result (λ operations. (before : Version) → Shows (V.holds version.old) before
         → map operation_view operations.items ≡ difference serial before zone.pairs) }
 {
-    let mut before = VersionNames::new(alloc, version)?;
+    let mut octets = item_buffer(alloc)?;
     let mut after = NameCursor::new(alloc, zone)?;
+    let mut before = VersionNames::new(version, &mut octets);
     list_between(alloc, serial, &mut before, &mut after)
 }
 
@@ -56,11 +60,14 @@ pub fn operations_to<V: Reading, W: Reading>(
 ) -> Result<Vec<Operation>, AllocError>
     requires shown { ShowsSome (V.holds version.old) }
     requires next_shown { ShowsSome (W.holds next.old) }
-    ensures { IfOk result (λ operations. (b a : Version) → Shows (V.holds version.old) b → Shows (W.holds next.old) a
+    ensures same { (version.new ≡ version.old) × (next.new ≡ next.old) }
+    ensures list { IfOk result (λ operations. (b a : Version) → Shows (V.holds version.old) b → Shows (W.holds next.old) a
         → map operation_view operations.items ≡ difference serial b a) }
 {
-    let mut before = VersionNames::new(alloc, version)?;
-    let mut after = VersionNames::new(alloc, next)?;
+    let mut octets = item_buffer(alloc)?;
+    let mut next_octets = item_buffer(alloc)?;
+    let mut before = VersionNames::new(version, &mut octets);
+    let mut after = VersionNames::new(next, &mut next_octets);
     list_between(alloc, serial, &mut before, &mut after)
 }
 
@@ -76,6 +83,7 @@ pub fn replace_all<L: Law, N: Named, K, V: Reading>(
 ) -> Result<(), EditRefusal>
     requires works { IsSomeAnd transaction.old.locked.now.draft WorksOnSome }
     requires shown { ShowsSome (V.holds version.old) }
+    ensures same { version.new ≡ version.old }
     ensures same_reference { IsOfTheSame transaction.old transaction.new }
     ensures place { transaction.new.locked.now.place ≡ transaction.old.locked.now.place }
     ensures replaces { (before : Version) → Shows (V.holds version.old) before

@@ -1,20 +1,18 @@
 //! The names of a version that is read.
-ghost use Rattle.std.specs.Prelude.{◌≡◌, ◌≤◌, length, IfOk};
+ghost use Rattle.std.specs.Prelude.{◌≡◌, ◌≤◌, length};
 ghost use Rattle.zone_reload.specs.Prelude.{Faces, FacesSome, GivesNext, Shows, ShowsLeft, ShowsNames, ShowsSome, Version, most_item_octets};
 
 use dns_name::Name;
-use rr_data::item_buffer;
-use std::alloc::{AllocError, Global};
 use trie_read::{Iter, Reading};
 use zone_diff::{Ahead, Names};
 
-/// The names of a version from one on, which is laid down as an item.
+/// The names of a version from one on, which is laid down as an item in a buffer that is lent.
 #[derive(Drop)]
 pub struct VersionNames<'v, V: Reading> {
     version: &'v mut V,
     iter: Iter,
     ahead: Option<Ahead>,
-    octets: Vec<u8>,
+    octets: &'v mut [u8],
 }
 
 // Reads the item of the next name into the beginning of a buffer, and gives its length.
@@ -46,28 +44,33 @@ fn next_of<V: Reading>(version: &mut V, iter: &mut Iter, octets: &mut [u8]) -> O
 }
 
 impl<'v, V: Reading> VersionNames<'v, V> {
-    /// All names of a version.
-    pub fn new(alloc: Global, version: &'v mut V) -> Result<Self, AllocError>
-        requires { ShowsSome (V.holds version.old) }
-        ensures { IfOk result (λ n. (zone : Version) → Shows (V.holds version.old) zone
-            → ShowsNames (V.stands n.version.now n.iter) n.ahead n.octets.items zone) }
+    /// All names of a version, each laid down in the buffer in its turn.
+    pub fn new(version: &'v mut V, octets: &'v mut [u8]) -> Self
+        requires shown { ShowsSome (V.holds version.old) }
+        requires room { most_item_octets ≤ length octets.old }
+        ensures same_reference { result.version.ghost_name ≡ version.entry.ghost_name }
+        ensures same { result.version.now ≡ version.entry.now }
+        ensures shows { (zone : Version) → Shows (V.holds version.entry.now) zone
+            → ShowsNames (V.stands result.version.now result.iter) result.ahead result.octets.now zone }
     {
-        let mut octets = item_buffer(alloc)?;
         let mut iter = version.iter();
-        let ahead = next_of(version, &mut iter, &mut octets);
-        Ok(VersionNames {
+        let ahead = next_of(version, &mut iter, octets);
+        VersionNames {
             version,
             iter,
             ahead,
             octets,
-        })
+        }
     }
 }
 
 impl<V: Reading> Names for VersionNames<'_, V> {
+    ghost use Rattle.std.proofs.Common.{◌≡◌, ◌∙◌, refl};
     ghost use Rattle.zone_reload.specs.Shown.{ShowsNames};
 
-    ghost shows = { λ n left. ShowsNames (V.stands n.version.now n.iter) n.ahead n.octets.items left };
+    ghost shows = { λ n left. ShowsNames (V.stands n.version.now n.iter) n.ahead n.octets.now left };
+
+    ghost stays = { λ a b. (b.version.ghost_name ≡ a.version.ghost_name) × (b.version.now ≡ a.version.now) };
 
     fn is_empty(&self) -> bool {
         self.ahead.is_none()
@@ -82,14 +85,18 @@ impl<V: Reading> Names for VersionNames<'_, V> {
 
     fn item(&self) -> &[u8] {
         match &self.ahead {
-            Some(ahead) => &self.octets.as_slice()[..ahead.len],
+            Some(ahead) => &self.octets[..ahead.len],
             None => &[],
         }
     }
 
     fn pass(&mut self) {
         if self.ahead.is_some() {
-            self.ahead = next_of(self.version, &mut self.iter, &mut self.octets);
+            self.ahead = next_of(self.version, &mut self.iter, self.octets);
         }
     }
+
+    ghost stays_same = { λ n. (refl, refl) };
+
+    ghost stays_on = { λ a b c h k. (k.0 ∙ h.0, k.1 ∙ h.1) };
 }

@@ -1,6 +1,6 @@
 -- What a version that names own is read and changed by.
-use Rattle.std.proofs.Common.{◌≡◌, ◌∙◌, inl, inr, List, Option, Some, None, Result, Ok, Err, sym, ap, subst}
-use Rattle.std.specs.Prelude.{IsSomeAnd}
+use Rattle.std.proofs.Common.{◌≡◌, ◌∙◌, ℕ, inl, inr, List, Option, Some, None, Result, Ok, Err, refl, sym, ap, subst}
+use Rattle.std.specs.Prelude.{IfSome, IsSome, IsSomeAnd}
 use Rattle.trie_model.specs.Keys.{Entry, Rises}
 use Rattle.zone_model.specs.Names.{Name}
 use Rattle.zone_model.specs.Versions.{Version, Operation}
@@ -10,12 +10,15 @@ use Rattle.job_model.specs.Sizes.{trie_entries}
 use Rattle.qp_multi.specs.declared.desk.Draft.{Draft}
 use Rattle.qp_multi.specs.Operations.{applied}
 use Rattle.qp_multi.specs.Passes.{Known}
-use Rattle.qp_multi.specs.Drafts.{Begins, Works, base_of, working_set}
+use Rattle.shared_cells.specs.declared.pass.PassSeat.{PassSeat}
+use Rattle.qp_multi.specs.declared.meaning.Operation as meaning
+use Rattle.qp_multi.specs.Drafts.{Begins, Between, IsBack, Works, base_of, working_set}
 use Rattle.zone_diff.specs.Blocks.{changes}
 use Rattle.zone_diff.specs.Differences.{difference}
 use Rattle.zone_diff.specs.declared.Serial.TheVariants.{Keep}
 use Rattle.zone_edit.specs.Stores.{WorksOnSome}
-use Rattle.zone_edit.specs.Blocks.{Edited, Executes}
+use Rattle.zone_edit.specs.Blocks.{Edited, EditsInOrder, Executes, done_of}
+use Rattle.zone_edit.specs.declared.refusal.EditRefusal.{EditRefusal}
 use Rattle.zone_edit.proofs.EditLaws.{some_weaker}
 use Rattle.zone_edit.proofs.SetLaws.{entries_rise}
 use Rattle.zone_edit.proofs.WayLaws.{some_in_order}
@@ -33,6 +36,29 @@ stored_rises es s = subst Rises s.1.held (entries_rise s.0 s.1.version_is.rising
 
 pub zone_stored : (version : Version) (es : List Entry) → IsVersion version → trie_entries version ≡ es → ShowsSome (λ held. held ≡ es)
 zone_stored version es valid e = (version, record { version_is = valid; held = e })
+
+-- ---- a draft that is there is there still, and its pass gets back its seat
+
+old_some : (P : Draft → Type 0) (old : Option Draft) → IsSomeAnd old P → IsSome old
+old_some P None h = absurd h
+old_some P (Some d) h = refl
+
+between_some : (R : Draft → Draft → Type 0) (old new : Option Draft) → Between R old new → IsSome new
+between_some R None new h = absurd h
+between_some R (Some old) None h = absurd h
+between_some R (Some old) (Some new) h = refl
+
+pub replaced_some : (P : Draft → Type 0) (origin : Name) (operations : List Operation) (result : Result (Unit {0}) EditRefusal) (old new : Option Draft) → IsSomeAnd old P → Replaces origin operations result old new → IsSome new
+replaced_some P origin operations result old new s (inl h) = subst IsSome (sym h.1) (old_some P old s)
+replaced_some P origin operations result old new s (inr h) = between_some (EditsInOrder origin (done_of operations result) (Executes origin (changes operations) result)) old new h
+
+pub back_ready : (o : Option Draft) (seat : Option (PassSeat (List Entry) (List meaning.Operation))) → IsSome o → IfSome o (λ d. IsBack d.seat.place.me.0 seat) → IsSome seat
+back_ready None seat s h = absurd cc
+back_ready (Some d) seat s h = h.0
+
+pub same_place : (o : Option Draft) (a b : ℕ) → IsSome o → IfSome o (λ _. a ≡ b) → a ≡ b
+same_place None a b s h = absurd cc
+same_place (Some d) a b s h = h
 
 module _ (old : Known) (first : Option Draft) (begins : IsSomeAnd first (Begins IsStored old)) where
   -- it begins on a version

@@ -1,7 +1,6 @@
 //! A zone is exchanged whole again and again, while others read it: each version that they see is one of both zones, whole.
 ghost use Rattle.std.specs.Prelude.{◌≡◌, All, Some, IfSome, IsSome, slice_get};
 ghost use Rattle.zone_answer.specs.Standing.{ShowsSome};
-ghost use Rattle.trie_model.specs.Keys.{Rises};
 ghost use Rattle.trie_write.specs.Entries.{entries_of_items};
 
 use dns_name::Name;
@@ -99,6 +98,7 @@ impl Texts {
     /// Whether nothing makes of a version the zone that it should be.
     fn is_whole<V: Reading>(&self, alloc: Global, version: &mut V, number: u64) -> bool
         requires { ShowsSome (V.holds version.old) }
+        ensures { version.new ≡ version.old }
     {
         let Some(zone) = self.zone(alloc, number) else {
             return false;
@@ -142,6 +142,7 @@ impl<N: Named> Worker<'_, N> {
     /// How many operations make of a version the current one.
     fn changes_since<V: Reading>(&mut self, alloc: Global, version: &mut V) -> Option<usize>
         requires { ShowsSome (V.holds version.old) }
+        ensures { version.new ≡ version.old }
     {
         let mut current = self.pass.query(self.index);
         let operations = operations_to(alloc, Serial::Keep, version, &mut current).ok()?;
@@ -284,7 +285,6 @@ fn run<N: Named + Send + Sync, R: Threads + Wait + Sync>(
 ) -> Option<bool>
     requires named { slice_get N.tables 0 ≡ Some blank.shared.table.shared.table_id }
     requires stored { ShowsSome (λ held. held ≡ entries_of_items items.now) }
-    requires rising { Rises (entries_of_items items.now) }
 {
     let Ok((index, passes)) = Index::<Stored, N>::open(alloc, blank, 0, items) else {
         return None;

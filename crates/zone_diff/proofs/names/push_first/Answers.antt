@@ -9,8 +9,8 @@ use Rattle.zone_diff.proofs.names.push_first.Goals as goal
 pub push_both-requires-clause-after : goal.push_both-requires-clause-after
 push_both-requires-clause-after g c = λ left shown. same_ahead c.in-Some-Some.old c.in-Some-Some.new left (sym c.cmp.ensures ∙ c.in-Equal.is) (sym (c.owner-2.ensures left shown) ∙ c.in-Some-Some.is-1)
 
-pub returns-in-None-Some : goal.returns-in-None-Some
-returns-in-None-Some g c =
+pub returns-in-None-Some-clause-went : goal.returns-in-None-Some-clause-went
+returns-in-None-Some-clause-went g c =
     let has = g.K.OperationSink.has in
     let had = has c.args.sink.now in
     let now = has c.push_new.new.sink in
@@ -30,8 +30,8 @@ returns-in-None-Some g c =
     })
     c.push_new.ensures.added c.push_new.ensures.left
 
-pub returns-in-Some-None : goal.returns-in-Some-None
-returns-in-Some-None g c =
+pub returns-in-Some-None-clause-went : goal.returns-in-Some-None-clause-went
+returns-in-Some-None-clause-went g c =
     let has = g.K.OperationSink.has in
     let had = has c.args.sink.now in
     let now = has c.push_old.new.sink in
@@ -51,8 +51,8 @@ returns-in-Some-None g c =
     })
     c.push_old.ensures.added c.push_old.ensures.left
 
-pub returns-in-Less : goal.returns-in-Less
-returns-in-Less g c =
+pub returns-in-Less-clause-went : goal.returns-in-Less-clause-went
+returns-in-Less-clause-went g c =
     let has = g.K.OperationSink.has in
     let had = has c.args.sink.now in
     let now = has c.push_old-in-Less.new.sink in
@@ -72,8 +72,8 @@ returns-in-Less g c =
     })
     c.push_old-in-Less.ensures.added c.push_old-in-Less.ensures.left
 
-pub returns-in-Greater : goal.returns-in-Greater
-returns-in-Greater g c =
+pub returns-in-Greater-clause-went : goal.returns-in-Greater-clause-went
+returns-in-Greater-clause-went g c =
     let has = g.K.OperationSink.has in
     let had = has c.args.sink.now in
     let now = has c.push_new-in-Greater.new.sink in
@@ -93,8 +93,8 @@ returns-in-Greater g c =
     })
     c.push_new-in-Greater.ensures.added c.push_new-in-Greater.ensures.left
 
-pub returns-in-Equal : goal.returns-in-Equal
-returns-in-Equal g c =
+pub returns-in-Equal-clause-went : goal.returns-in-Equal-clause-went
+returns-in-Equal-clause-went g c =
     let has = g.K.OperationSink.has in
     let had = has c.args.sink.now in
     let now = has c.push_both.new.sink in

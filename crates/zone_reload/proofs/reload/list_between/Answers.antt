@@ -4,7 +4,7 @@ use Rattle.zone_diff.specs.Sinks.{Aim}
 use Rattle.zone_diff.specs.declared.DiffStyle.TheVariants.{Script}
 use Rattle.zone_reload.proofs.reload.list_between.Goals as goal
 
-pub returns : goal.returns
-returns g c b a before after =
+pub returns-clause-list : goal.returns-clause-list
+returns-clause-list g c b a before after =
     let aim : Aim = record { style = Script; origin = [] } in
-    c.in_ok-push_between.ensures b a before after aim [] (ap (map operation_view) c.new-list.ensures)
+    c.in_ok-push_between.ensures.added b a before after aim [] (ap (map operation_view) c.new-list.ensures)

@@ -11,11 +11,11 @@ returns-clause-accepted g c before shown h k =
     let old = c.args.transaction.now.locked.now.draft in
     let new = c.execute.new.transaction.locked.now.draft in
     let edited = subst (λ (l : List Operation). Edited c.args.origin.now (changes (map operation_view l)) c.execute.result old new) c.deref.ensures.value c.execute.ensures.executes in
-    accepted_as c.args.origin.now before c.args.zone.pairs (map operation_view c.in-Ok.operations.items) c.execute.result old new (c.in-Ok.ensures before shown) h k edited
+    accepted_as c.args.origin.now before c.args.zone.pairs (map operation_view c.in-Ok.operations.items) c.execute.result old new (c.in-Ok.ensures.list before shown) h k edited
 
 pub returns-clause-made : goal.returns-clause-made
 returns-clause-made g c before shown h k =
     let old = c.args.transaction.now.locked.now.draft in
     let new = c.execute.new.transaction.locked.now.draft in
     let edited = subst (λ (l : List Operation). Edited c.args.origin.now (changes (map operation_view l)) c.execute.result old new) c.deref.ensures.value c.execute.ensures.executes in
-    became_as c.args.origin.now before c.args.zone.pairs (map operation_view c.in-Ok.operations.items) c.execute.result old new (c.in-Ok.ensures before shown) h k edited
+    became_as c.args.origin.now before c.args.zone.pairs (map operation_view c.in-Ok.operations.items) c.execute.result old new (c.in-Ok.ensures.list before shown) h k edited
