@@ -37,7 +37,7 @@ module _ (hears : Call → Type 0) where
   each_told workers number [] by each = tt
   each_told workers number (o ∷ os) by each =
       let here = subst (λ b. AllByRecursion (λ (e : ℕ × Outcome). IsHeard hears o.worker e.0) (cond b ((number, o.outcome) ∷ served_by o.worker (number + 1) (map Some os)) (served_by o.worker (number + 1) (map Some os)))) (eq-eqb o.worker o.worker refl) (each o.worker by.0.0 by.0.1) in
-      (by.0.1, here.0, each_told workers (number + 1) os by.1 (λ worker some few. rest_of (λ e. IsHeard hears worker e.0) (eqb o.worker worker) (number, o.outcome) (served_by worker (number + 1) (map Some os)) (each worker some few)))
+      (by.0.0, by.0.1, here.0, each_told workers (number + 1) os by.1 (λ worker some few. rest_of (λ e. IsHeard hears worker e.0) (eqb o.worker worker) (number, o.outcome) (served_by worker (number + 1) (map Some os)) (each worker some few)))
 
   -- of all commands
   pub all_told : (count workers : ℕ) (served : List Served) (os : List FedOutcome) → length served ≡ workers → length served ≤ 16 → FedHeard hears 1 served → AreInOrder count served os → AllFedHeard hears workers count os

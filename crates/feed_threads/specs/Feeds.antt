@@ -54,7 +54,7 @@ FedHeard hears worker (v ∷ others) = AllByRecursion (IsHeard hears worker) v.n
 -- the gate was told of commands, from one of a number on, each by one of so many workers, the one that ran it
 abbrev pub EachHeard : (Call → Type 0) → ℕ → ℕ → List FedOutcome → Type 0
 EachHeard hears workers number [] = Unit {0}
-EachHeard hears workers number (o ∷ os) = (o.worker ≤ workers) × IsHeard hears o.worker number × EachHeard hears workers (number + 1) os
+EachHeard hears workers number (o ∷ os) = (0 < o.worker) × (o.worker ≤ workers) × IsHeard hears o.worker number × EachHeard hears workers (number + 1) os
 
 -- of all commands of a list of so many
 pub record AllFedHeard (hears : Call → Type 0) (workers count : ℕ) (os : List FedOutcome) : Type 0 where

@@ -6,9 +6,10 @@ ghost use Rattle.feed_threads.specs.Prelude.{IsHeard, IsIndex, IsSetup, OpensAt,
 ghost use Rattle.feed_threads.specs.Prelude.{AllFedHeard, IsServed, done_seat, seats_served};
 
 use crate::ordering::{Served, in_order};
+use crew::Turnstile;
 use dns_name::Name;
 use feed_core::{Feed, FeedSeat};
-use job_commands::{Gate, Room, Turnstile, ZoneLaw, close_index, run_alone};
+use job_commands::{Gate, Room, ZoneLaw, close_index, run_alone};
 use job_script::{Command, FedOutcome, Outcomes};
 use qp_multi::{Index, Named, Pass};
 use std::alloc::{AllocError, Global};

@@ -1,7 +1,6 @@
 -- What a gate is told of a worker's commands.
 use Rattle.std.proofs.Common.{◌≡◌, ⊎_elim, ℕ, ◌+◌, ◌<◌, ◌≤◌, Result, Ok, Err, IfOk, subst, sym, arith}
 use Rattle.std.proofs.Math.Nat.{eq-or-lt_of_le}
-use Rattle.job_commands.specs.Calls.{Call}
 
 -- one place more
 pub one_more : (P : ℕ → Type 0) (n m : ℕ) → m ≡ n + 1 → ((k : ℕ) → k < n → P k) → P n → (k : ℕ) → k < m → P k
@@ -12,7 +11,3 @@ one_more P n m is all here k lt =
 pub any_ok : {A E P : Type 0} (r : Result A E) → P → IfOk r (λ _. P)
 any_ok (Ok x) p = p
 any_ok (Err e) p = tt
-
--- a gate that is the same was told the same, of a worker that has the same number
-pub same_told : {X : Type 0} (hears : X → Call → Type 0) (call : ℕ → Call) (x y : X) (v w : ℕ) → x ≡ y → v ≡ w → hears x (call v) → hears y (call w)
-same_told hears call x y v w same number told = subst (λ g. hears g (call w)) same (subst (λ n. hears x (call n)) number told)

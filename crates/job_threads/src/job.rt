@@ -5,8 +5,9 @@ ghost use Rattle.job_threads.specs.Prelude.{workers_view, AllAsked, known_at, Le
 ghost use Rattle.job_threads.specs.Prelude.{AllHeard, AreHeard, IsIndex, IsSetup, OpensAt, IsRun, table_size, known_in, DoneRan, AreGathered};
 
 use crate::worker::{Done, run_worker};
+use crew::Turnstile;
 use dns_name::Name;
-use job_commands::{Gate, Turnstile, ZoneLaw, close_index};
+use job_commands::{Gate, ZoneLaw, close_index};
 use job_script::{Command, Job, Outcomes, Worker};
 use qp_multi::{Index, Named, Pass};
 use std::alloc::{AllocError, Global};

@@ -5,8 +5,9 @@ ghost use Rattle.job_threads.specs.Prelude.{command_view, AllAsked, known_at, Se
 ghost use Rattle.job_threads.specs.Prelude.{Step, Begins, Numbers, DoneRan, table_size, ArePlaced, holder_of, holds_one, station_of};
 
 use crate::passes::{Passes, ask_snapshot, give_back, second_pass, take_snapshot};
+use crew::Turnstile;
 use dns_name::Name;
-use job_commands::{Gate, Room, Turnstile, ZoneLaw, run_alone};
+use job_commands::{Gate, Room, ZoneLaw, run_alone};
 use job_script::{Command, Outcome, Outcomes};
 use qp_multi::{Index, Named, Pass};
 use std::alloc::{AllocError, Global};

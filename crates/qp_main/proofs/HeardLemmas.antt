@@ -74,21 +74,21 @@ module _ (hears : Call → Type 0) where
 
   -- ---- of the list that bytes say
 
-  each_at : (workers number : ℕ) (os : List FedOutcome) (place : ℕ) → EachHeard hears workers number os → place < length os → (worker : ℕ) × (worker ≤ workers) × IsHeard hears worker (number + place)
+  each_at : (workers number : ℕ) (os : List FedOutcome) (place : ℕ) → EachHeard hears workers number os → place < length os → (worker : ℕ) × (0 < worker) × (worker ≤ workers) × IsHeard hears worker (number + place)
   each_at workers number [] place each lt = absurd (omega (arith, lt))
-  each_at workers number (o ∷ os) zero each lt = (o.worker, each.0, subst (IsHeard hears o.worker) (omega arith) each.1)
+  each_at workers number (o ∷ os) zero each lt = (o.worker, each.0, each.1, subst (IsHeard hears o.worker) (omega arith) each.2)
   each_at workers number (o ∷ os) (suc place) each lt =
-      let more = each_at workers (number + 1) os place each.2 (omega (arith, lt)) in
-      (more.0, more.1, subst (IsHeard hears more.0) (omega arith) more.2)
+      let more = each_at workers (number + 1) os place each.3 (omega (arith, lt)) in
+      (more.0, more.1, more.2, subst (IsHeard hears more.0) (omega arith) more.3)
 
   pub list_heard : (workers count : ℕ) (os : List FedOutcome) → AllFedHeard hears workers count os → ListHeard hears workers count
   list_heard workers count os heard = λ place lt.
       let here = each_at workers 1 os place heard.each (omega (arith, lt, heard.many)) in
-      (here.0, here.1, subst (IsHeard hears here.0) (omega arith) here.2)
+      (here.0, here.1, here.2, subst (IsHeard hears here.0) (omega arith) here.3)
 
   -- by more workers
   pub heard_by_more : (few many count : ℕ) → few ≤ many → ListHeard hears few count → ListHeard hears many count
-  heard_by_more few many count le heard = λ place lt. let here = heard place lt in (here.0, omega (arith, here.1, le), here.2)
+  heard_by_more few many count le heard = λ place lt. let here = heard place lt in (here.0, here.1, omega (arith, here.2, le), here.3)
 
   pub fed_job_heard : (workers : ℕ) (origin : Name) (bytes : List ℕ) (zone : Version) (commands : List Command) → zone_of origin (zone_lines bytes) ≡ Ok zone → list_of origin (script_start bytes) (script_lines bytes) ≡ Ok commands
       → ListHeard hears workers (length commands) → FedJobHeard hears workers (fed_job_of origin bytes)

@@ -24,7 +24,7 @@ WhereRun so s text = HasRun s → so
 
 -- of so many commands, each by one of so many workers; both are counted from 1
 abbrev pub ListHeard : (Call → Type 0) → ℕ → ℕ → Type 0
-ListHeard hears workers count = (place : ℕ) → place < count → (worker : ℕ) × (worker ≤ workers) × IsHeard hears worker (place + 1)
+ListHeard hears workers count = (place : ℕ) → place < count → (worker : ℕ) × (0 < worker) × (worker ≤ workers) × IsHeard hears worker (place + 1)
 
 -- of all commands of a job that is read, of each worker's by that worker
 abbrev pub JobHeard : (Call → Type 0) → Result Job JobRefusal → Type 0

@@ -7,7 +7,8 @@ ghost use Rattle.zones_threads.specs.Prelude.{IsSaid, IsSite, Opens, Site, comma
 
 use crate::ending::close_zones;
 use crate::worker::{Ended, run_worker};
-use job_commands::{Gate, Turnstile, ZoneLaw};
+use crew::Turnstile;
+use job_commands::{Gate, ZoneLaw};
 use qp_multi::Named;
 use std::alloc::{AllocError, Global};
 use std::sync::Wait;

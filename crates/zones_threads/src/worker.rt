@@ -5,7 +5,8 @@ ghost use Rattle.zones_threads.specs.Prelude.{AreHeard, IsPassOf, HasWorked, May
 use crate::changing::{attach, detach};
 use crate::getting::get;
 use crate::transactions::change_zone;
-use job_commands::{Gate, Room, Turnstile, ZoneLaw};
+use crew::Turnstile;
+use job_commands::{Gate, Room, ZoneLaw};
 use qp_multi::Named;
 use std::alloc::{AllocError, Global};
 use std::sync::Wait;

@@ -8,7 +8,7 @@ use Rattle.feed_threads.specs.Feeds.{commands_at}
 use Rattle.job_commands.specs.Works.{only}
 use Rattle.std.specs.List.{AllByRecursion}
 use Rattle.job_commands.specs.Calls.{After, Before, IsHeard, next_number}
-use Rattle.job_commands.proofs.CallLaws.{same_told}
+use Rattle.crew.proofs.CallLaws.{same_told}
 use Rattle.report_laws.specs.Changes.{AllAsked}
 use Rattle.qp_multi.specs.Passes.{first_version, known_at}
 use Rattle.job_commands.specs.Histories.{Setup}

@@ -11,7 +11,8 @@ use Rattle.job_commands.specs.Calls.{After, Before, IsHeard, next_number}
 use Rattle.job_commands.specs.Stations.{station}
 use Rattle.job_commands.specs.Works.{ended}
 use Rattle.job_commands.proofs.ShowLaws.{seat_told}
-use Rattle.job_commands.proofs.CallLaws.{one_more, same_told}
+use Rattle.job_commands.proofs.CallLaws.{one_more}
+use Rattle.crew.proofs.CallLaws.{same_told}
 use Rattle.job_commands.proofs.WorkLaws.{WorkerAt, worker_starts, worker_ran}
 use Rattle.job_threads.proofs.WorkerLaws.{worker_next, worker_back, turn_here, turn_next, said_here}
 use Rattle.job_threads.proofs.worker.run_worker.Goals as goal

@@ -5,7 +5,8 @@ use Rattle.std.proofs.lemmas.Option.{get_or_from_slice_get, slice_get_within}
 use Rattle.std.specs.List.{AllByRecursion}
 use Rattle.zone_model.specs.Names.{Name}
 use Rattle.job_commands.specs.Calls.{After, Before, IsHeard, next_number}
-use Rattle.job_commands.proofs.CallLaws.{one_more, same_told}
+use Rattle.job_commands.proofs.CallLaws.{one_more}
+use Rattle.crew.proofs.CallLaws.{same_told}
 use Rattle.job_commands.proofs.WorkLaws.{drop_here, take_here}
 use Rattle.zone_table.specs.Passes.{table_known}
 use Rattle.zone_table.proofs.KnownLaws.{seat_told}
