@@ -45,7 +45,7 @@ loop-number-init g c =
 pub enter-command-requires-clause-there : goal.enter-command-requires-clause-there
 enter-command-requires-clause-there g c =
     let inside : c.in-Some.number - 1 < length c.args.turnstile.now.commands.now = search rules in
-    subst (λ l. c.in-Some.number - 1 < length l.now) (sym c.loop-number.invariant.commands) inside
+    λ κs bounds. subst (λ l. c.in-Some.number - 1 < length l.now) (sym c.loop-number.invariant.commands) inside
 
 pub run_alone-requires-clause-no_snapshot : goal.run_alone-requires-clause-no_snapshot
 run_alone-requires-clause-no_snapshot g c =
@@ -84,9 +84,8 @@ loop-number-preserved g c =
     let some : 0 < c.in-Some.number = search rules in
     let few : c.in-Some.number ≤ 4294967295 = search rules in
     let counted = number_counted c.in-Some.number some few in
-    let hears = λ gate. g.G.Gate.hears gate.now in
-    let before = same_told hears (λ n. Before n (next_number place)) _ _ _ _ i.gate i.number c.enter-command.ensures.heard in
-    let after = same_told hears (λ n. After n (next_number place)) _ _ _ _ (entered.0 ∙ i.gate) (entered.1 ∙ i.number) (c.leave.ensures.heard place c.enter-command.ensures.entered) in
+    let before = same_told (g.G.Gate.hears) (λ n. Before n (next_number place)) _ _ _ _ (ap (λ r. r.now) i.gate) i.number c.enter-command.ensures.heard in
+    let after = same_told (g.G.Gate.hears) (λ n. After n (next_number place)) _ _ _ _ (ap (λ r. r.now) (entered.0 ∙ i.gate)) (entered.1 ∙ i.number) (c.leave.ensures.heard place c.enter-command.ensures.entered) in
     let told = subst (IsHeard (g.G.Gate.hears c.args.turnstile.now.gate.now) c.args.turnstile.now.worker) counted (before, after) in
     let first = c.args.pass.seat in
     record {

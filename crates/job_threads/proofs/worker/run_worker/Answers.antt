@@ -39,7 +39,7 @@ loop-place-init g c = record {
 }
 
 pub enter-command-requires-clause-there : goal.enter-command-requires-clause-there
-enter-command-requires-clause-there g c = subst (λ l. c.loop-place.place < length l.now) (sym c.loop-place.invariant.commands) (omega (arith, c.loop-place-test.true, c.count.ensures))
+enter-command-requires-clause-there g c = λ κs bounds. subst (λ l. c.loop-place.place < length l.now) (sym c.loop-place.invariant.commands) (omega (arith, c.loop-place-test.true, c.count-count.ensures))
 
 pub run_command-requires-clause-may : goal.run_command-requires-clause-may
 run_command-requires-clause-may g c =
@@ -76,9 +76,8 @@ loop-place-preserved g c =
     let inside = c.enter-command.ensures.same in
     let left = c.leave.ensures.same in
     let many = ap length c.in_ok-push.ensures.items ∙ length-append c.loop-place.list.items (c.in_ok-outcome.outcome ∷ []) ∙ ap (λ (n : ℕ). n + 1) i.many in
-    let hears = λ gate. g.G.Gate.hears gate.now in
-    let before = same_told hears (λ n. Before n (next_number place)) _ _ _ _ i.gate i.number c.enter-command.ensures.heard in
-    let after = same_told hears (λ n. After n (next_number place)) _ _ _ _ (inside.0 ∙ i.gate) (inside.1 ∙ i.number) (c.leave.ensures.heard place c.enter-command.ensures.entered) in
+    let before = same_told (g.G.Gate.hears) (λ n. Before n (next_number place)) _ _ _ _ (ap (λ r. r.now) i.gate) i.number c.enter-command.ensures.heard in
+    let after = same_told (g.G.Gate.hears) (λ n. After n (next_number place)) _ _ _ _ (ap (λ r. r.now) (inside.0 ∙ i.gate)) (inside.1 ∙ i.number) (c.leave.ensures.heard place c.enter-command.ensures.entered) in
     record {
       here = c.in_ok-outcome.ensures.here;
       place = c.in_ok-outcome.ensures.place;
@@ -108,7 +107,7 @@ loop-place-preserved g c =
 pub returns-clause-ran : goal.returns-clause-ran
 returns-clause-ran g c = λ s numbers setup begins.
     let commands = c.args.turnstile.now.commands.now in
-    let past : length commands ≤ c.loop-place.place = omega (arith, c.loop-place-test.false, c.count.ensures) in
+    let past : length commands ≤ c.loop-place.place = omega (arith, c.loop-place-test.false, c.count-count.ensures) in
     let w = c.loop-place.invariant.at s numbers setup begins in
     let passes = c.loop-place.passes in
     let at = station passes.asks.seat (option_map (λ p. p.seat) passes.spare) (option_map (λ h. h.seat) passes.held) in
@@ -118,5 +117,5 @@ returns-clause-ran g c = λ s numbers setup begins.
 pub returns-clause-heard : goal.returns-clause-heard
 returns-clause-heard g c = λ place lt.
     let many = length-map c.args.turnstile.now.commands.now command_view in
-    let past : length c.args.turnstile.now.commands.now ≤ c.loop-place.place = omega (arith, c.loop-place-test.false, c.count.ensures) in
+    let past : length c.args.turnstile.now.commands.now ≤ c.loop-place.place = omega (arith, c.loop-place-test.false, c.count-count.ensures) in
     c.loop-place.invariant.heard place (omega (arith, lt, many, past))

@@ -43,7 +43,7 @@ loop-place-init g c =
     }
 
 pub enter-command-requires-clause-there : goal.enter-command-requires-clause-there
-enter-command-requires-clause-there g c = subst (λ l. c.loop-place.place < length l.now) (sym c.loop-place.invariant.commands) (omega (arith, c.loop-place-test.true, c.count.ensures))
+enter-command-requires-clause-there g c = λ κs bounds. subst (λ l. c.loop-place.place < length l.now) (sym c.loop-place.invariant.commands) (omega (arith, c.loop-place-test.true, c.count-count.ensures))
 
 pub run_command-requires-clause-said : goal.run_command-requires-clause-said
 run_command-requires-clause-said g c =
@@ -72,9 +72,8 @@ loop-place-preserved g c =
     let is = sym (get_or_from_slice_get commands place here here there) in
     let inside = c.enter-command.ensures.same in
     let left = c.leave.ensures.same in
-    let hears = λ gate. g.G.Gate.hears gate.now in
-    let before = same_told hears (λ n. Before n (next_number place)) _ _ _ _ i.gate i.number c.enter-command.ensures.heard in
-    let after = same_told hears (λ n. After n (next_number place)) _ _ _ _ (inside.0 ∙ i.gate) (inside.1 ∙ i.number) (c.leave.ensures.heard place c.enter-command.ensures.entered) in
+    let before = same_told (g.G.Gate.hears) (λ n. Before n (next_number place)) _ _ _ _ (ap (λ r. r.now) i.gate) i.number c.enter-command.ensures.heard in
+    let after = same_told (g.G.Gate.hears) (λ n. After n (next_number place)) _ _ _ _ (ap (λ r. r.now) (inside.0 ∙ i.gate)) (inside.1 ∙ i.number) (c.leave.ensures.heard place c.enter-command.ensures.entered) in
     let now = c.loop-place.pass in
     let next = c.run_command.new.pass in
     let first = c.args.pass in
@@ -116,7 +115,7 @@ returns-clause-done g c =
     let now = c.loop-place.pass in
     let ds = c.loop-place.list.items in
     let commands = c.args.turnstile.now.commands.now in
-    let all = take_all c.loop-place.place commands (omega (arith, c.loop-place-test.false, c.count.ensures)) in
+    let all = take_all c.loop-place.place commands (omega (arith, c.loop-place-test.false, c.count-count.ensures)) in
     record {
       pass = i.pass;
       kinds = subst (λ (l : List _). AreOf (map command_view l) ds) all i.kinds;
@@ -127,5 +126,5 @@ returns-clause-done g c =
 pub returns-clause-heard : goal.returns-clause-heard
 returns-clause-heard g c = λ place lt.
     let many = length-map c.args.turnstile.now.commands.now command_view in
-    let past : length c.args.turnstile.now.commands.now ≤ c.loop-place.place = omega (arith, c.loop-place-test.false, c.count.ensures) in
+    let past : length c.args.turnstile.now.commands.now ≤ c.loop-place.place = omega (arith, c.loop-place-test.false, c.count-count.ensures) in
     c.loop-place.invariant.heard place (omega (arith, lt, many, past))
