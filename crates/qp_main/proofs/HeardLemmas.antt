@@ -76,15 +76,20 @@ module _ (hears : Call → Type 0) where
 
   each_at : (workers number : ℕ) (os : List FedOutcome) (place : ℕ) → EachHeard hears workers number os → place < length os → (worker : ℕ) × (0 < worker) × (worker ≤ workers) × IsHeard hears worker (number + place)
   each_at workers number [] place each lt = absurd (omega (arith, lt))
-  each_at workers number (o ∷ os) zero each lt = (o.worker, each.0, each.1, subst (IsHeard hears o.worker) (omega arith) each.2)
+  each_at workers number (o ∷ os) zero each lt =
+      let same : number ≡ number + 0 = omega arith in
+      (o.worker, each.0, each.1, subst (λ (n : ℕ). IsHeard hears o.worker n) same each.2)
   each_at workers number (o ∷ os) (suc place) each lt =
       let more = each_at workers (number + 1) os place each.3 (omega (arith, lt)) in
-      (more.0, more.1, more.2, subst (IsHeard hears more.0) (omega arith) more.3)
+      let same : number + 1 + place ≡ number + suc place = omega arith in
+      (more.0, more.1, more.2, subst (λ (n : ℕ). IsHeard hears more.0 n) same more.3)
 
   pub list_heard : (workers count : ℕ) (os : List FedOutcome) → AllFedHeard hears workers count os → ListHeard hears workers count
   list_heard workers count os heard = λ place lt.
-      let here = each_at workers 1 os place heard.each (omega (arith, lt, heard.many)) in
-      (here.0, here.1, here.2, subst (IsHeard hears here.0) (omega arith) here.3)
+      let less : place < length os = omega (arith, lt, heard.many) in
+      let here = each_at workers 1 os place heard.each less in
+      let same : 1 + place ≡ place + 1 = omega arith in
+      (here.0, here.1, here.2, subst (λ (n : ℕ). IsHeard hears here.0 n) same here.3)
 
   -- by more workers
   pub heard_by_more : (few many count : ℕ) → few ≤ many → ListHeard hears few count → ListHeard hears many count
