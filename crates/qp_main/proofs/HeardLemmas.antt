@@ -1,5 +1,5 @@
 -- What a gate was told of is so of the commands that bytes say.
-use Rattle.std.proofs.Common.{◌≡◌, ◌∙◌, ℕ, ◌+◌, ◌<◌, ◌≤◌, List, [], ◌∷◌, length, Option, Some, None, Result, Ok, Err, zero, suc, ap, sym, subst, arith}
+use Rattle.std.proofs.Common.{◌≡◌, ◌∙◌, ℕ, ◌+◌, ◌<◌, ◌≤◌, List, [], ◌∷◌, length, Option, Some, None, Result, Ok, Err, IfOk, zero, suc, ap, sym, subst, arith}
 use Rattle.zone_model.specs.Names.{Name}
 use Rattle.zone_model.specs.Versions.{Version}
 use Rattle.zone_model.specs.Refusals.{Refused}
@@ -13,7 +13,8 @@ use Rattle.command_line.specs.Invocations.{Invocation, Verb, Make}
 use Rattle.job_commands.specs.Calls.{AllHeard, Call, IsHeard}
 use Rattle.job_script.specs.declared.outcomes.FedOutcome.{FedOutcome}
 use Rattle.feed_threads.specs.Feeds.{AllFedHeard, EachHeard}
-use Rattle.qp_main.specs.Due.{IsWritten, input_of}
+use Rattle.job_report.specs.declared.pieces.Pieces.{Pieces}
+use Rattle.qp_main.specs.Due.{IsAnswerDue, IsWritten, input_of}
 use Rattle.qp_main.specs.Heard.{FedJobHeard, HasRun, Heard, HeardGiven, HeardInput, JobHeard, ListHeard, WhereRun}
 use Rattle.qp_main.specs.Stops.{IsStop, JobStops, ListStops, ScriptStops, ZoneStops}
 use Rattle.qp_main.specs.declared.refusing.Stop.{Stop}
@@ -90,6 +91,11 @@ module _ (hears : Call → Type 0) where
       let here = each_at workers 1 os place heard.each less in
       let same : 1 + place ≡ place + 1 = omega arith in
       (here.0, here.1, here.2, subst (λ (n : ℕ). IsHeard hears here.0 n) same here.3)
+
+  -- of no commands there is nothing to be told
+  pub none_heard : {E : Type 0} (workers : ℕ) (r : Result (Status × Pieces) E) → IfOk r (IsAnswerDue (WhereRun (ListHeard hears workers 0)))
+  none_heard workers (Ok answer) = λ ran place lt. absurd (omega (arith, lt))
+  none_heard workers (Err e) = tt
 
   -- by more workers
   pub heard_by_more : (few many count : ℕ) → few ≤ many → ListHeard hears few count → ListHeard hears many count

@@ -35,9 +35,9 @@ pub returns-clause-heard : goal.returns-clause-heard
 returns-clause-heard g c = λ ran.
     let hears = g.G.Gate.hears c.args.gate.now in
     let commands = list_view c.in_ok-commands.commands in
-    let few : c.crew ≤ c.args.workers = search rules in
+    let few : c.if-is_empty.crew ≤ c.args.workers = search rules in
     fed_job_heard hears c.args.workers c.args.invocation.now.origin c.args.input c.in_ok-zone.zone.pairs commands c.in_ok-zone.ensures.zone c.in_ok-commands.ensures.list
-    (heard_by_more hears c.crew c.args.workers (length commands) few (c.in_ok-answer.ensures.heard ran))
+    (heard_by_more hears c.if-is_empty.crew c.args.workers (length commands) few (c.in_ok-answer.ensures.heard ran))
 
 pub returns-in_err-commands-clause-unheard : goal.returns-in_err-commands-clause-unheard
 returns-in_err-commands-clause-unheard g c =

@@ -3,14 +3,13 @@ use Rattle.std.proofs.lemmas.List.{length-map, nil_from_length}
 use Rattle.job_model.specs.Commands.{Command}
 use Rattle.job_report.specs.Pieces.{pieces_text}
 use Rattle.job_script.specs.Views.{command_view, list_view}
-use Rattle.job_commands.proofs.CallLaws.{any_ok}
-use Rattle.job_script.proofs.ReportLemmas.{if_ok}
 use Rattle.feed_threads.specs.Feeds.{AllFedHeard}
 use Rattle.feed_threads.specs.Zones.{FedHeardOn, FedRanOn}
 use Rattle.feed_threads.specs.declared.zone.FedRan.TheVariants as fed
 use Rattle.qp_main.specs.Due.{FedAnswers, IsAnswerDue}
+use Rattle.qp_main.specs.Heard.{ListHeard, WhereRun}
 use Rattle.qp_main.specs.Jobs.{fed_job_on}
-use Rattle.qp_main.proofs.HeardLemmas.{list_heard}
+use Rattle.qp_main.proofs.HeardLemmas.{list_heard, none_heard}
 use Rattle.qp_main.proofs.ReportingLemmas.{list_told}
 use Rattle.qp_main.proofs.run_report.report_list.Goals as goal
 
@@ -43,7 +42,8 @@ returns-in_ok-text-in-Finished-clause-heard g c = λ has_run.
 
 pub returns-then-is_empty-clause-heard : goal.returns-then-is_empty-clause-heard
 returns-then-is_empty-clause-heard g c =
+    let hears = g.G.Gate.hears c.args.gate.now in
     let empty : vec_len c.args.commands.now ≡ 0 = search rules in
     let held = c.args.commands.now.ok.0 in
     let none : length (list_view c.args.commands.now) ≡ 0 = length-map c.args.commands.now.items command_view ∙ omega arith in
-    if_ok c.report_none.result (λ answer any has_run place lt. absurd (omega (arith, lt, none))) (any_ok c.report_none.result tt)
+    subst (λ (n : ℕ). IfOk c.report_none.result (IsAnswerDue (WhereRun (ListHeard hears c.args.crew n)))) (sym none) (none_heard hears c.args.crew c.report_none.result)
