@@ -1,3 +1,4 @@
 pub mod ServeLaws
 pub mod OrderLaws
 pub mod FedRunLaws
+pub mod HeardLaws

@@ -1,5 +1,5 @@
 -- A worker that runs commands of one list, as it gets their numbers.
-use Rattle.std.proofs.Common.{◌≡◌, ◌∙◌, ℕ, zero, suc, ◌-◌, ◌<◌, true, List, [], ◌∷◌, ◌++◌, length, map, get_or, Option, Some, None, Result, Ok, Err, IfOk, refl, sym, ap, subst, arith}
+use Rattle.std.proofs.Common.{◌≡◌, ◌∙◌, ℕ, zero, suc, ◌-◌, ◌<◌, ◌≤◌, true, List, [], ◌∷◌, ◌++◌, length, map, get_or, Option, Some, None, Result, Ok, Err, IfOk, refl, sym, ap, subst, arith}
 use Rattle.std.proofs.lemmas.List.{get_or-map, length-map, map-append}
 use Rattle.std.specs.List.{All, Any, AllByRecursion}
 use Rattle.std.proofs.lemmas.List.Folds.{Any-from_list_any}
@@ -14,6 +14,7 @@ use Rattle.job_commands.specs.Histories.{Setup}
 use Rattle.job_commands.specs.Steps.{Step}
 use Rattle.job_commands.specs.Commands.{Seat}
 use Rattle.job_commands.specs.Stations.{station}
+use Rattle.job_commands.specs.Calls.{next_number}
 use Rattle.job_commands.specs.Closings.{Gathers}
 use Rattle.job_commands.specs.Works.{IsNew, Numbers, only}
 use Rattle.feed_threads.specs.Feeds.{command_at, commands_at, commands_served, done_seat, numbers_served, outcomes_served, seats_served}
@@ -37,6 +38,10 @@ so_here P commands number here all lt is =
 
 pub plain_here : (commands : List Said) (number : ℕ) (here : Said) → AllByRecursion NeedsNoSnapshot (map command_view commands) → number - 1 < length commands → here ≡ get_or commands (number - 1) here → NeedsNoSnapshot (command_view here)
 plain_here commands number here all lt is = so_here NeedsNoSnapshot commands number here all lt is
+
+-- a command's place in the list, counted from 1
+pub number_counted : (number : ℕ) → 0 < number → number ≤ 4294967295 → next_number (number - 1) ≡ number
+number_counted number some few = omega (arith, some, few)
 
 -- ---- how far the worker has come
 

@@ -51,6 +51,16 @@ abbrev pub FedHeard : (Call → Type 0) → ℕ → List Served → Type 0
 FedHeard hears worker [] = Unit {0}
 FedHeard hears worker (v ∷ others) = AllByRecursion (IsHeard hears worker) v.numbers.items × FedHeard hears (next_number worker) others
 
+-- the gate was told of commands, from one of a number on, each by one of so many workers, the one that ran it
+abbrev pub EachHeard : (Call → Type 0) → ℕ → ℕ → List FedOutcome → Type 0
+EachHeard hears workers number [] = Unit {0}
+EachHeard hears workers number (o ∷ os) = (0 < o.worker) × (o.worker ≤ workers) × IsHeard hears o.worker number × EachHeard hears workers (number + 1) os
+
+-- of all commands of a list of so many
+pub record AllFedHeard (hears : Call → Type 0) (workers count : ℕ) (os : List FedOutcome) : Type 0 where
+  pub many : length os ≡ count
+  pub each : EachHeard hears workers 1 os
+
 -- The numbers from 1 on, below an end, were taken: each stands in just one of the lists, once, no others do, and each list rises.
 pub record AreTaken (end : ℕ) (lists : List (List ℕ)) : Type 0 where
   pub once : (number : ℕ) → 0 < number → number < end → StandsOnce lists number

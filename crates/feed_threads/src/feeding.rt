@@ -3,12 +3,13 @@ ghost use Rattle.std.specs.Prelude.{◌≡◌, ◌+◌, ◌<◌, ◌≤◌, ◌�
 ghost use Rattle.feed_threads.specs.Prelude.{AllByRecursion, IsSync, Version, NeedsNoSnapshot, passes_fed, command_view, new_seat};
 ghost use Rattle.feed_threads.specs.Prelude.{AllAsked, known_at, Learnt, AreAll, Setup, StandsAs, AreNew, IsNew, table_size, known_in};
 ghost use Rattle.feed_threads.specs.Prelude.{IsHeard, IsIndex, IsSetup, OpensAt, AreGathered, DoneRan, FedHeard, IsFedRun};
-ghost use Rattle.feed_threads.specs.Prelude.{IsServed, done_seat, seats_served};
+ghost use Rattle.feed_threads.specs.Prelude.{AllFedHeard, IsServed, done_seat, seats_served};
 
 use crate::ordering::{Served, in_order};
+use crew::Turnstile;
 use dns_name::Name;
 use feed_core::{Feed, FeedSeat};
-use job_commands::{Gate, Room, ZoneLaw, close_index, run_alone, tell_after, tell_before};
+use job_commands::{Gate, Room, ZoneLaw, close_index, run_alone};
 use job_script::{Command, FedOutcome, Outcomes};
 use qp_multi::{Index, Named, Pass};
 use std::alloc::{AllocError, Global};
@@ -40,45 +41,43 @@ struct FedGathered<N: Named> {
     main: Pass<N>,
 }
 
-// Runs commands as a worker of this number until none is left, each between the gate's two calls.
+// Runs commands of a worker's turnstile until none is left, each between the gate's two calls. It goes through once for each.
 fn serve<R: Wait, N: Named, G: Gate>(
     rt: &R,
     alloc: Global,
     origin: &Name,
     index: &Index<ZoneLaw, N>,
-    commands: &[Command],
     feed: &Feed,
-    worker: u32,
+    turnstile: &mut Turnstile<'_, Command, G>,
     mut pass: Pass<N>,
     mut seat: FeedSeat,
-    gate: &G,
 ) -> Result<FedDone<N>, AllocError>
+    requires fresh { (turnstile.old.entered ≡ None) × (turnstile.old.told ≡ 0) }
     requires here { IsSome pass.seat }
     requires place { pass.place ≡ index.now.place }
     requires seat { seat ≡ new_seat feed.now }
-    requires count { feed.now.count ≡ length commands.now }
-    requires no_snapshots { AllByRecursion NeedsNoSnapshot (map command_view commands.now) }
+    requires count { feed.now.count ≡ length turnstile.old.commands.now }
+    requires no_snapshots { AllByRecursion NeedsNoSnapshot (map command_view turnstile.old.commands.now) }
     requires opens { OpensAt origin.now (known_at pass.seat) }
-    requires said { AllByRecursion (AllAsked origin.now) (map command_view commands.now) }
+    requires said { AllByRecursion (AllAsked origin.now) (map command_view turnstile.old.commands.now) }
     ensures here { IfOk result (λ d. IsSome d.pass.seat) }
     ensures place { IfOk result (λ d. d.pass.place ≡ index.now.place) }
     ensures seat { IfOk result (λ d. d.seat ≡ done_seat feed.now d.served.numbers.items) }
     ensures alike { IfOk result (λ d. IsServed d.served) }
     ensures ran { (s : Setup) (number : ℕ) → IsSetup s origin.now (table_size index.now) (known_at pass.seat)
-        → IsNew number s.opening (known_at pass.seat) → IfOk result (DoneRan s number (known_at pass.seat) (map command_view commands.now)) }
-    ensures heard { IfOk result (λ d. AllByRecursion (IsHeard (G.hears gate.now) worker) d.served.numbers.items) }
+        → IsNew number s.opening (known_at pass.seat) → IfOk result (DoneRan s number (known_at pass.seat) (map command_view turnstile.old.commands.now)) }
+    ensures heard { IfOk result (λ d. AllByRecursion (IsHeard (G.hears turnstile.old.gate.now) turnstile.old.worker) d.served.numbers.items) }
+    ensures told { IfOk result (λ d. turnstile.new.told ≡ length d.served.numbers.items) }
 {
     let mut room = Room::new(alloc)?;
     let mut numbers = Vec::new(alloc);
     let mut list = Vec::new(alloc);
     while let Some(number) = seat.take(rt, feed) {
-        let command = &commands[number as usize - 1];
-        let place = list.len();
-        tell_before(gate, worker, number, place, &list);
+        let command = turnstile.enter(number as usize - 1);
         let outcome = run_alone(rt, alloc, origin, index, &mut pass, command, &mut room)?;
         numbers.push(number)?;
         list.push(outcome)?;
-        tell_after(gate, worker, number, place, &list);
+        turnstile.leave(&list);
     }
     let outcomes = Outcomes { list };
     Ok(FedDone {
@@ -188,9 +187,8 @@ fn serve_all<R: Threads + Wait + Sync, N: Named + Send + Sync, G: Gate>(
             → IsNew number s.opening (known_at pass.seat) → IfOk result (DoneRan s number (known_at pass.seat) (map command_view commands.entry.now)) }
         ensures heard { IfOk result (λ d. AllByRecursion (IsHeard (G.hears gate.entry.now) worker) d.served.numbers.items) }
     {
-        serve(
-            rt, alloc, origin, index, commands, feed, worker, pass, seat, gate,
-        )
+        let mut turnstile = Turnstile::new(gate, worker, commands);
+        serve(rt, alloc, origin, index, feed, &mut turnstile, pass, seat)
     };
     let rest = move || -> Result<FedGathered<N>, AllocError>
         requires sync { IsSync R.row }
@@ -240,6 +238,8 @@ pub fn run_feed<R: Threads + Wait + Sync, N: Named + Send + Sync, G: Gate>(
     requires said { AllByRecursion (AllAsked origin.now) (map command_view commands.now) }
     ensures ran { (s : Setup) (zone : Version) → IsIndex s origin.now (table_size index) → StandsAs s.opening zone → AreNew s.opening (known_in passes.items)
         → IfOk result (λ f. IsFedRun s.chunks workers origin.now zone (map command_view commands.now) f.outcomes.items f.version f.names) }
+    // Each command is told by the number of the worker that ran it, and its own.
+    ensures heard { IfOk result (λ f. AllFedHeard (G.hears gate.now) workers (length commands.now) f.outcomes.items) }
 {
     let (feed, seats) = Feed::of(rt, alloc, commands.len() as u32, workers)?;
     let FedGathered {

@@ -1,7 +1,7 @@
 //! One list of commands on the index of its zone.
 ghost use Rattle.std.specs.Prelude.{◌≡◌, ◌≤◌, IfOk, List, length, map, Some, slice_get};
 ghost use Rattle.feed_threads.specs.Prelude.{AllByRecursion, Version, NeedsNoSnapshot, passes_fed, command_view};
-ghost use Rattle.feed_threads.specs.Prelude.{AllAsked, entries_of_items, IsZone, StandsAs, FedRanOn};
+ghost use Rattle.feed_threads.specs.Prelude.{AllAsked, entries_of_items, IsZone, StandsAs, FedHeardOn, FedRanOn};
 
 use crate::feeding::{FedFinished, run_feed};
 use dns_name::Name;
@@ -40,8 +40,10 @@ fn run_list_named<R: Threads + Wait + Sync, N: Named + Send + Sync, G: Gate>(
     requires count { (1 ≤ length commands.now) × (length commands.now ≤ 10000) }
     requires no_snapshots { AllByRecursion NeedsNoSnapshot (map command_view commands.now) }
     requires said { AllByRecursion (AllAsked origin.now) (map command_view commands.now) }
-    ensures { (zone : Version) → StandsAs (entries_of_items items.now) zone
+    ensures ran { (zone : Version) → StandsAs (entries_of_items items.now) zone
         → IfOk result (FedRanOn blank.shared.table.shared.key.chunks workers origin.now zone (map command_view commands.now)) }
+    // Each command is told by the number of the worker that ran it, and its own.
+    ensures heard { IfOk result (FedHeardOn (G.hears gate.now) workers (length commands.now)) }
 {
     match Index::<ZoneLaw, N>::open(alloc, blank, 0, items) {
         Ok((index, passes)) => {
@@ -86,8 +88,10 @@ pub fn run_list<R: Threads + Wait + Sync, G: Gate>(
     requires count { (1 ≤ length commands.now) × (length commands.now ≤ 10000) }
     requires no_snapshots { AllByRecursion NeedsNoSnapshot (map command_view commands.now) }
     requires said { AllByRecursion (AllAsked origin.now) (map command_view commands.now) }
-    ensures { (zone : Version) → StandsAs (entries_of_items items.now) zone
+    ensures ran { (zone : Version) → StandsAs (entries_of_items items.now) zone
         → IfOk result (FedRanOn blank.shared.table.shared.key.chunks workers origin.now zone (map command_view commands.now)) }
+    // Each command is told by the number of the worker that ran it, and its own.
+    ensures heard { IfOk result (FedHeardOn (G.hears gate.now) workers (length commands.now)) }
 {
     run_list_named::<R, Brand, G>(rt, alloc, blank, origin, items, commands, workers, gate)
 }

@@ -17,7 +17,7 @@ pub use alone::run_alone;
 pub use asking::run_question;
 pub use closing::{Last, close_index};
 pub use compactions::run_compaction;
-pub use gate::{Gate, counted, tell_after, tell_before};
+pub use gate::{Gate, counted};
 pub use law::ZoneLaw;
 pub use measuring::measure;
 pub use replying::reply_text;

@@ -16,4 +16,4 @@ pub use Rattle.job_commands.specs.Prelude.{entries_of_items, first_version, know
 pub use Rattle.job_threads.specs.Gatherings.{AreGathered, DoneRan}
 pub use Rattle.job_threads.specs.Passes.{AreAt, ArePlaced, holder_of, holds_one, station_of}
 pub use Rattle.job_threads.specs.Snapshots.{AskedHeld, Held, Released}
-pub use Rattle.job_threads.specs.Zones.{RanOn}
+pub use Rattle.job_threads.specs.Zones.{HeardOn, RanOn}

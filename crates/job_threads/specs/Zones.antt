@@ -6,6 +6,7 @@ use Rattle.job_model.specs.Commands.{Command}
 use Rattle.job_model.specs.Sizes.{cell_count}
 use Rattle.job_model.specs.Outcomes.{passes_for}
 use Rattle.qp_multi.specs.Openings.{room_in}
+use Rattle.job_commands.specs.Calls.{AllHeard, Call}
 use Rattle.job_commands.specs.Runs.{IsRun}
 use Rattle.job_threads.specs.declared.zone.Ran.{Ran}
 use Rattle.job_threads.specs.declared.zone.Ran.TheVariants.{Finished, DoesNotFit}
@@ -14,3 +15,8 @@ use Rattle.job_threads.specs.declared.zone.Ran.TheVariants.{Finished, DoesNotFit
 abbrev pub RanOn : ℕ → Name → Version → List (List Command) → Ran → Type 0
 RanOn chunks origin zone workers (Finished f) = (cell_count zone ≤ room_in chunks) × IsRun chunks (passes_for (length workers)) origin zone workers f.outcomes.items f.version f.names f.nodes
 RanOn chunks origin zone workers (DoesNotFit cells limit) = (cells ≡ cell_count zone) × (limit ≡ room_in chunks) × (limit < cells)
+
+-- where the job was run, the gate was told of all commands of its workers
+abbrev pub HeardOn : (Call → Type 0) → List (List Command) → Ran → Type 0
+HeardOn hears workers (Finished f) = AllHeard hears 1 workers
+HeardOn hears workers (DoesNotFit cells limit) = Unit {0}

@@ -1,13 +1,14 @@
 //! All workers of a job, each in a thread of its own where one can be started.
-ghost use Rattle.std.specs.Prelude.{◌≡◌, ◌+◌, ◌*◌, ◌∷◌, List, All, IsSome, IfOk, length, map, false};
+ghost use Rattle.std.specs.Prelude.{◌≡◌, ◌+◌, ◌*◌, ◌∷◌, List, All, IsSome, IfOk, None, length, map, false};
 ghost use Rattle.job_threads.specs.Prelude.{AllByRecursion, IsSync, Version, InTurn, passes_for, command_view, job_view, worker_view};
 ghost use Rattle.job_threads.specs.Prelude.{workers_view, AllAsked, known_at, Learnt, AreAll, Setup, StandsAs, AreNew, Begins, Numbers};
 ghost use Rattle.job_threads.specs.Prelude.{AllHeard, AreHeard, IsIndex, IsSetup, OpensAt, IsRun, table_size, known_in, DoneRan, AreGathered};
 
-use crate::worker::{Done, Task, run_worker};
+use crate::worker::{Done, run_worker};
+use crew::Turnstile;
 use dns_name::Name;
 use job_commands::{Gate, ZoneLaw, close_index};
-use job_script::{Job, Outcomes, Worker};
+use job_script::{Command, Job, Outcomes, Worker};
 use qp_multi::{Index, Named, Pass};
 use std::alloc::{AllocError, Global};
 use std::sync::Wait;
@@ -67,18 +68,18 @@ fn with_done<N: Named>(
     })
 }
 
-// What a worker is to do, with its passes.
-fn task_of<N: Named>(number: u32, worker: &Worker, asks: Pass<N>, spare: Pass<N>) -> Task<'_, N>
-    ensures number { result.number ≡ number }
+// A worker's way to its commands.
+fn turnstile_of<'a, G: Gate>(
+    gate: &'a G,
+    number: u32,
+    worker: &'a Worker,
+) -> Turnstile<'a, Command, G>
+    ensures gate { result.gate.now ≡ gate.now }
+    ensures number { result.worker ≡ number }
     ensures commands { map command_view result.commands.now ≡ worker_view worker.now }
-    ensures passes { (result.asks ≡ asks) × (result.spare ≡ spare) }
+    ensures fresh { (result.entered ≡ None) × (result.told ≡ 0) }
 {
-    Task {
-        number,
-        commands: &worker.commands,
-        asks,
-        spare,
-    }
+    Turnstile::new(gate, number, &worker.commands)
 }
 
 // Runs the workers beside each other, from the one of a number on. Each has two of the passes, from the end on, and main the first.
@@ -133,8 +134,8 @@ fn run_workers<R: Threads + Wait + Sync, N: Named + Send + Sync, G: Gate>(
             → IfOk result (DoneRan s numbers (worker_view worker.entry.now)) }
         ensures heard { IfOk result (λ _. AreHeard (G.hears gate.entry.now) number (length (worker_view worker.entry.now))) }
     {
-        let task = task_of(number, worker, asks, spare);
-        run_worker(rt, alloc, origin, index, task, gate)
+        let mut turnstile = turnstile_of(gate, number, worker);
+        run_worker(rt, alloc, origin, index, &mut turnstile, asks, spare)
     };
     let rest = move || -> Result<Gathered<N>, AllocError>
         requires sync { IsSync R.row }

@@ -1,25 +1,17 @@
 //! A worker that runs its commands.
-ghost use Rattle.std.specs.Prelude.{◌≡◌, IsSome, IfSome, IfOk, length, map, false};
+ghost use Rattle.std.specs.Prelude.{◌≡◌, IsSome, IfSome, IfOk, None, length, map, false};
 ghost use Rattle.job_threads.specs.Prelude.{AllByRecursion, InTurn, MayCome, held_after};
 ghost use Rattle.job_threads.specs.Prelude.{command_view, AllAsked, known_at, Setup, AreHeard, IsSetup, OpensAt, IsUnder};
 ghost use Rattle.job_threads.specs.Prelude.{Step, Begins, Numbers, DoneRan, table_size, ArePlaced, holder_of, holds_one, station_of};
 
 use crate::passes::{Passes, ask_snapshot, give_back, second_pass, take_snapshot};
+use crew::Turnstile;
 use dns_name::Name;
-use job_commands::{Gate, Room, ZoneLaw, counted, run_alone, tell_after, tell_before};
+use job_commands::{Gate, Room, ZoneLaw, run_alone};
 use job_script::{Command, Outcome, Outcomes};
 use qp_multi::{Index, Named, Pass};
 use std::alloc::{AllocError, Global};
 use std::sync::Wait;
-
-/// A worker's number, from 1, its commands, and its passes.
-#[derive(Drop)]
-pub struct Task<'a, N: Named> {
-    pub number: u32,
-    pub commands: &'a [Command],
-    pub asks: Pass<N>,
-    pub spare: Pass<N>,
-}
 
 /// What became of a worker's commands. Its passes are back.
 #[derive(Drop)]
@@ -73,46 +65,43 @@ pub fn run_command<'i, R: Wait, N: Named>(
     }
 }
 
-/// Runs a worker's commands, each between the gate's two calls.
+/// Runs the commands of a worker's turnstile, each between the gate's two calls. It goes through once for each.
 pub fn run_worker<R: Wait, N: Named, G: Gate>(
     rt: &R,
     alloc: Global,
     origin: &Name,
     index: &Index<ZoneLaw, N>,
-    task: Task<'_, N>,
-    gate: &G,
+    turnstile: &mut Turnstile<'_, Command, G>,
+    asks: Pass<N>,
+    spare: Pass<N>,
 ) -> Result<Done<N>, AllocError>
-    requires here { (IsSome task.asks.seat) × (IsSome task.spare.seat) }
-    requires places { (task.asks.place ≡ index.now.place) × (task.spare.place ≡ index.now.place) }
-    requires in_turn { InTurn false (map command_view task.commands.now) }
-    requires opens { OpensAt origin.now (known_at task.asks.seat) }
-    requires said { AllByRecursion (AllAsked origin.now) (map command_view task.commands.now) }
+    requires fresh { (turnstile.old.entered ≡ None) × (turnstile.old.told ≡ 0) }
+    requires here { (IsSome asks.seat) × (IsSome spare.seat) }
+    requires places { (asks.place ≡ index.now.place) × (spare.place ≡ index.now.place) }
+    requires in_turn { InTurn false (map command_view turnstile.old.commands.now) }
+    requires opens { OpensAt origin.now (known_at asks.seat) }
+    requires said { AllByRecursion (AllAsked origin.now) (map command_view turnstile.old.commands.now) }
     ensures here { IfOk result (λ d. (IsSome d.asks.seat) × (IsSome d.spare.seat)) }
     ensures places { IfOk result (λ d. (d.asks.place ≡ index.now.place) × (d.spare.place ≡ index.now.place)) }
-    ensures ran { (s : Setup) (numbers : Numbers) → IsSetup s origin.now (table_size index.now) (known_at task.entry.asks.seat)
-        → Begins s numbers (known_at task.entry.asks.seat) (known_at task.entry.spare.seat)
-        → IfOk result (DoneRan s numbers (map command_view task.entry.commands.now)) }
-    ensures heard { IfOk result (λ _. AreHeard (G.hears gate.now) task.entry.number (length (map command_view task.entry.commands.now))) }
+    ensures ran { (s : Setup) (numbers : Numbers) → IsSetup s origin.now (table_size index.now) (known_at asks.seat)
+        → Begins s numbers (known_at asks.seat) (known_at spare.seat)
+        → IfOk result (DoneRan s numbers (map command_view turnstile.old.commands.now)) }
+    ensures heard { IfOk result (λ _. AreHeard (G.hears turnstile.old.gate.now) turnstile.old.worker (length (map command_view turnstile.old.commands.now))) }
+    ensures told { IfOk result (λ _. turnstile.new.told ≡ length turnstile.old.commands.now) }
 {
     let mut room = Room::new(alloc)?;
-    let Task {
-        number,
-        commands,
-        asks,
-        spare,
-    } = task;
     let mut passes = Passes {
         asks,
         spare: Some(spare),
         held: None,
     };
-    let mut list = Vec::with_capacity(alloc, commands.len())?;
-    for (place, command) in commands.iter().enumerate() {
-        let ordinal = counted(place);
-        tell_before(gate, number, ordinal, place, &list);
+    let count = turnstile.count();
+    let mut list = Vec::with_capacity(alloc, count)?;
+    for place in 0..count {
+        let command = turnstile.enter(place);
         let outcome = run_command(rt, alloc, origin, index, &mut passes, command, &mut room)?;
         list.push(outcome)?;
-        tell_after(gate, number, ordinal, place, &list);
+        turnstile.leave(&list);
     }
     let (asks, spare) = second_pass(passes);
     Ok(Done {

@@ -1,7 +1,7 @@
 //! A job on the index of its zone.
 ghost use Rattle.std.specs.Prelude.{◌≡◌, ◌≤◌, IfOk, List, length, Some, slice_get, false};
 ghost use Rattle.job_threads.specs.Prelude.{AllByRecursion, Version, entries_of_items, InTurn, passes_for, job_view};
-ghost use Rattle.job_threads.specs.Prelude.{AllAsked, IsZone, StandsAs, RanOn};
+ghost use Rattle.job_threads.specs.Prelude.{AllAsked, IsZone, StandsAs, HeardOn, RanOn};
 
 use crate::job::{Finished, run_job};
 use dns_name::Name;
@@ -37,8 +37,10 @@ fn run_named<R: Threads + Wait + Sync, N: Named + Send + Sync, G: Gate>(
     requires zone { IsZone origin.now (entries_of_items items.now) }
     requires in_turn { AllByRecursion (InTurn false) (job_view job.now) }
     requires said { AllByRecursion (AllByRecursion (AllAsked origin.now)) (job_view job.now) }
-    ensures { (zone : Version) → StandsAs (entries_of_items items.now) zone
+    ensures ran { (zone : Version) → StandsAs (entries_of_items items.now) zone
         → IfOk result (RanOn blank.shared.table.shared.key.chunks origin.now zone (job_view job.now)) }
+    // Each worker is told by its own number, from 1.
+    ensures heard { IfOk result (HeardOn (G.hears gate.now) (job_view job.now)) }
 {
     match Index::<ZoneLaw, N>::open(alloc, blank, 0, items) {
         Ok((index, passes)) => {
@@ -76,8 +78,10 @@ pub fn run_zone<R: Threads + Wait + Sync, G: Gate>(
     requires zone { IsZone origin.now (entries_of_items items.now) }
     requires in_turn { AllByRecursion (InTurn false) (job_view job.now) }
     requires said { AllByRecursion (AllByRecursion (AllAsked origin.now)) (job_view job.now) }
-    ensures { (zone : Version) → StandsAs (entries_of_items items.now) zone
+    ensures ran { (zone : Version) → StandsAs (entries_of_items items.now) zone
         → IfOk result (RanOn blank.shared.table.shared.key.chunks origin.now zone (job_view job.now)) }
+    // Each worker is told by its own number, from 1.
+    ensures heard { IfOk result (HeardOn (G.hears gate.now) (job_view job.now)) }
 {
     run_named::<R, Brand, G>(rt, alloc, blank, origin, items, job, gate)
 }

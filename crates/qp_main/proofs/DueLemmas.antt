@@ -169,7 +169,7 @@ refused_dump chunks style origin zone counted limit text is_count is_limit over 
 pub script_said : {R A : Type 0} (view : R → A) (e : ScriptStop) (line : ℕ) (kind : ScriptKind) (wanted : Result A (Refused ScriptKind)) → e ≡ stop.Refused line kind → Says (Err e) view wanted → wanted ≡ Err (record { line = line; kind = kind })
 script_said view e line kind wanted is says = subst (λ (x : ScriptStop). Says (Err x) view wanted) is says
 
-whole_job : (origin : Name) (bytes : List ℕ) (zone : Version) (workers : List (List Command)) → zone_of origin (zone_lines bytes) ≡ Ok zone → script_of origin (script_start bytes) (script_lines bytes) ≡ Ok workers
+pub whole_job : (origin : Name) (bytes : List ℕ) (zone : Version) (workers : List (List Command)) → zone_of origin (zone_lines bytes) ≡ Ok zone → script_of origin (script_start bytes) (script_lines bytes) ≡ Ok workers
     → job_of origin bytes ≡ Ok (record { origin = origin; zone = zone; workers = workers })
 unfolding job_of_lines
 whole_job origin bytes zone workers z w =
@@ -222,7 +222,7 @@ script_stopped origin bytes lines (Err r) e s same z h = zone_stopped (RefusesSc
 
 -- ---- one list of commands
 
-whole_list : (origin : Name) (bytes : List ℕ) (zone : Version) (commands : List Command) → zone_of origin (zone_lines bytes) ≡ Ok zone → list_of origin (script_start bytes) (script_lines bytes) ≡ Ok commands
+pub whole_list : (origin : Name) (bytes : List ℕ) (zone : Version) (commands : List Command) → zone_of origin (zone_lines bytes) ≡ Ok zone → list_of origin (script_start bytes) (script_lines bytes) ≡ Ok commands
     → fed_job_of origin bytes ≡ Ok (record { origin = origin; zone = zone; commands = commands })
 unfolding fed_job_of_lines
 whole_list origin bytes zone commands z w =

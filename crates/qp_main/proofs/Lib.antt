@@ -11,3 +11,4 @@ pub mod ZonesLemmas
 pub mod OpensLemmas
 pub mod WritingLemmas
 pub mod DifferLemmas
+pub mod HeardLemmas

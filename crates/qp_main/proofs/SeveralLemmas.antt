@@ -16,7 +16,10 @@ use Rattle.zones_script.specs.Jobs.{ZonesRefusal, ListRefused, ScriptRefused, li
 use Rattle.zones_script.specs.Scripts.{script_of}
 use Rattle.qp_main.specs.Due.{ZonesAnswers}
 use Rattle.qp_main.specs.Saids.{IsRead}
+use Rattle.job_commands.specs.Calls.{Call}
+use Rattle.zones_threads.specs.Calls.{AllHeard}
 use Rattle.zones_threads.specs.Sites.{IsSaid}
+use Rattle.qp_main.specs.Heard.{ZonesJobHeard}
 use Rattle.qp_main.specs.Stops.{IsStop, ListStops, ScriptStops, ZoneStopsFor}
 use Rattle.qp_main.specs.declared.refusing.Stop.{Stop}
 use Rattle.qp_main.specs.declared.refusing.Stop.TheVariants as stops
@@ -43,6 +46,11 @@ answers_as chunks q r s text e h = subst (λ (x : Result Job ZonesRefusal). Zone
 pub zones_answers : (chunks : ℕ) (bytes : List ℕ) (zones : List Zone) (workers : List (List Command)) → zones_of (zone_lines bytes) ≡ Ok zones → script_of (origins_of zones) (script_start bytes) (script_lines bytes) ≡ Ok workers
     → (s : Status) (text : List ℕ) → ZonesAnswers chunks (Ok (record { zones = zones; workers = workers })) s text → ZonesAnswers chunks (zones_job_of bytes) s text
 zones_answers chunks bytes zones workers z w s text h = answers_as chunks (zones_job_of bytes) (Ok (record { zones = zones; workers = workers })) s text (by_script bytes zones (Ok workers) z w) h
+
+-- the gate was told of its commands
+pub zones_heard : (hears : Call → Type 0) (bytes : List ℕ) (zones : List Zone) (workers : List (List Command)) → zones_of (zone_lines bytes) ≡ Ok zones → script_of (origins_of zones) (script_start bytes) (script_lines bytes) ≡ Ok workers
+    → AllHeard hears 1 workers → ZonesJobHeard hears (zones_job_of bytes)
+zones_heard hears bytes zones workers z w heard = subst (ZonesJobHeard hears) (sym (by_script bytes zones (Ok workers) z w)) heard
 
 -- a script that is refused
 pub script_stops : (chunks : ℕ) (bytes : List ℕ) (zones : List Zone) → zones_of (zone_lines bytes) ≡ Ok zones → (s : Stop) → IsStop (ScriptStops (script_of (origins_of zones) (script_start bytes) (script_lines bytes))) s → IsStop (ZonesAnswers chunks (zones_job_of bytes)) s

@@ -8,4 +8,5 @@ pub mod Tellings
 pub mod Stops
 pub mod Saids
 pub mod Opens
+pub mod Heard
 pub mod Prelude

@@ -23,11 +23,13 @@ pub use Rattle.command_line.specs.Invocations.{IsUnder, Make}
 pub use Rattle.command_line.specs.Prelude.{invocation_view, load_view, made_origin, verb_view}
 pub use Rattle.trie_write.specs.Entries.{entries_of_items}
 pub use Rattle.trie_size.specs.Sizes.{IsSizeOf}
+pub use Rattle.job_commands.specs.Calls.{AllHeard}
 pub use Rattle.job_commands.specs.Histories.{IsZone}
 pub use Rattle.zones_threads.specs.Sites.{IsSaid}
 pub use Rattle.qp_main.specs.Due.{Answers, Checks, CutShort, Differs, Due, DueUnder, Dumps, EndsLoad, FedAnswers, GaveFor, IsAnswerDue, IsMade, IsUnwritten}
 pub use Rattle.qp_main.specs.Due.{IsWritten, MayBeShort, RefusesScript, Sized, Sizes, Written, ZonesAnswers, input_of}
 pub use Rattle.qp_main.specs.Due.{is_streamed, refusal_text, script_kind_text, streams, zone_kind_text}
+pub use Rattle.qp_main.specs.Heard.{FedJobHeard, HasRun, Heard, HeardInput, JobHeard, ListHeard, WhereRun, ZonesJobHeard}
 pub use Rattle.qp_main.specs.Invocations.{DueFor, invocation_in}
 pub use Rattle.qp_main.specs.Jobs.{fed_job_on, job_on, zones_job_on}
 pub use Rattle.qp_main.specs.Needs.{AreNeedsOf, chunks_text, needs_text}

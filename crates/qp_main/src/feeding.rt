@@ -1,6 +1,6 @@
 //! One list of commands that is handed out to workers.
 ghost use Rattle.std.specs.Prelude.{◌≤◌, IfOk, IfErr};
-ghost use Rattle.qp_main.specs.Prelude.{fed_job_of, FedAnswers, IsAnswerDue, IsStop};
+ghost use Rattle.qp_main.specs.Prelude.{fed_job_of, FedAnswers, FedJobHeard, IsAnswerDue, IsStop, WhereRun};
 
 use crate::input::Input;
 use crate::items::zone_items;
@@ -28,6 +28,8 @@ pub fn answer_list<R: Threads + Wait + Sync, G: Gate>(
     requires { (1 ≤ workers) × (workers ≤ 16) }
     ensures told { IfOk result (IsAnswerDue (FedAnswers workers invocation.now.chunks (fed_job_of invocation.now.origin input))) }
     ensures stops { IfErr result (IsStop (FedAnswers workers invocation.now.chunks (fed_job_of invocation.now.origin input))) }
+    ensures heard { IfOk result (IsAnswerDue (WhereRun (FedJobHeard (G.hears gate.now) workers (fed_job_of invocation.now.origin input)))) }
+    ensures unheard { IfErr result (IsStop (WhereRun (FedJobHeard (G.hears gate.now) workers (fed_job_of invocation.now.origin input)))) }
 {
     let commands = input.list(alloc, &invocation.origin)?;
     // No commands need no worker.

@@ -3,6 +3,7 @@ ghost use Rattle.std.specs.Prelude.{◌≡◌, ◌<◌, ◌≤◌, ◌+◌, ◌^
 ghost use Rattle.std.specs.Prelude.{Ok, Err, false, Option, Result, IfSome, MatchOption, IsSome, Some, None};
 ghost use Rattle.qp_main.specs.Prelude.{Due, DueFor, GaveFor, Consumes, zone_said, job_of, made_origin, Rose, Grows, GrowsByFront};
 ghost use Rattle.qp_main.specs.Prelude.{load_view, IsUnder, Make, invocation_in, invocation_view, verb_view, IsStop, Answers, Checks, CutShort};
+ghost use Rattle.qp_main.specs.Prelude.{HasRun, Heard, HeardInput, JobHeard, WhereRun};
 ghost use Rattle.qp_main.specs.Prelude.{DueUnder, EndsLoad, IsAnswerDue, IsMade, IsUnwritten, IsWritten, MayBeShort, Written, input_of, is_streamed, streams};
 
 use crate::differing::compare_zones;
@@ -42,6 +43,8 @@ fn answer_job<R: Threads + Wait + Sync, G: Gate>(
 ) -> Result<(Status, Pieces), Stop>
     ensures told { IfOk result (IsAnswerDue (Answers telling invocation.now.chunks (job_of invocation.now.origin input))) }
     ensures stops { IfErr result (IsStop (Answers telling invocation.now.chunks (job_of invocation.now.origin input))) }
+    ensures heard { IfOk result (IsAnswerDue (WhereRun (JobHeard (G.hears gate.now) (job_of invocation.now.origin input)))) }
+    ensures unheard { IfErr result (IsStop (WhereRun (JobHeard (G.hears gate.now) (job_of invocation.now.origin input)))) }
 {
     let job = input.job(alloc, &invocation.origin)?;
     let blank = table_for(alloc, invocation.chunks, job.workers.len())?;
@@ -85,6 +88,7 @@ fn serve_input<R: Threads + Wait + Sync, K: Sink, G: Gate>(
     ensures quiet_sink { (result ≡ Status.SinkFault → ⊥) → K.faults sink.new ≡ K.faults sink.old }
     ensures unwritten { IsUnwritten (is_streamed (verb_view invocation.now.verb)) result → K.held sink.new ≡ K.held sink.old }
     ensures others { result ≡ Status.SourceFault → ⊥ }
+    ensures heard { HasRun result → HeardInput (G.hears gate.now) (verb_view invocation.now.verb) invocation.now.origin bytes.items }
 {
     let input = Input::of(bytes);
     let due = match invocation.verb {
@@ -121,6 +125,7 @@ fn serve_made<R: Threads + Wait + Sync, K: Sink, G: Gate>(
     ensures quiet_sink { (result ≡ Status.SinkFault → ⊥) → K.faults sink.new ≡ K.faults sink.old }
     ensures unwritten { result ≡ Status.NoMemory → K.held sink.new ≡ K.held sink.old }
     ensures load { EndsLoad result }
+    ensures heard { (left : Option (List ℕ)) → HasRun result → Heard (G.hears gate.now) (Some (invocation_view invocation.now)) left }
 {
     let Ok(bytes) = make_text(alloc, load.seed, load.names, load.turns, load.workers) else {
         return Status::NoMemory;
@@ -154,6 +159,8 @@ fn serve<R: Threads + Wait + Sync, S: Source, K: Sink, G: Gate>(
     ensures taken { result ≡ Status.TooLong → (bytes : List ℕ) × Consumes (S.left source.old) (S.left source.new) bytes
         × (S.given source.new ≡ S.given source.old ++ bytes) × (length bytes ≡ 16777217) }
     ensures words { result ≡ Status.WordsRefused → ⊥ }
+    ensures heard { HasRun result → GaveFor (Some (invocation_view invocation.now)) (S.given source.old) (S.given source.new) (S.ended source.new)
+        (λ left. Heard (G.hears gate.now) (Some (invocation_view invocation.now)) left) }
 {
     let bytes = match read_all(alloc, source, INPUT_LIMIT) {
         Ok(bytes) => bytes,
@@ -192,6 +199,8 @@ fn serve_invocation<R: Threads + Wait + Sync, S: Source, K: Sink, G: Gate>(
     ensures taken { result ≡ Status.TooLong → (bytes : List ℕ) × Consumes (S.left source.old) (S.left source.new) bytes
         × (S.given source.new ≡ S.given source.old ++ bytes) × (length bytes ≡ 16777217) }
     ensures words { result ≡ Status.WordsRefused → ⊥ }
+    ensures heard { HasRun result → GaveFor (Some (invocation_view invocation.now)) (S.given source.old) (S.given source.new) (S.ended source.new)
+        (λ left. Heard (G.hears gate.now) (Some (invocation_view invocation.now)) left) }
     ensures made { IsMade (Some (invocation_view invocation.now)) → source.new ≡ source.old }
     ensures load { IsMade (Some (invocation_view invocation.now)) → EndsLoad result }
 {
@@ -249,6 +258,10 @@ pub fn run<R: Threads + Wait + Sync, S: Source, K: Sink, G: Gate>(
     ensures load { IsMade (invocation_in words.now) → EndsLoad result }
     ensures taken { result ≡ Status.TooLong → (bytes : List ℕ) × Consumes (S.left source.old) (S.left source.new) bytes
         × (S.given source.new ≡ S.given source.old ++ bytes) × (length bytes ≡ 16777217) }
+
+    // Where commands were run, the gate that is handed in was told of each, by the worker's number and its own.
+    ensures heard { HasRun result → GaveFor (invocation_in words.now) (S.given source.old) (S.given source.new) (S.ended source.new)
+        (λ left. Heard (G.hears gate.now) (invocation_in words.now) left) }
 {
     match invocation_of(alloc, words) {
         Ok(Some(invocation)) => serve_invocation(rt, alloc, &invocation, source, sink, gate),

@@ -2,7 +2,7 @@
 ghost use Rattle.std.specs.Prelude.{◌≡◌, ◌<◌, ◌≤◌, [], ℕ, IfOk, Ok, false, length, vec_len, if◌then◌else◌};
 ghost use Rattle.qp_main.specs.Prelude.{AllByRecursion, Version, CanBeDumped, InTurn, NeedsNoSnapshot, passes_fed, passes_for, pieces_text};
 ghost use Rattle.qp_main.specs.Prelude.{job_view, list_view, AllAsked, AreItemsOf, IsZone, entries_of_items, fed_job_on, finished_text, job_on};
-ghost use Rattle.qp_main.specs.Prelude.{Answers, FedAnswers, IsAnswerDue};
+ghost use Rattle.qp_main.specs.Prelude.{AllHeard, Answers, FedAnswers, IsAnswerDue, ListHeard, WhereRun};
 
 use crate::refusal_lines::no_room;
 use crate::status::Status;
@@ -74,8 +74,9 @@ pub fn report_job<R: Threads + Wait + Sync, G: Gate>(
     requires zone { IsZone invocation.now.origin (entries_of_items items.now) }
     requires in_turn { AllByRecursion (InTurn false) (job_view job.now) }
     requires said { AllByRecursion (AllByRecursion (AllAsked invocation.now.origin)) (job_view job.now) }
-    ensures { (zone : Version) → AreItemsOf items.now zone → CanBeDumped invocation.now.origin zone
+    ensures told { (zone : Version) → AreItemsOf items.now zone → CanBeDumped invocation.now.origin zone
         → IfOk result (IsAnswerDue (Answers telling invocation.now.chunks (Ok (job_on invocation.now.origin zone (job_view job.now))))) }
+    ensures heard { IfOk result (IsAnswerDue (WhereRun (AllHeard (G.hears gate.now) 1 (job_view job.now)))) }
 {
     let origin = &invocation.origin;
     match run_zone(rt, alloc, blank, origin, items, job, gate)? {
@@ -139,8 +140,9 @@ pub fn report_list<R: Threads + Wait + Sync, G: Gate>(
     requires few { vec_len commands.now ≤ 10000 }
     requires no_snapshots { AllByRecursion NeedsNoSnapshot (list_view commands.now) }
     requires said { AllByRecursion (AllAsked invocation.now.origin) (list_view commands.now) }
-    ensures { (zone : Version) (workers : ℕ) → AreItemsOf items.now zone → CanBeDumped invocation.now.origin zone → (0 < vec_len commands.now → workers ≡ crew)
+    ensures told { (zone : Version) (workers : ℕ) → AreItemsOf items.now zone → CanBeDumped invocation.now.origin zone → (0 < vec_len commands.now → workers ≡ crew)
         → IfOk result (IsAnswerDue (FedAnswers workers invocation.now.chunks (Ok (fed_job_on invocation.now.origin zone (list_view commands.now))))) }
+    ensures heard { IfOk result (IsAnswerDue (WhereRun (ListHeard (G.hears gate.now) crew (length (list_view commands.now))))) }
 {
     if commands.is_empty() {
         return report_none(rt, alloc, invocation, blank, items, gate);

@@ -1,7 +1,8 @@
 //! Several zones and a script over them.
 ghost use Rattle.std.specs.Prelude.{◌≡◌, ◌≤◌, All, Ok, IfOk, IfErr, length, map};
 ghost use Rattle.qp_main.specs.Prelude.{AreListed, origins_of, zones_job_of, workers_view, zones_job_on};
-ghost use Rattle.qp_main.specs.Prelude.{ZonesAnswers, AreAllItems, IsAnswerDue, IsRead, IsSaid, IsStop, AllByRecursion};
+ghost use Rattle.qp_main.specs.Prelude.{ZonesAnswers, AreAllItems, IsAnswerDue, IsRead, IsSaid, IsStop, AllByRecursion, WhereRun, ZonesJobHeard};
+ghost use Rattle.zones_threads.specs.Calls.{AllHeard};
 
 use crate::input::Input;
 use crate::items::zone_items;
@@ -89,7 +90,8 @@ fn report_zones<R: Threads + Wait + Sync, G: Gate>(
     requires zones { AllByRecursion IsRead zones.items }
     requires few_workers { length script.now.workers.items ≤ 16 }
     requires said { AllByRecursion (AllByRecursion (IsSaid (origins_of zones.items))) (workers_view script.now) }
-    ensures { IfOk result (IsAnswerDue (ZonesAnswers invocation.now.chunks (Ok (zones_job_on zones.items (workers_view script.now))))) }
+    ensures told { IfOk result (IsAnswerDue (ZonesAnswers invocation.now.chunks (Ok (zones_job_on zones.items (workers_view script.now))))) }
+    ensures heard { IfOk result (IsAnswerDue (WhereRun (AllHeard (G.hears gate.now) 1 (workers_view script.now)))) }
 {
     let origins = origins_of(alloc, &zones)?;
     let passes = script.workers.len() as u32 + 1;
@@ -118,6 +120,8 @@ pub fn answer_zones<R: Threads + Wait + Sync, G: Gate>(
 ) -> Result<(Status, Pieces), Stop>
     ensures told { IfOk result (IsAnswerDue (ZonesAnswers invocation.now.chunks (zones_job_of input))) }
     ensures stops { IfErr result (IsStop (ZonesAnswers invocation.now.chunks (zones_job_of input))) }
+    ensures heard { IfOk result (IsAnswerDue (WhereRun (ZonesJobHeard (G.hears gate.now) (zones_job_of input)))) }
+    ensures unheard { IfErr result (IsStop (WhereRun (ZonesJobHeard (G.hears gate.now) (zones_job_of input)))) }
 {
     let zones = input.zones(alloc)?;
     let origins = origins_of(alloc, &zones)?;

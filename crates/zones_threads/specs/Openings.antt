@@ -1,6 +1,7 @@
 -- What becomes of zones that are opened and run.
 use Rattle.std.specs.Prelude.{◌≡◌, ℕ, List, Some, slice_get}
 use Rattle.zone_model.specs.MasterFile.{Zone}
+use Rattle.job_commands.specs.Calls.{Call}
 use Rattle.job_commands.specs.Histories.{StandsAs}
 use Rattle.zones_model.specs.Commands.{Command}
 use Rattle.zones_model.specs.Commands as model
@@ -10,6 +11,7 @@ use Rattle.zone_table.specs.Openings.{AllFit, Place, RefusesZones, entries_in, o
 use Rattle.zones_threads.specs.declared.opening.ZonesRan.{ZonesRan}
 use Rattle.zones_threads.specs.declared.opening.ZonesRan.TheVariants.{Finished, DoesNotFit}
 use Rattle.zones_report.specs.Telling.{last_of}
+use Rattle.zones_threads.specs.Calls.{AllHeard}
 use Rattle.zones_threads.specs.Runs.{IsZonesRun}
 
 -- the items are those of these zones
@@ -21,3 +23,8 @@ pub record StandFor (items : List ZoneItems) (zones : List Zone) : Type 0 where
 abbrev pub ZonesRanOn : List Place → ℕ → List Zone → List (List Command) → ZonesRan → Type 0
 ZonesRanOn places chunks zones workers (Finished f) = AllFit places × IsZonesRun chunks zones workers f.done.items (last_of f) f.attached f.names.items
 ZonesRanOn places chunks zones workers (DoesNotFit zone cells limit) = RefusesZones places (refusal.Full zone cells limit)
+
+-- where the workers were run, the gate was told of all of their commands
+abbrev pub HeardOn : (Call → Type 0) → List (List Command) → ZonesRan → Type 0
+HeardOn hears workers (Finished f) = AllHeard hears 1 workers
+HeardOn hears workers (DoesNotFit zone cells limit) = Unit {0}

@@ -12,7 +12,7 @@ pub use Rattle.zones_threads.specs.Changes.{cause_told, version_told}
 pub use Rattle.zones_threads.specs.Closings.{table_views, zone_views}
 pub use Rattle.zones_threads.specs.Endings.{EndsTable, EndsZone}
 pub use Rattle.zones_threads.specs.Gatherings.{AreGathered, HasWorked, MayRun, MayWork}
-pub use Rattle.zones_threads.specs.Openings.{StandFor, ZonesRanOn}
+pub use Rattle.zones_threads.specs.Openings.{HeardOn, StandFor, ZonesRanOn}
 pub use Rattle.zones_threads.specs.Runs.{IsZonesRun, TableBegins, ZoneBegins}
 pub use Rattle.zones_threads.specs.Sites.{IsSaid, IsSite, Opens, Site}
 pub use Rattle.zones_threads.specs.Steps.{Goes}

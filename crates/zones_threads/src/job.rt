@@ -1,12 +1,13 @@
 //! All workers, each in a thread of its own where one can be started.
-ghost use Rattle.std.specs.Prelude.{◌≡◌, ◌<◌, ◌∷◌, ℕ, List, All, IfOk, Some, length, map, slice_get};
+ghost use Rattle.std.specs.Prelude.{◌≡◌, ◌<◌, ◌∷◌, ℕ, List, All, IfOk, None, Some, length, map, slice_get};
 ghost use Rattle.zones_threads.specs.Prelude.{Zone, origins_of, passes_for, AllByRecursion, IsSync, Learnt, AreHeard, IsPassOf};
 ghost use Rattle.zones_threads.specs.Prelude.{table_known, zone_known, AllHeard, table_views, zone_views, AreGathered};
 ghost use Rattle.zones_threads.specs.Prelude.{HasWorked, MayRun, MayWork, last_of, IsZonesRun, TableBegins, ZoneBegins};
 ghost use Rattle.zones_threads.specs.Prelude.{IsSaid, IsSite, Opens, Site, command_view, worker_view, workers_view, AreApart};
 
 use crate::ending::close_zones;
-use crate::worker::{Ended, Task, run_worker};
+use crate::worker::{Ended, run_worker};
+use crew::Turnstile;
 use job_commands::{Gate, ZoneLaw};
 use qp_multi::Named;
 use std::alloc::{AllocError, Global};
@@ -14,7 +15,7 @@ use std::sync::Wait;
 use std::thread::{Threads, join};
 use zone_table::{Zones, ZonesPass};
 use zones_report::{DoneList, ZonesFinished};
-use zones_script::Worker;
+use zones_script::{Command, Worker};
 
 // What became of workers. All passes are back; main's has learnt what they have seen.
 #[derive(Drop)]
@@ -59,17 +60,18 @@ fn with_ended<N: Named>(
     Ok(Gathered { done, passes, main })
 }
 
-// What a worker is to do, with its pass.
-fn task_of<N: Named>(number: u32, worker: &Worker, pass: ZonesPass<N>) -> Task<'_, N>
-    ensures number { result.number ≡ number }
+// A worker's way to its commands.
+fn turnstile_of<'a, G: Gate>(
+    gate: &'a G,
+    number: u32,
+    worker: &'a Worker,
+) -> Turnstile<'a, Command, G>
+    ensures gate { result.gate.now ≡ gate.now }
+    ensures number { result.worker ≡ number }
     ensures commands { map command_view result.commands.now ≡ worker_view worker.now }
-    ensures pass { result.pass ≡ pass }
+    ensures fresh { (result.entered ≡ None) × (result.told ≡ 0) }
 {
-    Task {
-        number,
-        commands: &worker.commands,
-        pass,
-    }
+    Turnstile::new(gate, number, &worker.commands)
 }
 
 // Runs the workers beside each other, from the one of a number on. Each has one of the passes, from the end on, and main the first.
@@ -103,7 +105,10 @@ fn run_workers<R: Threads + Wait + Sync, N: Named + Send + Sync, G: Gate>(
         requires { MayWork zones.now pass (worker_view worker.now) }
         ensures done { IfOk result (λ e. HasWorked zones.entry.now pass e.pass (worker_view worker.entry.now) e.done.list.items) }
         ensures heard { IfOk result (λ _. AreHeard (G.hears gate.entry.now) number (length (worker_view worker.entry.now))) }
-    { run_worker(rt, alloc, zones, task_of(number, worker, pass), gate) };
+    {
+        let mut turnstile = turnstile_of(gate, number, worker);
+        run_worker(rt, alloc, zones, &mut turnstile, pass)
+    };
     let rest = move || -> Result<Gathered<N>, AllocError>
         requires sync { IsSync R.row }
         requires run { MayRun zones.now passes.items (workers_view others.now) }

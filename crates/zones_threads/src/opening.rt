@@ -1,7 +1,7 @@
 //! Zones that are opened and run.
 ghost use Rattle.std.specs.Prelude.{◌≡◌, ◌+◌, ◌≤◌, ℕ, List, All, IfOk, Some, length, map, slice_get};
 ghost use Rattle.zones_threads.specs.Prelude.{AllByRecursion, IsDistinct, Zone, same_name, IsZone, passes_for};
-ghost use Rattle.zones_threads.specs.Prelude.{entries_in, places_of, StandFor, ZonesRanOn, IsSaid, workers_view};
+ghost use Rattle.zones_threads.specs.Prelude.{entries_in, places_of, StandFor, HeardOn, ZonesRanOn, IsSaid, workers_view};
 ghost use Rattle.zone_table.specs.Openings.{origins_of};
 
 use crate::job::run_zones;
@@ -46,8 +46,10 @@ fn run_named<R: Threads + Wait + Sync, N: Named + Send + Sync, G: Gate>(
     requires different { IsDistinct same_name (origins_of zones.now) }
     requires zones { All (λ z. IsZone z.origin (entries_in z)) zones.now }
     requires said { AllByRecursion (AllByRecursion (IsSaid (origins_of zones.now))) (workers_view workers.now) }
-    ensures { (chunks : ℕ) (list : List Zone) → All (λ s. s.chunks ≡ chunks) (map (λ b. b.shared.table.shared.key) blanks.items) → StandFor zones.now list
+    ensures ran { (chunks : ℕ) (list : List Zone) → All (λ s. s.chunks ≡ chunks) (map (λ b. b.shared.table.shared.key) blanks.items) → StandFor zones.now list
         → IfOk result (ZonesRanOn (places_of zones.now (map (λ b. b.shared.table.shared.key) blanks.items)) chunks list (workers_view workers.now)) }
+    // Each worker is told by its own number, from 1.
+    ensures heard { IfOk result (HeardOn (G.hears gate.now) (workers_view workers.now)) }
 {
     match Zones::<ZoneLaw, N>::open(alloc, table, blanks, zones) {
         Ok((opened, passes)) => {
@@ -84,8 +86,10 @@ pub fn run_zone_items<R: Threads + Wait + Sync, G: Gate>(
     requires different { IsDistinct same_name (origins_of zones.now) }
     requires zones { All (λ z. IsZone z.origin (entries_in z)) zones.now }
     requires said { AllByRecursion (AllByRecursion (IsSaid (origins_of zones.now))) (workers_view workers.now) }
-    ensures { (chunks : ℕ) (list : List Zone) → All (λ s. s.chunks ≡ chunks) (map (λ b. b.shared.table.shared.key) blanks.items) → StandFor zones.now list
+    ensures ran { (chunks : ℕ) (list : List Zone) → All (λ s. s.chunks ≡ chunks) (map (λ b. b.shared.table.shared.key) blanks.items) → StandFor zones.now list
         → IfOk result (ZonesRanOn (places_of zones.now (map (λ b. b.shared.table.shared.key) blanks.items)) chunks list (workers_view workers.now)) }
+    // Each worker is told by its own number, from 1.
+    ensures heard { IfOk result (HeardOn (G.hears gate.now) (workers_view workers.now)) }
 {
     run_named::<R, Brand, G>(rt, alloc, table, blanks, zones, workers, gate)
 }

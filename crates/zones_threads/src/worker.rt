@@ -1,25 +1,18 @@
 //! A worker that runs its commands.
-ghost use Rattle.std.specs.Prelude.{◌≡◌, IfOk, length, map};
+ghost use Rattle.std.specs.Prelude.{◌≡◌, IfOk, None, length, map};
 ghost use Rattle.zones_threads.specs.Prelude.{AreHeard, IsPassOf, HasWorked, MayWork, IsSaid, Opens, Goes, command_view};
 
 use crate::changing::{attach, detach};
 use crate::getting::get;
 use crate::transactions::change_zone;
-use job_commands::{Gate, Room, ZoneLaw, counted, tell_after, tell_before};
+use crew::Turnstile;
+use job_commands::{Gate, Room, ZoneLaw};
 use qp_multi::Named;
 use std::alloc::{AllocError, Global};
 use std::sync::Wait;
 use zone_table::{Zones, ZonesPass};
 use zones_report::{Done, DoneList};
 use zones_script::Command;
-
-/// A worker's number, from 1, its commands, and its pass of the zones.
-#[derive(Drop)]
-pub struct Task<'a, N: Named> {
-    pub number: u32,
-    pub commands: &'a [Command],
-    pub pass: ZonesPass<N>,
-}
 
 /// What became of a worker's commands. Its pass is back.
 #[derive(Drop)]
@@ -50,31 +43,28 @@ fn run_command<R: Wait, N: Named>(
     }
 }
 
-/// Runs a worker's commands, each between the gate's two calls.
+/// Runs the commands of a worker's turnstile, each between the gate's two calls. It goes through once for each.
 pub fn run_worker<R: Wait, N: Named, G: Gate>(
     rt: &R,
     alloc: Global,
     zones: &Zones<ZoneLaw, N>,
-    task: Task<'_, N>,
-    gate: &G,
+    turnstile: &mut Turnstile<'_, Command, G>,
+    mut pass: ZonesPass<N>,
 ) -> Result<Ended<N>, AllocError>
-    requires { MayWork zones.now task.pass (map command_view task.commands.now) }
-    ensures done { IfOk result (λ e. HasWorked zones.now task.entry.pass e.pass (map command_view task.entry.commands.now) e.done.list.items) }
-    ensures heard { IfOk result (λ _. AreHeard (G.hears gate.now) task.entry.number (length (map command_view task.entry.commands.now))) }
+    requires fresh { (turnstile.old.entered ≡ None) × (turnstile.old.told ≡ 0) }
+    requires may { MayWork zones.now pass (map command_view turnstile.old.commands.now) }
+    ensures done { IfOk result (λ e. HasWorked zones.now pass e.pass (map command_view turnstile.old.commands.now) e.done.list.items) }
+    ensures heard { IfOk result (λ _. AreHeard (G.hears turnstile.old.gate.now) turnstile.old.worker (length (map command_view turnstile.old.commands.now))) }
+    ensures told { IfOk result (λ _. turnstile.new.told ≡ length turnstile.old.commands.now) }
 {
     let mut room = Room::new(alloc)?;
-    let Task {
-        number,
-        commands,
-        mut pass,
-    } = task;
-    let mut list = Vec::with_capacity(alloc, commands.len())?;
-    for (place, command) in commands.iter().enumerate() {
-        let ordinal = counted(place);
-        tell_before(gate, number, ordinal, place, &list);
+    let count = turnstile.count();
+    let mut list = Vec::with_capacity(alloc, count)?;
+    for place in 0..count {
+        let command = turnstile.enter(place);
         let done = run_command(rt, alloc, zones, &mut pass, command, &mut room)?;
         list.push(done)?;
-        tell_after(gate, number, ordinal, place, &list);
+        turnstile.leave(&list);
     }
     Ok(Ended {
         done: DoneList { list },

@@ -10,6 +10,7 @@ use Rattle.qp_multi.specs.Passes.{known_at}
 use Rattle.feed_threads.specs.Feeds.{AreInOrder, commands_served, numbers_served, outcomes_served}
 use Rattle.job_commands.specs.Runs.{IsRun}
 use Rattle.feed_threads.proofs.FedRunLaws.{fed_run}
+use Rattle.feed_threads.proofs.HeardLaws.{all_told}
 use Rattle.feed_threads.proofs.ServeLaws.{seats_of_feed, lists_served, some_done}
 use Rattle.feed_threads.proofs.feeding.run_feed.Goals as goal
 
@@ -48,4 +49,13 @@ returns g c = record {
       fed_run s.chunks c.args.workers c.args.origin.now zone commands served c.in_ok-in_order.field-0.items last.version last.names last.nodes many order
       (subst (λ (n : ℕ). IsRun s.chunks n c.args.origin.now zone (commands_served commands served) (outcomes_served served) last.version last.names last.nodes) (index.passes ∙ c.requires.size ∙ c.requires.passes)
       (subst (λ (o : Name). IsRun s.chunks s.passes o zone (commands_served commands served) (outcomes_served served) last.version last.names last.nodes) index.origin_is run));
+  heard =
+      let served = c.in_ok-served.field-0.served.items in
+      let many : length served ≡ c.args.workers = c.in_ok-served.ensures.many ∙ ap length c.in_ok-feed.ensures.seats ∙ length-replicate c.args.workers (new_seat c.in_ok-feed.feed) in
+      let some : 0 < length served = omega (arith, many, c.requires.workers.0) in
+      let long : c.in_ok-feed.feed.count ≡ length c.args.commands.now = search rules in
+      let whole = c.close-end.ensures.done (subst (λ (seats : List Takings). Any (λ seat. seat.done ≡ true) seats) (sym c.in_ok-served.ensures.seats) (some_done c.in_ok-feed.feed served some)) in
+      let ends : c.close-end.result - 1 ≡ length c.args.commands.now = omega (arith, whole, long) in
+      let order = subst (λ (n : ℕ). AreInOrder n served c.in_ok-in_order.field-0.items) ends c.in_ok-in_order.ensures in
+      all_told (g.G.Gate.hears c.args.gate.now) (length c.args.commands.now) c.args.workers served c.in_ok-in_order.field-0.items many (omega (arith, many, c.requires.workers.1)) c.in_ok-served.ensures.heard order;
 }

@@ -1,16 +1,19 @@
-use Rattle.std.proofs.Common.{rules, ◌∙◌, ◌-◌, ◌<◌, ℕ, List, [], Some, None, length, map, refl, sym, ap, subst}
+use Rattle.std.proofs.Common.{rules, ◌≡◌, ◌∙◌, ◌-◌, ◌<◌, ◌≤◌, ℕ, List, [], ◌∷◌, Some, None, length, length-append, map, refl, sym, ap, subst, arith}
+use Rattle.std.specs.Prelude.{slice_get}
+use Rattle.std.proofs.lemmas.Option.{get_or_from_slice_get, slice_get_within}
 use Rattle.job_script.specs.Views.{command_view}
 use Rattle.job_script.specs.declared.outcomes.Outcome.{Outcome}
 use Rattle.feed_core.specs.Feeds.{Takings}
 use Rattle.feed_threads.specs.Feeds.{commands_at}
 use Rattle.job_commands.specs.Works.{only}
 use Rattle.std.specs.List.{AllByRecursion}
-use Rattle.job_commands.specs.Calls.{IsHeard}
+use Rattle.job_commands.specs.Calls.{After, Before, IsHeard, next_number}
+use Rattle.crew.proofs.CallLaws.{same_told}
 use Rattle.report_laws.specs.Changes.{AllAsked}
 use Rattle.qp_multi.specs.Passes.{first_version, known_at}
 use Rattle.job_commands.specs.Histories.{Setup}
 use Rattle.job_commands.specs.Stations.{station}
-use Rattle.feed_threads.proofs.ServeLaws.{command_here, plain_here, so_here, serve_starts, serve_next}
+use Rattle.feed_threads.proofs.ServeLaws.{command_here, number_counted, plain_here, so_here, serve_starts, serve_next}
 use Rattle.job_commands.proofs.ShowLaws.{seat_told}
 use Rattle.job_commands.proofs.StepLaws.{under_itself}
 use Rattle.job_commands.proofs.WorkLaws.{WorkerAt, all-push, worker_ran}
@@ -27,38 +30,77 @@ loop-number-init g c =
       feed = ap (λ (t : Takings). t.feed) c.requires.seat;
       taken = ap (λ (t : Takings). t.taken) c.requires.seat ∙ sym none;
       alike = ap length none ∙ sym (ap length c.new-list.ensures.items);
-      heard = subst (AllByRecursion (IsHeard (g.G.Gate.hears c.args.gate.now) c.args.worker)) (sym none) tt;
+      gate = refl;
+      number = refl;
+      commands = refl;
+      free = c.requires.fresh.0;
+      told = c.requires.fresh.1 ∙ sym (ap length c.new-list.ensures.items);
+      heard = subst (AllByRecursion (IsHeard (g.G.Gate.hears c.args.turnstile.now.gate.now) c.args.turnstile.now.worker)) (sym none) tt;
       opens = c.requires.opens;
       at = λ s number setup new.
-          subst (λ (l : List ℕ). WorkerAt s (only number) (station first (Some first) None) (commands_at (map command_view c.args.commands.now) l) [] c.new-list.result.items) (sym none)
+          subst (λ (l : List ℕ). WorkerAt s (only number) (station first (Some first) None) (commands_at (map command_view c.args.turnstile.now.commands.now) l) [] c.new-list.result.items) (sym none)
           (subst (λ (l : List Outcome). WorkerAt s (only number) (station first (Some first) None) [] [] l) (sym c.new-list.ensures.items) (serve_starts s number first new));
     }
 
+pub enter-command-requires-clause-there : goal.enter-command-requires-clause-there
+enter-command-requires-clause-there g c =
+    let inside : c.in-Some.number - 1 < length c.args.turnstile.now.commands.now = search rules in
+    λ κs bounds. subst (λ l. c.in-Some.number - 1 < length l.now) (sym c.loop-number.invariant.commands) inside
+
 pub run_alone-requires-clause-no_snapshot : goal.run_alone-requires-clause-no_snapshot
 run_alone-requires-clause-no_snapshot g c =
-    let inside : c.in-Some.number - 1 < length c.args.commands.now = search rules in
-    plain_here c.args.commands.now c.in-Some.number c.index-commands-number.result c.requires.no_snapshots inside c.index-commands-number.is
+    let commands = c.args.turnstile.now.commands.now in
+    let place = c.in-Some.number - 1 in
+    let here = c.enter-command.result.now in
+    let there = subst (λ l. slice_get l.now place ≡ Some here) c.loop-number.invariant.commands c.enter-command.ensures.command in
+    plain_here commands c.in-Some.number here c.requires.no_snapshots (slice_get_within commands place here there) (sym (get_or_from_slice_get commands place here here there))
 
 pub run_alone-requires-clause-said : goal.run_alone-requires-clause-said
 run_alone-requires-clause-said g c =
-    let inside : c.in-Some.number - 1 < length c.args.commands.now = search rules in
-    so_here (AllAsked c.args.origin.now) c.args.commands.now c.in-Some.number c.index-commands-number.result c.requires.said inside c.index-commands-number.is
+    let commands = c.args.turnstile.now.commands.now in
+    let place = c.in-Some.number - 1 in
+    let here = c.enter-command.result.now in
+    let there = subst (λ l. slice_get l.now place ≡ Some here) c.loop-number.invariant.commands c.enter-command.ensures.command in
+    so_here (AllAsked c.args.origin.now) commands c.in-Some.number here c.requires.said (slice_get_within commands place here there) (sym (get_or_from_slice_get commands place here here there))
+
+pub leave-requires-clause-done : goal.leave-requires-clause-done
+leave-requires-clause-done g c =
+    let i = c.loop-number.invariant in
+    let many = ap length c.in_ok-push-2.ensures.items ∙ length-append c.loop-number.list.items (c.in_ok-outcome.outcome ∷ []) in
+    let told = c.enter-command.ensures.same.3 in
+    omega (arith, many, told, i.told)
 
 pub loop-number-preserved : goal.loop-number-preserved
 loop-number-preserved g c =
     let i = c.loop-number.invariant in
-    let commands = c.args.commands.now in
-    let here = c.index-commands-number.result in
+    let commands = c.args.turnstile.now.commands.now in
+    let place = c.in-Some.number - 1 in
+    let here = c.enter-command.result.now in
+    let there = subst (λ l. slice_get l.now place ≡ Some here) i.commands c.enter-command.ensures.command in
+    let lt = slice_get_within commands place here there in
+    let is = sym (get_or_from_slice_get commands place here here there) in
+    let entered = c.enter-command.ensures.same in
+    let left = c.leave.ensures.same in
+    let some : 0 < c.in-Some.number = search rules in
+    let few : c.in-Some.number ≤ 4294967295 = search rules in
+    let counted = number_counted c.in-Some.number some few in
+    let before = same_told (g.G.Gate.hears) (λ n. Before n (next_number place)) _ _ _ _ (ap (λ r. r.now) i.gate) i.number c.enter-command.ensures.heard in
+    let after = same_told (g.G.Gate.hears) (λ n. After n (next_number place)) _ _ _ _ (ap (λ r. r.now) (entered.0 ∙ i.gate)) (entered.1 ∙ i.number) (c.leave.ensures.heard place c.enter-command.ensures.entered) in
+    let told = subst (IsHeard (g.G.Gate.hears c.args.turnstile.now.gate.now) c.args.turnstile.now.worker) counted (before, after) in
     let first = c.args.pass.seat in
-    let inside : c.in-Some.number - 1 < length c.args.commands.now = search rules in
     record {
       here = c.in_ok-outcome.ensures.here;
       place = c.in_ok-outcome.ensures.place ∙ i.place;
       feed = search rules;
       taken = search rules;
       alike = search rules;
-      heard = subst (AllByRecursion (IsHeard (g.G.Gate.hears c.args.gate.now) c.args.worker)) (sym c.in_ok-push.ensures.items)
-          (all-push (IsHeard (g.G.Gate.hears c.args.gate.now) c.args.worker) c.loop-number.numbers.items c.in-Some.number i.heard (c.tell_before.ensures, c.tell_after.ensures));
+      gate = left.0 ∙ entered.0 ∙ i.gate;
+      number = left.1 ∙ entered.1 ∙ i.number;
+      commands = left.2 ∙ entered.2 ∙ i.commands;
+      free = c.leave.ensures.left;
+      told = c.leave.ensures.told;
+      heard = subst (AllByRecursion (IsHeard (g.G.Gate.hears c.args.turnstile.now.gate.now) c.args.turnstile.now.worker)) (sym c.in_ok-push.ensures.items)
+          (all-push (IsHeard (g.G.Gate.hears c.args.turnstile.now.gate.now) c.args.turnstile.now.worker) c.loop-number.numbers.items c.in-Some.number i.heard told);
       opens =
           let seat = c.loop-number.pass.seat in
           let s : Setup = record { chunks = c.args.index.now.shared.table.shared.key.chunks; passes = c.args.index.now.shared.table.shared.key.passes; origin = c.args.origin.now; opening = first_version (known_at seat).seen } in
@@ -68,11 +110,11 @@ loop-number-preserved g c =
           let w = i.at s number setup new in
           let step = c.in_ok-outcome.ensures.steps s (record { index = setup.index; opening = w.work.opened }) (Some first) None c.requires.here w.under in
           serve_next s (only number) c.loop-number.pass.seat c.run_alone.new.pass.seat first (map command_view commands) c.loop-number.numbers.items c.push.new.self.items c.in-Some.number (command_view here) c.loop-number.list.items c.push-in-Some.new.self.items c.in_ok-outcome.outcome
-          (seat_told c.loop-number.pass.seat i.here) (command_here commands c.in-Some.number here inside c.index-commands-number.is) (plain_here commands c.in-Some.number here c.requires.no_snapshots inside c.index-commands-number.is)
+          (seat_told c.loop-number.pass.seat i.here) (command_here commands c.in-Some.number here lt is) (plain_here commands c.in-Some.number here c.requires.no_snapshots lt is)
           c.in_ok-push.ensures.items c.in_ok-push-2.ensures.items w step;
     }
 
 pub returns-clause-ran : goal.returns-clause-ran
 returns-clause-ran g c = λ s number setup new.
-    let commands = commands_at (map command_view c.args.commands.now) c.loop-number.numbers.items in
+    let commands = commands_at (map command_view c.args.turnstile.now.commands.now) c.loop-number.numbers.items in
     worker_ran s (only number) (station c.loop-number.pass.seat (Some c.args.pass.seat) None) commands commands [] c.loop-number.list.items refl (c.loop-number.invariant.at s number setup new)

@@ -20,10 +20,15 @@ invariant-loop-number g l = record {
   feed : l.seat.feed ≡ l.feed;
   taken : l.seat.taken ≡ l.numbers.items;
   alike : length l.numbers.items ≡ length l.list.items;
-  heard : AllByRecursion (IsHeard (g.G.Gate.hears l.gate) l.worker) l.numbers.items;
+  gate : l.turnstile.gate ≡ l.fn.turnstile.gate;
+  number : l.turnstile.worker ≡ l.fn.turnstile.worker;
+  commands : l.turnstile.commands ≡ l.fn.turnstile.commands;
+  free : l.turnstile.entered ≡ None;
+  told : l.turnstile.told ≡ length l.list.items;
+  heard : AllByRecursion (IsHeard (g.G.Gate.hears l.fn.turnstile.gate.now) l.fn.turnstile.worker) l.numbers.items;
   opens : OpensAt l.origin (known_at l.pass.seat);
   at : (s : Setup) (number : ℕ) → IsSetup s l.origin l.index.shared.table.shared.key (known_at l.fn.pass.seat) → IsNew number s.opening (known_at l.fn.pass.seat)
-      → WorkerAt s (only number) (station l.pass.seat (Some l.fn.pass.seat) None) (commands_at (map command_view l.commands) l.numbers.items) [] l.list.items;
+      → WorkerAt s (only number) (station l.pass.seat (Some l.fn.pass.seat) None) (commands_at (map command_view l.fn.turnstile.commands.now) l.numbers.items) [] l.list.items;
 }
 
 abbrev pub decreases-loop-number : goal.decreases-loop-number

@@ -1,4 +1,4 @@
-use Rattle.std.proofs.Common.{◌≡◌, ◌<◌, ℕ, take, drop, map, length}
+use Rattle.std.proofs.Common.{◌≡◌, ◌<◌, ℕ, None, take, drop, map, length}
 use Rattle.std.specs.Prelude.{IsSome, IfSome}
 use Rattle.std.specs.Option.{option_map, is_some}
 use Rattle.std.specs.List.{AllByRecursion}
@@ -21,11 +21,16 @@ invariant-loop-place g l = record {
   places : IfSome l.passes.spare (λ p. p.place ≡ l.index.place);
   held_at : IfSome l.passes.held (λ s. s.place ≡ l.index.place);
   placed : IsPlaced (option_map (λ p. p.seat) l.passes.spare) (option_map (λ s. s.seat) l.passes.held);
+  gate : l.turnstile.gate ≡ l.fn.turnstile.gate;
+  number : l.turnstile.worker ≡ l.fn.turnstile.worker;
+  commands : l.turnstile.commands ≡ l.fn.turnstile.commands;
+  free : l.turnstile.entered ≡ None;
+  told : l.turnstile.told ≡ l.place;
   many : length l.list.items ≡ l.place;
-  heard : (place : ℕ) → place < l.place → IsHeard (g.G.Gate.hears l.gate) l.number (next_number place);
-  turn : InTurn (is_some (option_map (λ s. s.seat) l.passes.held)) (map command_view (drop l.place l.commands));
+  heard : (place : ℕ) → place < l.place → IsHeard (g.G.Gate.hears l.fn.turnstile.gate.now) l.fn.turnstile.worker (next_number place);
+  turn : InTurn (is_some (option_map (λ s. s.seat) l.passes.held)) (map command_view (drop l.place l.fn.turnstile.commands.now));
   opens : OpensAt l.origin (known_at l.passes.asks.seat);
-  said : AllByRecursion (AllAsked l.origin) (map command_view (drop l.place l.commands));
-  at : (s : Setup) (numbers : Numbers) → IsSetup s l.origin l.index.shared.table.shared.key (known_at l.fn.task.asks.seat) → Begins s numbers (known_at l.fn.task.asks.seat) (known_at l.fn.task.spare.seat)
-      → WorkerAt s numbers (station l.passes.asks.seat (option_map (λ p. p.seat) l.passes.spare) (option_map (λ s. s.seat) l.passes.held)) (map command_view (take l.place l.commands)) (map command_view (drop l.place l.commands)) l.list.items;
+  said : AllByRecursion (AllAsked l.origin) (map command_view (drop l.place l.fn.turnstile.commands.now));
+  at : (s : Setup) (numbers : Numbers) → IsSetup s l.origin l.index.shared.table.shared.key (known_at l.fn.asks.seat) → Begins s numbers (known_at l.fn.asks.seat) (known_at l.fn.spare.seat)
+      → WorkerAt s numbers (station l.passes.asks.seat (option_map (λ p. p.seat) l.passes.spare) (option_map (λ s. s.seat) l.passes.held)) (map command_view (take l.place l.fn.turnstile.commands.now)) (map command_view (drop l.place l.fn.turnstile.commands.now)) l.list.items;
 }

@@ -20,8 +20,8 @@ open-requires-clause-lawful g c = zone_lawful c.args.origin.now (entries_of_item
 pub run_job-requires-clause-opens : goal.run_job-requires-clause-opens
 run_job-requires-clause-opens g c = λ κs bounds. all_open c.in-Ok.passes.items (λ p. p.seat) (entries_of_items c.args.items.now) c.args.origin.now (λ p. p.place ≡ 0) c.requires.zone c.in-Ok.ensures.passes
 
-pub returns-in_ok-finished-in-Ok : goal.returns-in_ok-finished-in-Ok
-returns-in_ok-finished-in-Ok g c = λ zone stands.
+pub returns-in_ok-finished-in-Ok-clause-ran : goal.returns-in_ok-finished-in-Ok-clause-ran
+returns-in_ok-finished-in-Ok-clause-ran g c = λ zone stands.
     let es = entries_of_items c.args.items.now in
     let size = c.args.blank.shared.table.shared.key in
     let s : Setup = record { chunks = size.chunks; passes = size.passes; origin = c.args.origin.now; opening = es } in

@@ -7,6 +7,8 @@ use Rattle.command_line.specs.Views.{invocation_view, verb_view}
 use Rattle.command_line.proofs.OriginLemmas.{AllUnder, words_under}
 use Rattle.qp_main.specs.declared.status.Status.TheVariants as status
 use Rattle.qp_main.specs.Due.{CutShort, Due, GaveFor, MayBeShort, Written, streams}
+use Rattle.qp_main.specs.Heard.{HasRun, Heard}
+use Rattle.qp_main.proofs.HeardLemmas.{run_written}
 use Rattle.qp_main.proofs.DueLemmas.{nothing_yet, short_is, some_words}
 use Rattle.qp_main.proofs.program.run.Goals as goal
 
@@ -70,3 +72,13 @@ returns-in-Ok-Some-clause-given_short g c =
     let is : option_map invocation_view (Some c.in-Ok-Some.invocation) ≡ invocation_of (map string_bytes c.args.words.now) = sym (ap (option_map invocation_view) c.in-Ok-Some.field-0-is) ∙ c.in-Ok-Some.ensures in
     subst (λ (o : Option Invocation). MayBeShort (streams o) c.serve_invocation.result → (g.K.Sink.held c.serve_invocation.new.sink ≡ g.K.Sink.held c.args.sink.now → ⊥)
     → GaveFor o (g.S.Source.given c.args.source.now) (g.S.Source.given c.serve_invocation.new.source) (g.S.Source.ended c.serve_invocation.new.source) (λ left. CutShort (Due o left) (g.K.Sink.held c.args.sink.now) (g.K.Sink.held c.serve_invocation.new.sink))) is c.serve_invocation.ensures.given_short
+
+-- ---- what the gate was told of
+
+pub returns-in-Ok-None-clause-heard : goal.returns-in-Ok-None-clause-heard
+returns-in-Ok-None-clause-heard g c = λ ran. absurd (subst HasRun (c.write_due.ensures.whole (run_written c.write_due.result ran)).0 ran)
+
+pub returns-in-Ok-Some-clause-heard : goal.returns-in-Ok-Some-clause-heard
+returns-in-Ok-Some-clause-heard g c =
+    let is : option_map invocation_view (Some c.in-Ok-Some.invocation) ≡ invocation_of (map string_bytes c.args.words.now) = sym (ap (option_map invocation_view) c.in-Ok-Some.field-0-is) ∙ c.in-Ok-Some.ensures in
+    subst (λ (o : Option Invocation). HasRun c.serve_invocation.result → GaveFor o (g.S.Source.given c.args.source.now) (g.S.Source.given c.serve_invocation.new.source) (g.S.Source.ended c.serve_invocation.new.source) (λ left. Heard (g.G.Gate.hears c.args.gate.now) o left)) is c.serve_invocation.ensures.heard

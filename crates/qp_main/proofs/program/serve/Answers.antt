@@ -6,6 +6,8 @@ use Rattle.qp_main.specs.Due.{CutShort, Due, DueInput, IsWritten, Written, is_st
 use Rattle.qp_main.specs.declared.status.Status.{Status}
 use Rattle.qp_main.proofs.DueLemmas.{IsAnswer, cut_as, given_due, nothing_yet, short_is, some_words, source_due, too_long, written_answers, written_as}
 use Rattle.qp_main.proofs.GivenLemmas.{all_due, all_too_long, given_too_long}
+use Rattle.qp_main.specs.Heard.{HasRun}
+use Rattle.qp_main.proofs.HeardLemmas.{given_heard, run_written}
 use Rattle.qp_main.proofs.program.serve.Goals as goal
 
 pub returns-in-Err-TooLong-clause-cut_short : goal.returns-in-Err-TooLong-clause-cut_short
@@ -107,4 +109,19 @@ returns-clause-given_short g c = λ short some.
       gave = c.in-Ok.ensures.gave;
       whole = λ reads within. c.in-Ok.ensures.ended;
       holds = cut_as (DueInput i.verb i.chunks i.origin bytes) (Due (Some i) (Some bytes)) _ _ (all_due i bytes (c.requires (Some bytes)) (search rules)) (c.serve_input.ensures.cut_short short);
+    }
+
+-- ---- what the gate was told of
+
+pub returns-in-Err-TooLong-clause-heard : goal.returns-in-Err-TooLong-clause-heard
+returns-in-Err-TooLong-clause-heard g c = λ ran. absurd (subst HasRun (c.write_due.ensures.whole (run_written c.write_due.result ran)).0 ran)
+
+pub returns-clause-heard : goal.returns-clause-heard
+returns-clause-heard g c = λ ran.
+    let bytes = c.in-Ok.bytes.items in
+    record {
+      bytes = bytes;
+      gave = c.in-Ok.ensures.gave;
+      whole = λ reads within. c.in-Ok.ensures.ended;
+      holds = given_heard (g.G.Gate.hears c.args.gate.now) (invocation_view c.args.invocation.now) bytes (c.requires (Some bytes)) (c.serve_input.ensures.heard ran);
     }

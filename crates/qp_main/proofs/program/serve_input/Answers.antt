@@ -1,7 +1,9 @@
-use Rattle.std.proofs.Common.{rules}
+use Rattle.std.proofs.Common.{rules, subst}
 use Rattle.command_line.specs.Views.{verb_view}
 use Rattle.job_report.specs.Pieces.{pieces_text}
 use Rattle.qp_main.specs.Due.{DueInput, is_streamed}
+use Rattle.qp_main.specs.Heard.{HasRun, HeardInput, WhereRun}
+use Rattle.qp_main.proofs.HeardLemmas.{run_written}
 use Rattle.qp_main.proofs.DueLemmas.{answer_written, due_answer, short_is}
 use Rattle.qp_main.proofs.program.serve_input.Goals as goal
 
@@ -32,3 +34,17 @@ returns-in-Err-Refused-clause-cut_short g c = λ short. record {
   is_due = search rules;
   grew = search (rules, c.as_slice.ensures, c.write_due.ensures.front (short_is (is_streamed (verb_view c.args.invocation.now.verb)) c.write_due.result short c.write_due.ensures.only.1));
 }
+
+-- ---- what the gate was told of
+
+pub returns-in-Ok-clause-heard : goal.returns-in-Ok-clause-heard
+returns-in-Ok-clause-heard g c = λ ran.
+    let i = c.args.invocation.now in
+    let told : WhereRun (HeardInput (g.G.Gate.hears c.args.gate.now) (verb_view c.args.invocation.now.verb) c.args.invocation.now.origin c.args.bytes.items) c.in-Ok.status (pieces_text c.in-Ok.text) = search rules in
+    told (subst HasRun (c.write_answer.ensures.whole (run_written c.write_answer.result ran)).0 ran)
+
+pub returns-in-Err-Refused-clause-heard : goal.returns-in-Err-Refused-clause-heard
+returns-in-Err-Refused-clause-heard g c = λ ran.
+    let i = c.args.invocation.now in
+    let told : WhereRun (HeardInput (g.G.Gate.hears c.args.gate.now) (verb_view c.args.invocation.now.verb) c.args.invocation.now.origin c.args.bytes.items) c.in-Err-Refused.status c.in-Err-Refused.line = search rules in
+    told (subst HasRun (c.write_due.ensures.whole (run_written c.write_due.result ran)).0 ran)

@@ -22,3 +22,11 @@ returns-in-Make-clause-given_short g c = λ short some. record {
   whole = λ reads within. absurd (reads (subst (λ (v : Verb). MakesInput (verb_view v)) (sym c.in-Make.is) tt));
   holds = c.serve_made.ensures.cut_short (Some []) (short_is (is_streamed (verb_view c.args.invocation.now.verb)) c.serve_made.result short (λ e. some (c.serve_made.ensures.unwritten e)));
 }
+
+pub returns-in-Make-clause-heard : goal.returns-in-Make-clause-heard
+returns-in-Make-clause-heard g c = λ ran. record {
+  bytes = [];
+  gave = sym (append-nil _);
+  whole = λ reads within. absurd (reads (subst (λ (v : Verb). MakesInput (verb_view v)) (sym c.in-Make.is) tt));
+  holds = c.serve_made.ensures.heard (Some []) ran;
+}

@@ -3,6 +3,7 @@ use Rattle.job_make.specs.Views.{load_view}
 use Rattle.command_line.specs.Views.{invocation_view, verb_view}
 use Rattle.qp_main.specs.Due.{Due, DueInput, MayBeShort, is_streamed}
 use Rattle.qp_main.proofs.DueLemmas.{cut_as, load_answer, load_ended, made_due, written_as}
+use Rattle.qp_main.proofs.HeardLemmas.{made_heard}
 use Rattle.qp_main.proofs.program.serve_made.Goals as goal
 
 pub returns-clause-written : goal.returns-clause-written
@@ -26,3 +27,8 @@ returns-clause-load g c =
     let d = c.serve_input.ensures.written w in
     load_answer (load_view c.args.load.now) (verb_view i.verb) i.chunks i.origin c.in-Ok.bytes.items c.in-Ok.ensures.job.0 c.serve_input.result d.text c.requires.made c.requires.under c.in-Ok.ensures.job.1 d.is_due)
     c.serve_input.ensures.others
+
+pub returns-clause-heard : goal.returns-clause-heard
+returns-clause-heard g c left = λ ran.
+    let i = invocation_view c.args.invocation.now in
+    made_heard (g.G.Gate.hears c.args.gate.now) i (load_view c.args.load.now) c.in-Ok.bytes.items left c.requires.made c.in-Ok.ensures.text (c.serve_input.ensures.heard ran)

@@ -9,7 +9,8 @@ use Rattle.zones_report.specs.Outcomes.{all_refused}
 use Rattle.zones_report.specs.Texts.{finished_text}
 use Rattle.zones_script.specs.Views.{worker_view, workers_view}
 use Rattle.zone_table.specs.Openings as opening
-use Rattle.zones_threads.specs.Openings.{ZonesRanOn}
+use Rattle.zones_threads.specs.Calls.{AllHeard}
+use Rattle.zones_threads.specs.Openings.{HeardOn, ZonesRanOn}
 use Rattle.zones_threads.specs.Sites.{IsSaid}
 use Rattle.zones_threads.specs.declared.opening.ZonesRan.TheVariants as ran
 use Rattle.qp_main.specs.Opens.{AreAllItems}
@@ -54,8 +55,8 @@ run_zone_items-requires-clause-said g c κs within =
     let over = subst (λ (o : List Name). AllByRecursion (AllByRecursion (IsSaid o)) (workers_view c.args.script.now)) stand.origins c.requires.said in
     subst (λ (ws : List (List Command)). AllByRecursion (AllByRecursion (IsSaid (opening.origins_of c.deref-2.result.now))) ws) (sym (ap (map worker_view) c.deref-3.ensures.value)) over
 
-pub returns-in-Finished : goal.returns-in-Finished
-returns-in-Finished g c =
+pub returns-in-Finished-clause-told : goal.returns-in-Finished-clause-told
+returns-in-Finished-clause-told g c =
     let chunks = c.args.invocation.now.chunks in
     let zones = c.args.zones.items in
     let items = c.deref-2.result.now in
@@ -65,7 +66,7 @@ returns-in-Finished g c =
     let are : AreAllItems zones items = subst (AreAllItems zones) (sym c.deref-2.ensures.value) c.in_ok-items.ensures in
     let all = c.in_ok-blanks.ensures.chunks in
     let many = sizes_many c.in_ok-blanks.blanks.items (λ b. b.shared.table.shared.key) zones items are (let blanks = c.in_ok-blanks.ensures.each in let counted = c.len-2.ensures in let held = c.args.zones.ok.0 in omega arith) in
-    let told : ZonesRanOn (opening.places_of items sizes) chunks zones (map worker_view c.deref-3.result.now) (ran.Finished f) = search (rules, c.in_ok-finished.ensures chunks zones all (they_stand zones items are)) in
+    let told : ZonesRanOn (opening.places_of items sizes) chunks zones (map worker_view c.deref-3.result.now) (ran.Finished f) = search (rules, c.in_ok-finished.ensures.ran chunks zones all (they_stand zones items are)) in
     let run = subst (λ (ws : List (List Command)). ZonesRanOn (opening.places_of items sizes) chunks zones ws (ran.Finished f)) (ap (map worker_view) c.deref-3.ensures.value) told in
     let origins : c.deref-in-Finished-2.result.now ≡ origins_of zones = c.deref-in-Finished-2.ensures.value ∙ c.in_ok-origins.ensures ∙ ap origins_of c.deref.ensures.value in
     run_answers chunks zones items sizes are many all (workers_view c.args.script.now) run.0 c.status_of.result text
@@ -73,8 +74,8 @@ returns-in-Finished g c =
     (c.in_ok-text-in-Finished.ensures ∙ ap (λ (o : List Name). finished_text o f) origins)
     (c.any_refused-refused.ensures ∙ ap all_refused c.deref-in-Finished.ensures.value) c.status_of.ensures)
 
-pub returns : goal.returns
-returns g c =
+pub returns-clause-told : goal.returns-clause-told
+returns-clause-told g c =
     let chunks = c.args.invocation.now.chunks in
     let zones = c.args.zones.items in
     let items = c.deref-2.result.now in
@@ -83,5 +84,11 @@ returns g c =
     let are : AreAllItems zones items = subst (AreAllItems zones) (sym c.deref-2.ensures.value) c.in_ok-items.ensures in
     let all = c.in_ok-blanks.ensures.chunks in
     let many = sizes_many c.in_ok-blanks.blanks.items (λ b. b.shared.table.shared.key) zones items are (let blanks = c.in_ok-blanks.ensures.each in let counted = c.len-2.ensures in let held = c.args.zones.ok.0 in omega arith) in
-    let told : ZonesRanOn (opening.places_of items sizes) chunks zones (map worker_view c.deref-3.result.now) (ran.DoesNotFit c.in-DoesNotFit.zone c.in-DoesNotFit.cells c.in-DoesNotFit.limit) = search (rules, c.in_ok-finished.ensures chunks zones all (they_stand zones items are)) in
+    let told : ZonesRanOn (opening.places_of items sizes) chunks zones (map worker_view c.deref-3.result.now) (ran.DoesNotFit c.in-DoesNotFit.zone c.in-DoesNotFit.cells c.in-DoesNotFit.limit) = search (rules, c.in_ok-finished.ensures.ran chunks zones all (they_stand zones items are)) in
     first_told chunks zones items sizes are many all (workers_view c.args.script.now) c.in-DoesNotFit.zone c.in-DoesNotFit.cells c.in-DoesNotFit.limit text told c.in_ok-no_room-in-DoesNotFit.ensures
+
+pub returns-in-Finished-clause-heard : goal.returns-in-Finished-clause-heard
+returns-in-Finished-clause-heard g c = λ has_run.
+    let hears = g.G.Gate.hears c.args.gate.now in
+    let told : HeardOn hears (map worker_view c.deref-3.result.now) (ran.Finished c.in-Finished.finished) = search (rules, c.in_ok-finished.ensures.heard) in
+    subst (λ (ws : List (List Command)). AllHeard hears 1 ws) (ap (map worker_view) c.deref-3.ensures.value) told

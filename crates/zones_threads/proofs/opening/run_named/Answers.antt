@@ -28,8 +28,8 @@ run_zones-requires-clause-opens g c = λ κs bounds. all_open c.args.zones.now c
 pub run_zones-requires-clause-said : goal.run_zones-requires-clause-said
 run_zones-requires-clause-said g c = λ κs bounds. subst (λ (o : List Name). AllByRecursion (AllByRecursion (IsSaid o)) (workers_view c.args.workers.now)) (sym c.in-Ok.ensures.origins) c.requires.said
 
-pub returns-in_ok-finished-in-Ok : goal.returns-in_ok-finished-in-Ok
-returns-in_ok-finished-in-Ok g c = λ chunks list all_chunks stand.
+pub returns-in_ok-finished-in-Ok-clause-ran : goal.returns-in_ok-finished-in-Ok-clause-ran
+returns-in_ok-finished-in-Ok-clause-ran g c = λ chunks list all_chunks stand.
     let items = c.args.zones.now in
     let opened = c.in-Ok.opened in
     let count = c.args.table.shared.table.shared.key.passes in

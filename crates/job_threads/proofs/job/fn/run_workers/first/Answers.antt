@@ -6,12 +6,14 @@ use Rattle.job_threads.proofs.job.fn.run_workers.first.Goals as goal
 
 pub returns : goal.returns
 returns g c =
-    let hears = g.G.Gate.hears c.captures.gate.now in
-    let task = c.task_of-task in
+    let hears = g.G.Gate.hears in
+    let worker = worker_view c.captures.worker.now in
+    let turnstile = c.turnstile_of-turnstile in
     record {
       here = search rules;
       places = search rules;
       ran = search rules;
-      heard = subst (λ (n : ℕ). IfOk c.run_worker.result (λ _. AreHeard hears n (length (worker_view c.captures.worker.now)))) task.ensures.number
-          (subst (λ (l : List Command). IfOk c.run_worker.result (λ _. AreHeard hears task.result.number (length l))) task.ensures.commands c.run_worker.ensures.heard);
+      heard = subst (λ gate. IfOk c.run_worker.result (λ _. AreHeard (hears gate) c.captures.number (length worker))) turnstile.ensures.gate
+          (subst (λ (n : ℕ). IfOk c.run_worker.result (λ _. AreHeard (hears turnstile.result.gate.now) n (length worker))) turnstile.ensures.number
+          (subst (λ (l : List Command). IfOk c.run_worker.result (λ _. AreHeard (hears turnstile.result.gate.now) turnstile.result.worker (length l))) turnstile.ensures.commands c.run_worker.ensures.heard));
     }

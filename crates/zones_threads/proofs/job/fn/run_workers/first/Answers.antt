@@ -7,13 +7,12 @@ use Rattle.zones_threads.proofs.job.fn.run_workers.first.Goals as goal
 
 pub returns : goal.returns
 returns g c =
-    let hears = g.G.Gate.hears c.captures.gate.now in
-    let task = c.task_of in
+    let hears = g.G.Gate.hears in
     let worker = worker_view c.captures.worker.now in
-    let zones = c.captures.zones.now in
+    let turnstile = c.turnstile_of-turnstile in
     record {
-      done = subst (λ p. IfOk c.run_worker.result (λ e. HasWorked zones p e.pass worker e.done.list.items)) task.ensures.pass
-          (subst (λ (l : List Command). IfOk c.run_worker.result (λ e. HasWorked zones task.result.pass e.pass l e.done.list.items)) task.ensures.commands c.run_worker.ensures.done);
-      heard = subst (λ (n : ℕ). IfOk c.run_worker.result (λ _. AreHeard hears n (length worker))) task.ensures.number
-          (subst (λ (l : List Command). IfOk c.run_worker.result (λ _. AreHeard hears task.result.number (length l))) task.ensures.commands c.run_worker.ensures.heard);
+      done = subst (λ (l : List Command). IfOk c.run_worker.result (λ e. HasWorked c.captures.zones.now c.captures.pass e.pass l e.done.list.items)) turnstile.ensures.commands c.run_worker.ensures.done;
+      heard = subst (λ gate. IfOk c.run_worker.result (λ _. AreHeard (hears gate) c.captures.number (length worker))) turnstile.ensures.gate
+          (subst (λ (n : ℕ). IfOk c.run_worker.result (λ _. AreHeard (hears turnstile.result.gate.now) n (length worker))) turnstile.ensures.number
+          (subst (λ (l : List Command). IfOk c.run_worker.result (λ _. AreHeard (hears turnstile.result.gate.now) turnstile.result.worker (length l))) turnstile.ensures.commands c.run_worker.ensures.heard));
     }

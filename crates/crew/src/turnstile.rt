@@ -1,0 +1,73 @@
+//! How a worker comes by its commands.
+ghost use Rattle.std.specs.Prelude.{◌≡◌, ◌+◌, ◌<◌, length, IsSome, Some, None, slice_get};
+ghost use Rattle.job_commands.specs.Calls.{Before, After, next_number};
+
+use job_commands::{Gate, counted};
+
+/// A worker's way to its commands. These lie behind the gate: whoever has a turnstile has neither, and is handed a command when the
+/// gate was told of it. The gate is told of its end once, when there is an outcome more.
+#[derive(Drop)]
+pub struct Turnstile<'a, C, G: Gate> {
+    gate: &'a G,
+    worker: u32,
+    commands: &'a [C],
+    entered: Option<usize>,
+    told: usize,
+}
+
+impl<'a, C, G: Gate> Turnstile<'a, C, G> {
+    /// Of a worker's number and the commands that are for it. It has not been through.
+    pub fn new(gate: &'a G, worker: u32, commands: &'a [C]) -> Turnstile<'a, C, G>
+        ensures gate { result.gate.now ≡ gate.now }
+        ensures worker { result.worker ≡ worker }
+        ensures commands { result.commands.now ≡ commands.now }
+        ensures fresh { (result.entered ≡ None) × (result.told ≡ 0) }
+    {
+        Turnstile {
+            gate,
+            worker,
+            commands,
+            entered: None,
+            told: 0,
+        }
+    }
+
+    /// How many commands there are.
+    pub fn count(&self) -> usize
+        ensures { result ≡ length self.now.commands.now }
+    {
+        self.commands.len()
+    }
+
+    /// The command at a place, of which the gate has been told.
+    pub fn enter(&mut self, place: usize) -> &'a C
+        requires free { self.old.entered ≡ None }
+        requires there { place < length self.old.commands.now }
+        ensures command { slice_get self.old.commands.now place ≡ Some result.now }
+        ensures entered { self.new.entered ≡ Some place }
+        ensures same { (self.new.gate ≡ self.old.gate) × (self.new.worker ≡ self.old.worker) × (self.new.commands ≡ self.old.commands) × (self.new.told ≡ self.old.told) }
+        ensures heard { G.hears self.old.gate.now (Before self.old.worker (next_number place)) }
+    {
+        self.entered = Some(place);
+        self.gate.before(self.worker, counted(place));
+        let commands = self.commands;
+        &commands[place]
+    }
+
+    /// Tells the gate that the command was run: what became of it stands behind the outcomes of those that were told before.
+    pub fn leave<T>(&mut self, done: &Vec<T>)
+        requires inside { IsSome self.old.entered }
+        requires done { length done.now.items ≡ self.old.told + 1 }
+        ensures left { self.new.entered ≡ None }
+        ensures same { (self.new.gate ≡ self.old.gate) × (self.new.worker ≡ self.old.worker) × (self.new.commands ≡ self.old.commands) }
+        ensures told { self.new.told ≡ length done.now.items }
+        ensures heard { (place : _) → self.old.entered ≡ Some place → G.hears self.old.gate.now (After self.old.worker (next_number place)) }
+    {
+        let Some(place) = self.entered.take() else {
+            // It is inside.
+            unreachable!();
+        };
+        self.told += 1;
+        self.gate.after(self.worker, counted(place));
+    }
+}
