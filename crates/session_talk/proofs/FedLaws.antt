@@ -16,10 +16,10 @@ use Rattle.zone_model.specs.Lines.{lines_of}
 use Rattle.zone_text.proofs.CutLemmas.{Begins, at_start, behind_feed, cut_lines}
 use Rattle.session_talk.specs.Answering.{IsFed}
 
-front-of : (a b : List ℕ) → take (length a) (a ++ b) ≡ a
+pub front-of : (a b : List ℕ) → take (length a) (a ++ b) ≡ a
 front-of a b = take_at a b (length a) refl
 
-rest-of : (a b : List ℕ) → drop (length a) (a ++ b) ≡ b
+pub rest-of : (a b : List ℕ) → drop (length a) (a ++ b) ≡ b
 rest-of [] b = refl
 rest-of (x ∷ a) b = rest-of a b
 
@@ -27,7 +27,7 @@ at-end : (a : List ℕ) (x : ℕ) (b : List ℕ) → get_or (a ++ x ∷ b) (leng
 at-end [] x b = refl
 at-end (y ∷ a) x b = at-end a x b
 
-begins-behind : (done more : List ℕ) → IsFed done → Begins (done ++ more) (length done)
+pub begins-behind : (done more : List ℕ) → IsFed done → Begins (done ++ more) (length done)
 begins-behind done more (inl none) = at_start (ap length none)
 begins-behind done more (inr fed) =
     let same : done ++ more ≡ fed.0 ++ 10 ∷ more = ap (λ (l : List ℕ). l ++ more) fed.1 ∙ append_assoc fed.0 (10 ∷ []) more in

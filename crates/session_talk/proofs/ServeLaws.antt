@@ -10,6 +10,7 @@ use Rattle.std.proofs.lemmas.List.Sums.{fails_before_first, position_or_len_is}
 use Rattle.zone_text.proofs.LineLemmas.{found, missed}
 use Rattle.session_talk.proofs.FedLaws.{feed_at}
 use Rattle.zone_model.specs.Lines.{lines_of}
+use Rattle.zone_model.specs.Names.{Name}
 use Rattle.job_model.specs.Commands.{Command}
 use Rattle.job_model.specs.Reports.{end_text}
 use Rattle.job_model.specs.Sessions.{Said, Session, Step, all_said, first_session, left_open, session_lines}
@@ -30,7 +31,7 @@ use Rattle.session_lines.specs.Printing.{Printing, with_refused, with_text}
 use Rattle.session_lines.specs.Taking.{IsUnbroken, line_end}
 use Rattle.session_talk.specs.Answering.{AnswersLines, EndsLines, IsFed, SoFar, Way}
 use Rattle.session_talk.specs.Entries.{Entry, Refused, at_ready, commands_in, outcomes_in, said_in, with_entries}
-use Rattle.session_talk.specs.Serving.{AtWork, Finished, IsDue, IsTooLong, LeftOpen, LinesDone, Settled, Stands}
+use Rattle.session_talk.specs.Serving.{AtWork, BeginsAt, Finished, IsDue, IsTooLong, LeftOpen, LinesDone, Settled, Stands}
 use Rattle.session_talk.specs.Workers.{EndsAt, Opened}
 use Rattle.session_talk.specs.declared.worker.LastVersion.{LastVersion}
 use Rattle.session_talk.proofs.EntryLaws.{commands-append, outcomes-append, said-append, with-append, with-written}
@@ -241,3 +242,36 @@ passed_as (Err y) e x f k = let s : e ≡ x = cc in ap Err (f ∙ s)
 pub either_end : (b : Bool) (P : Type 0) (n counter many : ℕ) → (b ≡ true → P) → (b ≡ false → counter ≤ many) → n ≤ counter → P ⊎ (n ≤ many)
 either_end true P n counter many t f le = inl (t refl)
 either_end false P n counter many t f le = inr (let m : counter ≤ many = f refl in omega arith)
+
+-- ---- the beginning
+
+module _ {ran : List Command → List Outcome → Type 0} {way : Way} {origin : Name} {first names : ℕ} {given : List ℕ} {held : Held} {pending : List ℕ} (b : BeginsAt ran way origin first names given held pending) where
+  -- the first line is to be written
+  pub begun_so_far : {ran' : List Command → List Outcome → Type 0} {s : Session} {p : Printing} {lines : ℕ} → SoFar ran' way.opened first [] [] s p lines → SoFar ran' way.opened way.first [] [] s p lines
+  begun_so_far {ran'} {s} {p} {lines} h = subst (λ (n : ℕ). SoFar ran' way.opened n [] [] s p lines) (sym b.first_is) h
+
+  -- it was written
+  pub begun_work : (ran' : List Command → List Outcome → Type 0) (now : Held) (s : Session) (p : Printing) (lines : ℕ) (text : List ℕ) → Grows held now text → SoFar ran' way.opened way.first [] text s p lines → AtWork ran' way given now s p lines pending
+  begun_work ran' now s p lines text g h = record {
+    done = [];
+    written = text;
+    fed = inl refl;
+    gave = b.gave ∙ ap (λ (l : List ℕ). l ++ pending) (sym (append-nil way.given));
+    grew = subst (λ (x : Held). Grows x now text) (sym b.held_is) g;
+    so_far = h;
+  }
+
+  -- or a front of it
+  pub begun_stands : (now : Held) (text : List ℕ) → GrowsByFront held now text → AnswersLines way.opened way.first [] text → Stands way given now
+  begun_stands now text g a = record {
+    lines = [];
+    rest = pending;
+    gave = b.gave ∙ ap (λ (l : List ℕ). l ++ pending) (sym (append-nil way.given));
+    text = text;
+    due = inl a;
+    grew = subst (λ (x : Held). GrowsByFront x now text) (sym b.held_is) g;
+  }
+
+pub err_left : {A E : Type 0} (P Q : Type 0) (r : Result A E) → OnErr r P → OnErr r (P ⊎ Q)
+err_left P Q (Ok x) p = tt
+err_left P Q (Err e) p = inl p

@@ -1,5 +1,6 @@
 -- What a session has read and written.
 use Rattle.std.specs.Prelude.{◌≡◌, ◌⊎◌, ◌<◌, ◌≤◌, ◌^◌, ◌+◌, ℕ, Bool, List, [], ◌∷◌, ◌++◌, length, take}
+use Rattle.zone_model.specs.Names.{Name}
 use Rattle.job_model.specs.Commands.{Command}
 use Rattle.job_model.specs.Sessions.{Session, left_open}
 use Rattle.job_script.specs.declared.outcomes.Outcome.{Outcome}
@@ -87,3 +88,12 @@ pub record MayServe (is_settled : List ℕ → List ℕ → Type 0) (has_run : W
   pub same : way.opened.origin ≡ origin
   pub at_work : AtWork (has_run way) way given held s p lines pending
   pub may : MayTalk is_settled way
+
+-- A session begins so: its worker has run nothing, and what was given behind its beginning are bytes that were taken.
+pub record BeginsAt (has_run : List Command → List Outcome → Type 0) (way : Way) (origin : Name) (first names : ℕ) (given : List ℕ) (held : Held) (pending : List ℕ) : Type 0 where
+  pub ran : has_run [] []
+  pub origin_is : way.opened.origin ≡ origin
+  pub first_is : way.first ≡ first
+  pub names_are : length way.opened.zone ≡ names
+  pub gave : given ≡ way.given ++ pending
+  pub held_is : way.held ≡ held

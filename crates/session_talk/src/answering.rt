@@ -69,6 +69,7 @@ pub fn begin<W: Worker>(
     requires same { W.origin worker ≡ origin.now }
     requires free { W.holds worker ≡ false }
     ensures sound { IfOk result (λ a. IsSound (W.is_ready a.worker) a.origin.now (W.origin a.worker) (W.holds a.worker) (session_view a.session) a.replies.next a.lines) }
+    ensures begun { IfOk result (λ a. (a.origin.now ≡ origin.now) × (a.lines + 1 ≡ first)) }
     ensures so_far { (o : Opened) → o.origin ≡ origin.now → length o.zone ≡ names → W.has_run worker o [] []
         → IfOk result (λ a. SoFar (W.has_run a.worker o) o first [] [] (session_view a.session) (printing a.replies) a.lines) }
 {

@@ -4,9 +4,9 @@
 mod answering;
 mod reads;
 mod serving;
+mod whole;
 mod worker;
 
-pub use answering::{Answering, begin};
-pub use reads::serve_lines;
-pub use serving::{Stop, answer_due, finish};
+pub use serving::Stop;
+pub use whole::serve;
 pub use worker::{LastVersion, Worker};

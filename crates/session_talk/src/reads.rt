@@ -31,6 +31,8 @@ pub fn serve_lines<W: Worker, K: Sink, T: Talk<K>>(
     ensures origin { OnOk result (answering.new.origin ≡ answering.old.origin) }
     ensures ended { OnOk result (IsTrue (T.ended talk.new) ⊎ (2 ^ 46 ≤ length (T.given talk.new))) }
     ensures quiet_sink { (IsErrOf result Stop.Sink → ⊥) → K.faults sink.new ≡ K.faults sink.old }
+    ensures sink_fault { IsErrOf result Stop.Sink → Rose (K.faults sink.old) (K.faults sink.new) }
+    ensures talk_fault { IsErrOf result Stop.Fault → Rose (T.faults talk.old) (T.faults talk.new) }
     ensures quiet_talk { (IsErrOf result Stop.Fault → ⊥) → T.faults talk.new ≡ T.faults talk.old }
     ensures ok { (way : Way) → way.opened.origin ≡ answering.old.origin.now
         → AtWork (W.has_run answering.old.worker way.opened) way (T.given talk.old) (K.held sink.old) (session_view answering.old.session) (printing answering.old.replies) answering.old.lines intake.old.bytes

@@ -1,0 +1,10 @@
+pub mod ZoneLaws
+pub mod CutLaws
+pub mod EndLaws
+pub mod ServedLaws
+pub mod SeatLaws
+pub mod StartLaws
+pub mod ReadingLaws
+pub mod TakingLaws
+pub mod ErrorLaws
+pub mod LiveLaws

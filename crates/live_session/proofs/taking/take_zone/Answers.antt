@@ -1,0 +1,28 @@
+use Rattle.std.proofs.Common.{◌≡◌, ◌∙◌, ◌≤◌, ◌+◌, ◌^◌, ◌++◌, List, ℕ, Ok, Err, length, sym, ap, arith, subst, length-append}
+use Rattle.live_session.proofs.ErrorLaws.{same_error}
+use Rattle.live_session.proofs.TakingLaws.{long_rest, took_cut, within_zone}
+use Rattle.live_session.proofs.taking.take_zone.Goals as goal
+
+pub returns-then-came-clause-took : goal.returns-then-came-clause-took
+returns-then-came-clause-took g c =
+    let i = c.reads.invariant in
+    let size : length (c.reads.zone.bytes.items ++ c.reads.intake.bytes) ≡ length c.reads.zone.bytes.items + length c.reads.intake.bytes = length-append c.reads.zone.bytes.items c.reads.intake.bytes in
+    took_cut _ _ (c.reads.zone.bytes.items ++ c.reads.intake.bytes) _ c.take_lines.new.intake c.take_lines.new.zone (c.in_ok-came.ensures.came (ap Ok c.if-came.true)) i.gave (omega (arith, size, i.zone.short, i.most))
+    (λ h. i.told (sym c.in_ok-came.ensures.ended ∙ h))
+
+pub take-requires : goal.take-requires
+take-requires g c =
+    let i = c.reads.invariant in
+    let n = c.in_ok-came.ensures.not_yet (ap Ok c.if-came.false) in
+    let bytes = c.take_lines.new.zone.bytes.items ++ c.take_lines.new.intake.bytes in
+    record {
+      settled = subst (λ (l : List ℕ). g.T.Talk.is_settled l (g.K.Sink.held c.args.sink.now).taken) (sym (i.gave ∙ ap (λ (l : List ℕ). g.T.Talk.given c.args.talk.now ++ l) (sym n.2)))
+          (c.requires.may bytes (within_zone c.take_lines.new.zone c.take_lines.new.intake.bytes n.0 n.1));
+    }
+
+pub returns-in_err-take-clause-too_long : goal.returns-in_err-take-clause-too_long
+returns-in_err-take-clause-too_long g c = λ is.
+    let i = c.reads.invariant in
+    let n = c.in_ok-came.ensures.not_yet (ap Ok c.if-came.false) in
+    let t = c.in_err-take.ensures.too_long (ap Err (sym (same_error c.from_residual-in_err-take.result _ _ c.from_residual-in_err-take.ensures.1 is))) in
+    (c.take_lines.new.zone.bytes.items ++ c.take_lines.new.intake.bytes, t.2 ∙ i.gave ∙ ap (λ (l : List ℕ). g.T.Talk.given c.args.talk.now ++ l) (sym n.2), long_rest c.take_lines.new.zone c.take_lines.new.intake.bytes n.0 n.1 t.0)

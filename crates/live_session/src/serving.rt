@@ -1,0 +1,190 @@
+//! A session from its first byte to its last.
+ghost use Rattle.std.specs.Prelude.{◌≡◌, ◌⊎◌, ◌<◌, ◌≤◌, ◌+◌, ◌++◌, ◌^◌, ℕ, List, Some, false, true, All, IsSome, IsTrue, IsErrOf, IfOk, IfSome, OnOk, length, slice_get};
+ghost use Rattle.live_session.specs.Prelude.{IsZone, Held, Reads, Rose, Version, Way, entries_of_items, lines_of, passes_fed, zone_of};
+ghost use Rattle.live_session.specs.Dues.{IsSettled};
+ghost use Rattle.live_session.specs.Ends.{EndedSo, Fits, ServedSo, StartsOn, ZoneStops};
+ghost use Rattle.live_session.specs.Prelude.{AreAll, AreNew, CanBeDumped, Entries, MayTalk, OpensAt, known_at, known_in, table_size};
+ghost use Rattle.live_session.specs.Zones.{TookZone};
+
+use crate::chunks::chunks_for;
+use crate::early::EarlyEnd;
+use crate::seat::Seat;
+use crate::taking::take_zone;
+use crate::zone::ZoneBytes;
+use dns_name::Name;
+use index_items::{zone_items, zone_size};
+use job_commands::{Room, ZoneLaw};
+use job_threads::{open_for_one, seat_worker, table_for_one};
+use master_file::{Zone, read_zone};
+use outer_io::{Sink, Talk};
+use qp_multi::{Blank, Index, Named, OpenRefusal, Pass};
+use session_lines::Intake;
+use session_talk::serve;
+use std::alloc::Global;
+use std::marker::Brand;
+use std::sync::Wait;
+use trie_write::Item;
+use zone_model::ZoneKind;
+use zone_text::ZoneRefusal;
+
+// Serves the lines behind a zone whose index was opened.
+fn serve_opened<R: Wait, N: Named, K: Sink, T: Talk<K>>(
+    rt: &R,
+    alloc: Global,
+    origin: &Name,
+    index: &Index<ZoneLaw, N>,
+    passes: Vec<Pass<N>>,
+    names: u64,
+    first: u64,
+    intake: &mut Intake,
+    talk: &mut T,
+    sink: &mut K,
+) -> Result<bool, EarlyEnd>
+    requires count { length passes.items ≡ 2 }
+    requires here { All (λ p. (IsSome p.seat) × (p.place ≡ index.now.place)) passes.items }
+    requires opens { All (λ p. OpensAt origin.now (known_at p.seat)) passes.items }
+    requires all { AreAll 2 (known_in passes.items) }
+    requires two { (table_size index.now).passes ≡ 2 }
+    requires first { 0 < first }
+    requires few { first + length intake.old.bytes ≤ 2 ^ 26 }
+    requires may { intake.old.ended ≡ false → (es : Entries) × (way : Way) × AreNew es (known_in passes.items) × (length es ≡ names)
+        × StartsOn way (table_size index.now).chunks origin.now es first (T.given talk.old) (K.held sink.old) intake.old.bytes × MayTalk T.is_settled way }
+    ensures served { (es : Entries) (way : Way) → AreNew es (known_in passes.items) → length es ≡ names
+        → StartsOn way (table_size index.now).chunks origin.now es first (T.given talk.old) (K.held sink.old) intake.old.bytes → Fits way
+        → ServedSo way (T.given talk.old) (T.given talk.new) (K.held sink.old) (K.held sink.new) result }
+    ensures unread { intake.old.ended ≡ true → (talk.new ≡ talk.old) × (IsErrOf result EarlyEnd.TalkFault → ⊥) }
+    ensures ended { intake.old.ended ≡ false → OnOk result (IsTrue (T.ended talk.new) ⊎ (2 ^ 46 ≤ length (T.given talk.new))) }
+    ensures quiet_sink { (IsErrOf result EarlyEnd.SinkFault → ⊥) → K.faults sink.new ≡ K.faults sink.old }
+    ensures sink_fault { IsErrOf result EarlyEnd.SinkFault → Rose (K.faults sink.old) (K.faults sink.new) }
+    ensures quiet_talk { (IsErrOf result EarlyEnd.TalkFault → ⊥) → T.faults talk.new ≡ T.faults talk.old }
+    ensures talk_fault { IsErrOf result EarlyEnd.TalkFault → Rose (T.faults talk.old) (T.faults talk.new) }
+{
+    let seat = Seat {
+        rt,
+        alloc,
+        origin,
+        index,
+        passes: seat_worker(index, origin, passes),
+        room: Room::new(alloc)?,
+    };
+    let refused = serve(alloc, origin, seat, first, names, intake, talk, sink)?;
+    Ok(refused)
+}
+
+// Serves the lines behind a zone that stands as these items, on a table that is named.
+fn serve_named<R: Wait, N: Named, K: Sink, T: Talk<K>>(
+    rt: &R,
+    alloc: Global,
+    origin: &Name,
+    blank: Blank<ZoneLaw>,
+    items: &[Item],
+    first: u64,
+    intake: &mut Intake,
+    talk: &mut T,
+    sink: &mut K,
+) -> Result<bool, EarlyEnd>
+    requires named { slice_get N.tables 0 ≡ Some blank.shared.table.shared.table_id }
+    requires passes { blank.shared.table.shared.key.passes ≡ passes_fed 1 }
+    requires zone { IsZone origin.now (entries_of_items items.now) }
+    requires first { 0 < first }
+    requires few { first + length intake.old.bytes ≤ 2 ^ 26 }
+    requires may { intake.old.ended ≡ false → (way : Way)
+        × StartsOn way blank.shared.table.shared.key.chunks origin.now (entries_of_items items.now) first (T.given talk.old) (K.held sink.old) intake.old.bytes × (Fits way → MayTalk T.is_settled way) }
+    ensures served { (way : Way) → StartsOn way blank.shared.table.shared.key.chunks origin.now (entries_of_items items.now) first (T.given talk.old) (K.held sink.old) intake.old.bytes
+        → ServedSo way (T.given talk.old) (T.given talk.new) (K.held sink.old) (K.held sink.new) result }
+    ensures unread { intake.old.ended ≡ true → (talk.new ≡ talk.old) × (IsErrOf result EarlyEnd.TalkFault → ⊥) }
+    ensures ended { intake.old.ended ≡ false → OnOk result (IsTrue (T.ended talk.new) ⊎ (2 ^ 46 ≤ length (T.given talk.new))) }
+    ensures quiet_sink { (IsErrOf result EarlyEnd.SinkFault → ⊥) → K.faults sink.new ≡ K.faults sink.old }
+    ensures sink_fault { IsErrOf result EarlyEnd.SinkFault → Rose (K.faults sink.old) (K.faults sink.new) }
+    ensures quiet_talk { (IsErrOf result EarlyEnd.TalkFault → ⊥) → T.faults talk.new ≡ T.faults talk.old }
+    ensures talk_fault { IsErrOf result EarlyEnd.TalkFault → Rose (T.faults talk.old) (T.faults talk.new) }
+{
+    let names = items.len() as u64;
+    match open_for_one::<N>(alloc, blank, origin, items) {
+        Ok((index, passes)) => serve_opened::<R, N, K, T>(
+            rt, alloc, origin, &index, passes, names, first, intake, talk, sink,
+        ),
+        Err(OpenRefusal::Full { cells, limit }) => Err(EarlyEnd::DoesNotFit { cells, limit }),
+        Err(OpenRefusal::Memory) => Err(EarlyEnd::Memory),
+    }
+}
+
+// The zone that octets say. It is one of the origin.
+fn zone_in(alloc: Global, bytes: &[u8], origin: &Name) -> Result<Zone, ZoneRefusal>
+    requires short { length bytes.now ≤ 2 ^ 24 }
+    ensures zone { Reads result (λ z. z.pairs) (zone_of origin.now (lines_of bytes.now)) }
+    ensures of_origin { IfOk result (λ z. CanBeDumped origin.now z.pairs) }
+{
+    let _wire = origin.wire(); // for the proof: it is a name
+    read_zone(alloc, bytes, origin)
+}
+
+// Why a session ends whose zone its reader refused.
+fn zone_end(refusal: ZoneRefusal) -> EarlyEnd
+    ensures { ZoneStops refusal result }
+{
+    match refusal.kind {
+        ZoneKind::Memory => EarlyEnd::Memory,
+        _ => EarlyEnd::ZoneRefused(refusal),
+    }
+}
+
+// The session over a zone that was taken.
+fn live_on<R: Wait, K: Sink, T: Talk<K>>(
+    rt: &R,
+    alloc: Global,
+    origin: &Name,
+    asked: Option<u32>,
+    taken: ZoneBytes,
+    intake: &mut Intake,
+    talk: &mut T,
+    sink: &mut K,
+) -> Result<bool, EarlyEnd>
+    requires asked { IfSome asked (λ n. (16 ≤ n) × (n ≤ 4096)) }
+    requires took { (before : List ℕ) × TookZone before (T.given talk.old) (T.ended talk.old) intake.old taken
+        × ((bytes : List ℕ) (held : Held) → IsSettled asked origin.now bytes (K.held sink.old) held → T.is_settled (before ++ bytes) held.taken) }
+    ensures ended_so { (before : List ℕ) → TookZone before (T.given talk.old) (T.ended talk.old) intake.old taken
+        → (bytes : List ℕ) × (T.given talk.new ≡ before ++ bytes) × EndedSo asked origin.now bytes (T.ended talk.new) (K.held sink.old) (K.held sink.new) result }
+    ensures ended { OnOk result (IsTrue (T.ended talk.new) ⊎ (2 ^ 46 ≤ length (T.given talk.new))) }
+    ensures quiet_sink { (IsErrOf result EarlyEnd.SinkFault → ⊥) → K.faults sink.new ≡ K.faults sink.old }
+    ensures sink_fault { IsErrOf result EarlyEnd.SinkFault → Rose (K.faults sink.old) (K.faults sink.new) }
+    ensures quiet_talk { (IsErrOf result EarlyEnd.TalkFault → ⊥) → T.faults talk.new ≡ T.faults talk.old }
+    ensures talk_fault { IsErrOf result EarlyEnd.TalkFault → Rose (T.faults talk.old) (T.faults talk.new) }
+{
+    let first = taken.lines + 1;
+    let zone = match zone_in(alloc, &taken.bytes, origin) {
+        Ok(zone) => zone,
+        Err(refusal) => return Err(zone_end(refusal)),
+    };
+    drop(taken);
+    let size = zone_size(alloc, &zone)?;
+    let chunks = chunks_for(asked, size.cells());
+    let blank = table_for_one(alloc, chunks)?;
+    let items = zone_items(alloc, zone)?;
+    serve_named::<R, Brand, K, T>(rt, alloc, origin, blank, &items, first, intake, talk, sink)
+}
+
+/// Reads a zone up to a line `%%`, and answers the lines behind it, each before more is asked for, to the end of input or to the 2^46th read.
+/// Tells whether anything was refused. Where the number of chunks isn't asked for, it is the least from 64 to 4,096 that has room for four
+/// times the zone's cells, or 4,096.
+pub fn live<R: Wait, K: Sink, T: Talk<K>>(
+    rt: &R,
+    alloc: Global,
+    origin: &Name,
+    asked: Option<u32>,
+    talk: &mut T,
+    sink: &mut K,
+) -> Result<bool, EarlyEnd>
+    requires asked { IfSome asked (λ n. (16 ≤ n) × (n ≤ 4096)) }
+    requires may { (bytes : List ℕ) (held : Held) → IsSettled asked origin.now bytes (K.held sink.old) held → T.is_settled (T.given talk.old ++ bytes) held.taken }
+    ensures ended_so { (bytes : List ℕ) × (T.given talk.new ≡ T.given talk.old ++ bytes) × EndedSo asked origin.now bytes (T.ended talk.new) (K.held sink.old) (K.held sink.new) result }
+    ensures ended { OnOk result (IsTrue (T.ended talk.new) ⊎ (2 ^ 46 ≤ length (T.given talk.new))) }
+    ensures quiet_sink { (IsErrOf result EarlyEnd.SinkFault → ⊥) → K.faults sink.new ≡ K.faults sink.old }
+    ensures sink_fault { IsErrOf result EarlyEnd.SinkFault → Rose (K.faults sink.old) (K.faults sink.new) }
+    ensures quiet_talk { (IsErrOf result EarlyEnd.TalkFault → ⊥) → T.faults talk.new ≡ T.faults talk.old }
+    ensures talk_fault { IsErrOf result EarlyEnd.TalkFault → Rose (T.faults talk.old) (T.faults talk.new) }
+{
+    let mut intake = Intake::new(alloc)?;
+    let taken = take_zone(alloc, &mut intake, talk, sink)?;
+    live_on(rt, alloc, origin, asked, taken, &mut intake, talk, sink)
+}
