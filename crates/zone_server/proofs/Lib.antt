@@ -1,0 +1,8 @@
+mod ShowLaws
+mod ServingLaws
+mod FindLaws
+mod ChangeLaws
+mod NoteLaws
+mod OpeningLaws
+mod LoadLaws
+mod TransferLaws

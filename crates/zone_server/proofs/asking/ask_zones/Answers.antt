@@ -1,0 +1,40 @@
+use Rattle.std.proofs.Common.{sym, subst}
+use Rattle.zone_answer.specs.Answers.{answer}
+use Rattle.zone_answer.specs.Parts.{IsGiven}
+use Rattle.zone_answer.specs.declared.kind.Kind.{Kind}
+use Rattle.qp_multi.specs.Passes.{version_seen}
+use Rattle.zone_table.specs.Locations.{IsZoneOf}
+use Rattle.zone_table.specs.Passes.{table_known}
+use Rattle.zone_server.proofs.ServingLaws.{asked_reply, asked_serving, looked, nothing_asked, pass_in}
+use Rattle.zone_server.proofs.asking.ask_zones.Goals as goal
+
+pub locate-located-requires : goal.locate-located-requires
+locate-located-requires g c = record { pass = pass_in g.H.Home.zones c.args.zones.now c.requires.zones c.args.pass.now c.requires.pass.pass }
+
+pub returns-in_default-clause-pass : goal.returns-in_default-clause-pass
+returns-in_default-clause-pass g c = looked g.H.Home.zones c.args.zones.now c.requires.zones c.args.pass.now c.locate-located.new.self c.requires.pass c.locate-located.ensures.others c.locate-located.ensures.pass
+
+pub returns-in_default-clause-reply : goal.returns-in_default-clause-reply
+returns-in_default-clause-reply g c =
+    nothing_asked g.H.Home.zones c.args.zones.now c.requires.zones c.args.pass.now c.locate-located.new.self c.requires.pass c.locate-located.ensures.others c.locate-located.ensures.pass
+    c.args.name.now (λ origin zone. IsGiven (g.S.RowSink.has c.args.rows.now) (answer origin zone c.args.name.now c.args.rtype)) c.locate-located.result.version c.locate-located.ensures.version
+    (subst (IsZoneOf c.args.zones.now.origins.items (version_seen (table_known c.locate-located.new.self).seen) c.args.name.now) c.in_default.is c.locate-located.ensures.zone)
+
+pub returns-in_err-shown-clause-pass : goal.returns-in_err-shown-clause-pass
+returns-in_err-shown-clause-pass g c =
+    asked_serving g.H.Home.zones c.args.zones.now c.requires.zones c.args.pass.now c.locate-located.new.self c.requires.pass c.locate-located.ensures.others c.locate-located.ensures.pass
+    c.in-Some.zone c.zone-place.result.now c.ask_index.new.pass c.zone-place.ensures.value c.ask_index.ensures.here c.ask_index.ensures.place c.zone-place.ensures.known c.ask_index.ensures.grows
+
+pub returns-clause-pass : goal.returns-clause-pass
+returns-clause-pass g c =
+    asked_serving g.H.Home.zones c.args.zones.now c.requires.zones c.args.pass.now c.locate-located.new.self c.requires.pass c.locate-located.ensures.others c.locate-located.ensures.pass
+    c.in-Some.zone c.zone-place.result.now c.ask_index.new.pass c.zone-place.ensures.value c.ask_index.ensures.here c.ask_index.ensures.place c.zone-place.ensures.known c.ask_index.ensures.grows
+
+pub returns-clause-reply : goal.returns-clause-reply
+returns-clause-reply g c =
+    asked_reply g.H.Home.zones c.args.zones.now c.requires.zones c.args.pass.now c.locate-located.new.self c.requires.pass c.locate-located.ensures.others c.locate-located.ensures.pass
+    c.in-Some.zone c.zone-place.result.now c.ask_index.new.pass c.zone-place.ensures.value c.ask_index.ensures.here c.ask_index.ensures.place c.zone-place.ensures.known
+    c.args.name.now (λ origin zone. IsGiven (g.S.RowSink.has c.ask_index.new.rows) (answer origin zone c.args.name.now c.args.rtype)) c.locate-located.result.version c.locate-located.ensures.version
+    c.origin-origin.result.now c.origin-origin.ensures
+    (subst (IsZoneOf c.args.zones.now.origins.items (version_seen (table_known c.locate-located.new.self).seen) c.args.name.now) c.in-Some.is c.locate-located.ensures.zone)
+    c.in_ok-shown.shown.version c.in_ok-shown.shown.told c.in_ok-shown.ensures.shown

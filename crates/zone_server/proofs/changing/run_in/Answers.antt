@@ -1,0 +1,65 @@
+use Rattle.std.proofs.Common.{refl, ◌<◌, length}
+use Rattle.std.specs.List.{slice_get}
+use Rattle.std.proofs.lemmas.Option.{slice_get_within}
+use Rattle.job_script.specs.Views.{asked_view}
+use Rattle.qp_multi.specs.Passes.{known_at}
+use Rattle.job_commands.specs.Commands.{BlockRan, BlockWants}
+use Rattle.zone_table.proofs.Lists.{if_ok}
+use Rattle.zone_table.proofs.PassLaws.{with_zone}
+use Rattle.zone_server.specs.Changes.{HappensIn}
+use Rattle.zone_server.specs.Homes.{setup_of}
+use Rattle.zone_server.specs.Servings.{known_of}
+use Rattle.zone_server.proofs.ChangeLaws.{on_err, ran_grows}
+use Rattle.zone_server.proofs.ServingLaws.{asked_serving, happened_there, opens_at, pass_in, served_at, setup_at}
+use Rattle.zone_server.proofs.changing.run_in.Goals as goal
+
+pub zone-index-requires : goal.zone-index-requires
+zone-index-requires g c = slice_get_within c.args.zones.now.origins.items c.args.zone c.args.origin.now c.requires.zone
+
+pub zone-place-requires-clause-pass : goal.zone-place-requires-clause-pass
+zone-place-requires-clause-pass g c = pass_in g.H.Home.zones c.args.zones.now c.requires.zones c.args.pass.now c.requires.pass.pass
+
+pub zone-place-requires-clause-zone : goal.zone-place-requires-clause-zone
+zone-place-requires-clause-zone g c = slice_get_within c.args.zones.now.origins.items c.args.zone c.args.origin.now c.requires.zone
+
+pub run_block-requires-clause-opens : goal.run_block-requires-clause-opens
+run_block-requires-clause-opens g c = opens_at g.H.Home.zones c.args.zones.now c.requires.zones c.args.pass.now c.requires.pass c.args.zone c.args.origin.now c.requires.zone c.zone-place.result.now c.zone-place.ensures.known
+
+pub returns-clause-pass : goal.returns-clause-pass
+returns-clause-pass g c =
+    let served = g.H.Home.zones in
+    let s = served_at served c.args.zones.now c.requires.zones c.args.zone c.args.origin.now c.requires.zone in
+    let setup = setup_at served c.args.zones.now c.requires.zones c.args.pass.now c.requires.pass c.args.zone c.args.origin.now c.requires.zone c.zone-place.result.now c.zone-place.ensures.known c.zone-index.result.now c.zone-index.ensures.value in
+    asked_serving served c.args.zones.now c.requires.zones c.args.pass.now c.args.pass.now c.requires.pass refl (pass_in served c.args.zones.now c.requires.zones c.args.pass.now c.requires.pass.pass)
+    c.args.zone c.zone-place.result.now c.run_block.new.pass c.zone-place.ensures.value c.run_block.ensures.here c.run_block.ensures.place c.zone-place.ensures.known
+    (ran_grows (setup_of s.0) (asked_view c.args.block.now) c.args.block.now.ending (known_at c.zone-place.result.now.seat) (known_at c.run_block.new.pass.seat) c.run_block.result
+    (c.run_block.ensures.ran (setup_of s.0) setup) (c.run_block.ensures.wants (setup_of s.0) setup))
+
+pub returns-clause-ran : goal.returns-clause-ran
+returns-clause-ran g c =
+    let served = g.H.Home.zones in
+    let s = served_at served c.args.zones.now c.requires.zones c.args.zone c.args.origin.now c.requires.zone in
+    let setup = setup_at served c.args.zones.now c.requires.zones c.args.pass.now c.requires.pass c.args.zone c.args.origin.now c.requires.zone c.zone-place.result.now c.zone-place.ensures.known c.zone-index.result.now c.zone-index.ensures.value in
+    let asked = asked_view c.args.block.now in
+    let ends = c.args.block.now.ending in
+    let seat = c.zone-place.result.now in
+    let next = c.run_block.new.pass in
+    if_ok (BlockRan (setup_of s.0) asked ends (known_at seat.seat) (known_at next.seat))
+    (λ o. HappensIn served c.args.origin.now (λ x v w. BlockRan (setup_of x) asked ends v w o) (known_of c.args.pass.now) (known_of (with_zone c.args.pass.now c.args.zone next))) c.run_block.result
+    (λ o b. happened_there served c.args.zones.now c.requires.zones c.args.pass.now c.args.pass.now c.requires.pass refl (pass_in served c.args.zones.now c.requires.zones c.args.pass.now c.requires.pass.pass)
+    c.args.zone seat next c.zone-place.ensures.value c.run_block.ensures.here c.run_block.ensures.place c.zone-place.ensures.known (λ x v w. BlockRan (setup_of x) asked ends v w o) c.args.origin.now c.requires.zone b)
+    (c.run_block.ensures.ran (setup_of s.0) setup)
+
+pub returns-clause-wants : goal.returns-clause-wants
+returns-clause-wants g c =
+    let served = g.H.Home.zones in
+    let s = served_at served c.args.zones.now c.requires.zones c.args.zone c.args.origin.now c.requires.zone in
+    let setup = setup_at served c.args.zones.now c.requires.zones c.args.pass.now c.requires.pass c.args.zone c.args.origin.now c.requires.zone c.zone-place.result.now c.zone-place.ensures.known c.zone-index.result.now c.zone-index.ensures.value in
+    let asked = asked_view c.args.block.now in
+    let seat = c.zone-place.result.now in
+    let next = c.run_block.new.pass in
+    on_err (BlockWants (setup_of s.0) asked (known_at seat.seat) (known_at next.seat))
+    (HappensIn served c.args.origin.now (λ x v w. BlockWants (setup_of x) asked v w) (known_of c.args.pass.now) (known_of (with_zone c.args.pass.now c.args.zone next))) c.run_block.result
+    (λ b. happened_there served c.args.zones.now c.requires.zones c.args.pass.now c.args.pass.now c.requires.pass refl (pass_in served c.args.zones.now c.requires.zones c.args.pass.now c.requires.pass.pass)
+    c.args.zone seat next c.zone-place.ensures.value c.run_block.ensures.here c.run_block.ensures.place c.zone-place.ensures.known (λ x v w. BlockWants (setup_of x) asked v w) c.args.origin.now c.requires.zone b)
+    (c.run_block.ensures.wants (setup_of s.0) setup)

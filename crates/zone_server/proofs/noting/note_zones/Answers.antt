@@ -1,0 +1,21 @@
+use Rattle.std.proofs.Common.{ap, subst}
+use Rattle.std.proofs.Common.{List}
+use Rattle.zone_model.specs.Names.{Name}
+use Rattle.zone_server.proofs.NoteLaws.{is_note, tells}
+use Rattle.zone_server.proofs.ServingLaws.{knows_same, pass_in, serving_same}
+use Rattle.zone_server.proofs.noting.note_zones.Goals as goal
+
+pub note-requires : goal.note-requires
+note-requires g c = record { pass = pass_in g.H.Home.zones c.args.zones.now c.requires.zones c.args.pass.now c.requires.pass.pass }
+
+pub returns-clause-pass : goal.returns-clause-pass
+returns-clause-pass g c = serving_same g.H.Home.zones c.args.zones.now c.requires.zones c.args.pass.now c.note.new.self c.requires.pass c.note.ensures.pass c.note.ensures.same
+
+pub returns-clause-same : goal.returns-clause-same
+returns-clause-same g c = knows_same c.args.pass.now c.note.new.self c.note.ensures.same
+
+pub returns-clause-of : goal.returns-clause-of
+returns-clause-of g c = is_note g.H.Home.zones c.args.zones.now c.requires.zones c.note.result c.note.ensures.of
+
+pub returns-clause-told : goal.returns-clause-told
+returns-clause-told g c = tells c.args.pass.now c.note.result c.note.ensures.told

@@ -1,0 +1,13 @@
+pub mod Asks
+pub mod Attachings
+pub mod Builds
+pub mod Changes
+pub mod Homes
+pub mod Loadings
+pub mod Notes
+pub mod Openings
+pub mod Prelude
+pub mod Replies
+pub mod Servings
+pub mod Transfers
+pub mod Updates

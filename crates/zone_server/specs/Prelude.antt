@@ -1,0 +1,29 @@
+-- The words that this crate's clauses cite, passed on from one place. Declares nothing.
+pub use Rattle.std.specs.List.{list_any}
+pub use Rattle.zone_model.specs.DataWords.{data_type}
+pub use Rattle.zone_model.specs.Lines.{lines_of}
+pub use Rattle.zone_model.specs.MasterFile.{zone_of}
+pub use Rattle.zone_model.specs.Names.{Name, same_name}
+pub use Rattle.zone_text.specs.Views.{Reads}
+pub use Rattle.job_model.specs.Outcomes.{RolledBack}
+pub use Rattle.job_script.specs.Outcomes.{EndsBlock, ended_view}
+pub use Rattle.job_script.specs.Views.{asked_view}
+pub use Rattle.report_laws.specs.Changes.{AllSaid, IsSaid}
+pub use Rattle.shared_cells.specs.History.{IsPartOf}
+pub use Rattle.zone_answer.specs.Prelude.{Version, answer, respond, IsGiven, IsResponded, Shows, ShowsSome}
+pub use Rattle.qp_multi.specs.Passes.{Known, known_at}
+pub use Rattle.job_commands.specs.Commands.{BlockRan, BlockWants}
+pub use Rattle.job_commands.specs.Histories.{IsZone, StandsAs}
+pub use Rattle.zone_table.specs.Openings.{entries_in}
+pub use Rattle.zone_server.specs.Asks.{Needs, Takes, adds}
+pub use Rattle.zone_server.specs.Attachings.{Attached, Detached, attach_told}
+pub use Rattle.zone_server.specs.Builds.{AddsZone, OpensFor}
+pub use Rattle.zone_server.specs.Changes.{Changes, HappensIn, NoneHas, Ran, ended_of}
+pub use Rattle.zone_server.specs.Homes.{Served, setup_of}
+pub use Rattle.zone_server.specs.Loadings.{Loads}
+pub use Rattle.zone_server.specs.Notes.{HasLearnt, IsNote, Tells, told_of}
+pub use Rattle.zone_server.specs.Openings.{IsOpening, OpeningView, origin_in, served_of}
+pub use Rattle.zone_server.specs.Replies.{HasGrown, IsAfter, IsFrom, IsReply, IsShown, IsTold, reply_map}
+pub use Rattle.zone_server.specs.Servings.{IsServed, IsServing, ServerKnown, known_of, of_zone}
+pub use Rattle.zone_server.specs.Updates.{IsUpdate, UpdateView}
+pub use Rattle.zone_server.specs.Transfers.{Dumps, IsDumped, Transfers, transfer_told, transferred}
