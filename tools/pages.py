@@ -21,6 +21,11 @@ TOOLS = "named-compilezone named-checkzone ldns-read-zone ldns-signzone nsd-chec
 CODE = re.compile(r"`([^`]+)`")
 
 
+def ending(command):
+    """A command that is run for its status alone, and the status that it has to end in."""
+    return f"{command} >said; echo $?", ["1" if " diff " in command else "0"]
+
+
 def read(name):
     with open(f"{TOP}/{name}", encoding="utf-8") as file:
         return file.read()
@@ -57,7 +62,7 @@ def commands_of(name):
                     commands.append((line[2:], []))
                 else:
                     commands[-1][1].append(line)
-    commands += [(f"{command} >said; echo $?", ["1" if " diff " in command else "0"]) for command in re.findall(r"^\| `(\./qpzone [^`]*)` \|", read(name), re.M)]
+    commands += [ending(command) for command in re.findall(r"^\| `(\./qpzone [^`]*)` \|", read(name), re.M)]
     return commands
 
 
@@ -144,7 +149,7 @@ def check_server():
 
 def check_usage():
     usage = subprocess.run([f"{TOP}/qpzone", "--help"], capture_output=True, text=True, check=False).stdout
-    commands = [(line.strip() + " >said; echo $?", ["0"]) for line in usage.splitlines() if line.startswith("           qpzone ")]
+    commands = [ending(line.strip()) for line in usage.splitlines() if line.startswith("           qpzone ")]
     for (command, due), said in zip(commands, outputs(commands)):
         yield is_said(said, due), f"qpzone --help: {command}\n{said}"
     told = re.search(r"^\.Os qpzone (.*)$", read("man/qpzone.1"), re.M)
