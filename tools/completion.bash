@@ -10,10 +10,10 @@ _qpzone() {
   --origin | --chunks | --workers | --names | --turns | --seed) return ;;
   *)
     if ((COMP_CWORD == 1)); then
-      words='run feed zones check size dump diff make --help --version'
+      words='run feed zones check size dump diff live make --help --version'
     elif [[ $word == -* ]]; then
       case ${COMP_WORDS[1]} in
-      run | check) words='--origin --chunks' ;;
+      run | check | live) words='--origin --chunks' ;;
       feed) words='--origin --workers --chunks' ;;
       size) words='--origin' ;;
       dump) words='--origin --style --chunks' ;;

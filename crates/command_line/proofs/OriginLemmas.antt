@@ -15,8 +15,8 @@ use Rattle.zone_diff.specs.declared.Serial.{Serial}
 use Rattle.zone_diff.specs.declared.Serial.TheVariants.{Keep}
 use Rattle.command_line.specs.Numbers.{default_chunks, workers_of}
 use Rattle.command_line.specs.Options.{Options, chunks_given, load_of, no_options, options_from}
-use Rattle.command_line.specs.Invocations.{Invocation, IsUnder, Verb, Run, Check, Make, Dump, Feed, Size, Zones, Diff, asked_of, differing_of, dumping_of, feeding_of, makes_nothing, making_of, plain_of, reading_of, sizing_of, under_origin, zones_of}
-use Rattle.command_line.specs.Parsed.{asked_in, chunks_in, diff_by, diff_style_in, differing_in, invocation, load_in, making_by, origin_in, parsed_of, program_app, reading_in, serial_in, sizing_in, style_in, zones_in}
+use Rattle.command_line.specs.Invocations.{Invocation, IsUnder, Verb, Run, Check, Make, Dump, Feed, Size, Zones, Diff, Live, asked_of, differing_of, dumping_of, feeding_of, makes_nothing, making_of, plain_of, reading_of, sizing_of, under_origin, zones_of}
+use Rattle.command_line.specs.Parsed.{asked_in, chunks_asked, chunks_in, diff_by, diff_style_in, differing_in, invocation, living_in, load_in, making_by, origin_in, parsed_of, program_app, reading_in, serial_in, sizing_in, style_in, zones_in}
 use Rattle.command_line.specs.Words.{invocation_of, or_else}
 
 abbrev pub AllUnder : Option Invocation → Type 0
@@ -49,7 +49,8 @@ command_under command s =
     (either_under (bytes_eq command (codes "feed")) (feeding_of s) _ (either_under (makes_nothing s && is_none s.style) _ None (feed_under s s.workers) tt)
     (either_under (bytes_eq command (codes "size")) (sizing_of s) _ (either_under (is_none s.chunks) (reading_of Size s) None (either_under (makes_nothing s && is_none s.style && is_none s.workers) (under_origin s Size) None (origin_under Size (chunks_given s) s.origin (λ name. tt)) tt) tt)
     (either_under (bytes_eq command (codes "zones")) (zones_of s) _ (either_under (makes_nothing s && is_none s.origin && is_none s.style && is_none s.workers) _ None refl tt)
-    (either_under (bytes_eq command (codes "diff")) (differing_of s) None (either_under (is_none s.chunks) (reading_of (Diff Script Keep) s) None (either_under (makes_nothing s && is_none s.style && is_none s.workers) (under_origin s (Diff Script Keep)) None (origin_under (Diff Script Keep) (chunks_given s) s.origin (λ name. tt)) tt) tt) tt)))))))
+    (either_under (bytes_eq command (codes "diff")) (differing_of s) _ (either_under (is_none s.chunks) (reading_of (Diff Script Keep) s) None (either_under (makes_nothing s && is_none s.style && is_none s.workers) (under_origin s (Diff Script Keep)) None (origin_under (Diff Script Keep) (chunks_given s) s.origin (λ name. tt)) tt) tt)
+    (either_under (bytes_eq command (codes "live")) (reading_of (Live s.chunks) s) None (either_under (makes_nothing s && is_none s.style && is_none s.workers) (under_origin s (Live s.chunks)) None (origin_under (Live s.chunks) (chunks_given s) s.origin (λ name. tt)) tt) tt))))))))
 
 options_under : (command : List ℕ) (options : Option Options) → AllUnder (option_and_then (asked_of command) options)
 options_under command None = tt
@@ -73,6 +74,12 @@ diff_under (Some style) None origin chunks = tt
 diff_under (Some style) (Some serial) None chunks = tt
 diff_under (Some style) (Some serial) (Some origin) None = tt
 diff_under (Some style) (Some serial) (Some origin) (Some chunks) = tt
+
+live_under : (asked : Option (Option ℕ)) (origin : Option Name) (chunks : Option ℕ) → AllUnder (invocation (option_map Live asked) origin chunks)
+live_under None origin chunks = tt
+live_under (Some asked) None chunks = tt
+live_under (Some asked) (Some origin) None = tt
+live_under (Some asked) (Some origin) (Some chunks) = tt
 
 fed_under : (workers : Option ℕ) (origin : Option Name) (chunks : Option ℕ) → AllUnder (invocation (option_map Feed workers) origin chunks)
 fed_under None origin chunks = tt
@@ -106,7 +113,8 @@ asked_under (Some x) =
     (either_under (bytes_eq x.0 (codes "feed")) _ _ (fed_under (option_and_then workers_of (first_of (codes "workers") x.1)) origin chunks)
     (either_under (bytes_eq x.0 (codes "size")) (sizing_in x.1) _ (read_under Size origin (Some default_chunks) (λ name. tt))
     (either_under (bytes_eq x.0 (codes "zones")) (zones_in x.1) _ (zones_under chunks)
-    (either_under (bytes_eq x.0 (codes "diff")) (differing_in x.1) None (diff_under (diff_style_in (first_of (codes "style") x.1)) (serial_in (first_of (codes "serial") x.1)) origin (Some default_chunks)) tt)))))))
+    (either_under (bytes_eq x.0 (codes "diff")) (differing_in x.1) _ (diff_under (diff_style_in (first_of (codes "style") x.1)) (serial_in (first_of (codes "serial") x.1)) origin (Some default_chunks))
+    (either_under (bytes_eq x.0 (codes "live")) (living_in x.1) None (live_under (chunks_asked (first_of (codes "chunks") x.1)) origin chunks) tt))))))))
 
 parsed_under : (words : List (List ℕ)) → AllUnder (parsed_of words)
 parsed_under words = either_under (is_empty (fault_of program_app words)) (asked_in (subcommand_of program_app words)) None (asked_under (subcommand_of program_app words)) tt

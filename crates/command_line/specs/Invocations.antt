@@ -13,8 +13,8 @@ use Rattle.zone_diff.specs.declared.Serial.TheVariants.{Keep}
 use Rattle.command_line.specs.Options.{Options, no_options, options_from, load_of, chunks_given}
 
 -- What is done: a job is run; it is said how large a zone's index is; a load's job is run, and summed up; a zone is written; one list
--- of commands is run by so many workers; it is reckoned how many chunks a job needs; a job over several zones is run; or what makes of
--- a zone another one is written.
+-- of commands is run by so many workers; it is reckoned how many chunks a job needs; a job over several zones is run; what makes of a
+-- zone another one is written; or lines are answered one by one, on an index of a number of chunks where one is asked for.
 pub data Verb : Type 0 where
   Run : Verb
   Check : Verb
@@ -24,6 +24,7 @@ pub data Verb : Type 0 where
   Size : Verb
   Zones : Verb
   Diff : (style : DiffStyle) (serial : Serial) → Verb
+  Live : (asked : Option ℕ) → Verb
 
 -- what to do under an origin, over a number of chunks
 pub record Invocation : Type 0 where
@@ -41,6 +42,7 @@ IsUnder (Feed workers) origin = Unit {0}
 IsUnder Size origin = Unit {0}
 IsUnder Zones origin = origin ≡ []
 IsUnder (Diff style serial) origin = Unit {0}
+IsUnder (Live asked) origin = Unit {0}
 
 -- ---- a command and its options
 
@@ -90,6 +92,7 @@ asked_of command s =
     else if bytes_eq command (codes "size") then sizing_of s
     else if bytes_eq command (codes "zones") then zones_of s
     else if bytes_eq command (codes "diff") then differing_of s
+    else if bytes_eq command (codes "live") then reading_of (Live s.chunks) s
     else None
 
 -- what plain words say, the first of which is the program's name: a command and options of it, each option once with its value behind

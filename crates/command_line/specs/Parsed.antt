@@ -18,7 +18,7 @@ use Rattle.clap.specs.Faults.{fault_of}
 use Rattle.clap.specs.declared.builder.action.ArgAction.TheVariants.{Set}
 use Rattle.command_line.specs.Numbers.{chunks_of, default_chunks, seed_of, names_of, turns_of, workers_of}
 use Rattle.command_line.specs.Options.{load_by, style_of}
-use Rattle.command_line.specs.Invocations.{Invocation, Verb, Run, Check, Make, Dump, Feed, Size, Zones, Diff}
+use Rattle.command_line.specs.Invocations.{Invocation, Verb, Run, Check, Make, Dump, Feed, Size, Zones, Diff, Live}
 
 -- ---- the command line that clap is given
 
@@ -73,7 +73,7 @@ differing_shape = record (new_shape (codes "diff")) {
 abbrev pub program_app : App
 program_app = record {
   top = record (new_shape (codes "qpzone")) { is_leaf = false; subcommand_required = true };
-  subs = reading_shape (codes "run") ∷ reading_shape (codes "check") ∷ making_shape ∷ dumping_shape ∷ feeding_shape ∷ sizing_shape ∷ zones_shape ∷ differing_shape ∷ [];
+  subs = reading_shape (codes "run") ∷ reading_shape (codes "check") ∷ making_shape ∷ dumping_shape ∷ feeding_shape ∷ sizing_shape ∷ zones_shape ∷ differing_shape ∷ reading_shape (codes "live") ∷ [];
 }
 
 -- ---- what is meant by what clap gives
@@ -130,6 +130,14 @@ diff_in rows = diff_by (diff_style_in (first_of (codes "style") rows)) (serial_i
 abbrev pub differing_in : List Row → Option Invocation
 differing_in rows = invocation (diff_in rows) (origin_in (first_of (codes "origin") rows)) (Some default_chunks)
 
+-- a number of chunks that is asked for, if one is
+abbrev pub chunks_asked : Option (List ℕ) → Option (Option ℕ)
+chunks_asked None = Some None
+chunks_asked (Some value) = option_map Some (chunks_of value)
+
+abbrev pub living_in : List Row → Option Invocation
+living_in rows = reading_in (option_map Live (chunks_asked (first_of (codes "chunks") rows))) rows
+
 abbrev pub load_in : List Row → Option Load
 load_in rows = load_by (option_and_then seed_of (first_of (codes "seed") rows)) (option_and_then names_of (first_of (codes "names") rows)) (option_and_then turns_of (first_of (codes "turns") rows)) (option_and_then workers_of (first_of (codes "workers") rows))
 
@@ -149,6 +157,7 @@ asked_by name rows =
     else if bytes_eq name (codes "size") then sizing_in rows
     else if bytes_eq name (codes "zones") then zones_in rows
     else if bytes_eq name (codes "diff") then differing_in rows
+    else if bytes_eq name (codes "live") then living_in rows
     else None
 
 abbrev pub asked_in : Option (List ℕ × List Row) → Option Invocation

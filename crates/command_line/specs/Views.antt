@@ -3,7 +3,7 @@ use Rattle.command_line.specs.Invocations as lines
 use Rattle.command_line.specs.Options as options
 use Rattle.command_line.specs.declared.invocation.Invocation.{Invocation}
 use Rattle.command_line.specs.declared.invocation.Verb.{Verb}
-use Rattle.command_line.specs.declared.invocation.Verb.TheVariants.{Run, Check, Make, Dump, Feed, Size, Zones, Diff}
+use Rattle.command_line.specs.declared.invocation.Verb.TheVariants.{Run, Check, Make, Dump, Feed, Size, Zones, Diff, Live}
 use Rattle.command_line.specs.declared.given.Options.{Options}
 use Rattle.job_make.specs.Views.{load_view}
 
@@ -16,6 +16,7 @@ verb_view (Feed crew) = lines.Feed crew.workers
 verb_view Size = lines.Size
 verb_view Zones = lines.Zones
 verb_view (Diff comparison) = lines.Diff comparison.style comparison.serial
+verb_view (Live asked) = lines.Live asked.chunks
 
 abbrev pub invocation_view : Invocation → lines.Invocation
 invocation_view i = record { verb = verb_view i.verb; origin = i.origin; chunks = i.chunks }

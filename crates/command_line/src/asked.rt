@@ -2,10 +2,11 @@
 ghost use Rattle.std.specs.Prelude.{◌≡◌, ◌∷◌, [], ℕ, List, map, codes, Some, None, Option};
 ghost use Rattle.command_line.specs.Prelude.{option_map, string_bytes, made_origin, load_view, asked_of, dumping_of};
 ghost use Rattle.command_line.specs.Prelude.{differing_of, feeding_of, makes_nothing, making_of, plain_of, reading_of, sizing_of, under_origin};
+ghost use Rattle.command_line.specs.Invocations.{Live};
 ghost use Rattle.command_line.specs.Prelude.{zones_of, chunks_given, load_of, invocation_view, options_view, verb_view};
 
 use crate::given::Options;
-use crate::invocation::{Comparison, Crew, Invocation, Verb};
+use crate::invocation::{Asked, Comparison, Crew, Invocation, Verb};
 use crate::numbers::DEFAULT_CHUNKS;
 use crate::options::options_of;
 use dns_name::Name;
@@ -94,6 +95,16 @@ fn differing_of(options: &Options) -> Option<Invocation>
     }
 }
 
+// An origin is given, and perhaps a number of chunks, which is told apart from none.
+fn living_of(options: &Options) -> Option<Invocation>
+    ensures { option_map invocation_view result ≡ reading_of (Live options.now.chunks) (options_view options.now) }
+{
+    let asked = Asked {
+        chunks: options.chunks,
+    };
+    reading_of(Verb::Live(asked), options)
+}
+
 // Nothing is given but perhaps a number of chunks.
 fn zones_of(options: &Options) -> Option<Invocation>
     ensures { option_map invocation_view result ≡ zones_of (options_view options.now) }
@@ -153,6 +164,7 @@ fn asked_of(command: &str, options: &Options) -> Option<Invocation>
         "size" => sizing_of(options),
         "zones" => zones_of(options),
         "diff" => differing_of(options),
+        "live" => living_of(options),
         _ => None,
     }
 }

@@ -1,5 +1,6 @@
 //! What the command line asks for.
 ghost use Rattle.std.specs.Prelude.{◌<◌, ◌≤◌};
+ghost use Rattle.std.specs.Option.{ForSome};
 
 use dns_name::Name;
 use job_make::Load;
@@ -22,6 +23,15 @@ pub struct Comparison {
     pub serial: Serial,
 }
 
+/// How many chunks a session's index has, where that is asked for.
+#[derive(Clone, Copy, PartialEq, Eq, Debug)]
+pub struct Asked {
+    /// From 16 to 4,096.
+    pub chunks: Option<u32>,
+    ghost enough: { ForSome chunks (λ n. 16 ≤ n) },
+    ghost few: { ForSome chunks (λ n. n ≤ 4096) },
+}
+
 /// What the program is asked to do.
 #[derive(Clone, Copy, PartialEq, Eq, Debug)]
 pub enum Verb {
@@ -41,6 +51,8 @@ pub enum Verb {
     Zones,
     /// Write what makes of a zone another one.
     Diff(Comparison),
+    /// Answer lines one by one.
+    Live(Asked),
 }
 
 /// What the words of the command line say: what to do under an origin, over a number of chunks. Several zones are under the root.

@@ -10,5 +10,5 @@ mod parsed;
 mod program;
 mod words;
 
-pub use invocation::{Comparison, Crew, Invocation, Verb};
+pub use invocation::{Asked, Comparison, Crew, Invocation, Verb};
 pub use words::invocation_of;

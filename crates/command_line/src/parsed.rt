@@ -7,7 +7,7 @@ ghost use Rattle.command_line.specs.Parsed as parsed;
 ghost use Rattle.command_line.specs.Numbers as numbers;
 
 use crate::asked::made_origin;
-use crate::invocation::{Comparison, Crew, Invocation, Verb};
+use crate::invocation::{Asked, Comparison, Crew, Invocation, Verb};
 use crate::numbers::{
     DEFAULT_CHUNKS, MOST_NAMES, MOST_TURNS, MOST_WORKERS, chunks_of, seed_of, within,
 };
@@ -166,6 +166,26 @@ fn differing_in(matches: &ArgMatches<'_>) -> Option<Invocation>
     })
 }
 
+// The number of chunks that is asked for, if one is.
+fn asked_chunks(value: Option<&str>) -> Option<Asked>
+    ensures { option_map (λ a. a.chunks) result ≡ parsed.chunks_asked (option_map (λ s. s.now) value.entry) }
+{
+    match value {
+        Some(value) => Some(Asked {
+            chunks: Some(chunks_of(value.as_bytes())?),
+        }),
+        None => Some(Asked { chunks: None }),
+    }
+}
+
+// What the options of a session say of its chunks.
+fn live_in(matches: &ArgMatches<'_>) -> Option<Verb>
+    ensures { option_map verb_view result ≡ option_map lines.Live (parsed.chunks_asked (first_of (codes "chunks") (rows_of (found_of matches.now)))) }
+{
+    let asked = asked_chunks(value_in(matches, "chunks"))?;
+    Some(Verb::Live(asked))
+}
+
 // The load that options say.
 fn load_in(matches: &ArgMatches<'_>) -> Option<Load>
     ensures { option_map load_view result ≡ parsed.load_in (rows_of (found_of matches.now)) }
@@ -203,6 +223,7 @@ fn asked_by(name: &str, matches: &ArgMatches<'_>) -> Option<Invocation>
         "size" => sizing_in(matches),
         "zones" => zones_in(matches),
         "diff" => differing_in(matches),
+        "live" => reading_in(matches, live_in(matches)),
         _ => None,
     }
 }

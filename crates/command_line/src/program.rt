@@ -15,6 +15,12 @@ const CHUNKS: Listed = (
     false,
 );
 
+const LIVE_CHUNKS: Listed = (
+    "chunks",
+    "How many chunks of 1,024 cells the zone's index has, 16 to 4096; where not said, room for four times the zone's cells, at least 64",
+    false,
+);
+
 const NAMES: Listed = (
     "names",
     "How many numbered names the zone has, 1 to 20000",
@@ -99,6 +105,11 @@ static COMMANDS: &[(&str, &str, &[Listed])] = &[
         "diff",
         "Read two zones, and write what makes of the first the second",
         &[ORIGIN, DIFF_STYLE, SERIAL],
+    ),
+    (
+        "live",
+        "Read a zone, and answer the lines behind it one by one",
+        &[ORIGIN, LIVE_CHUNKS],
     ),
 ];
 

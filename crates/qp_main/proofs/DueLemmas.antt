@@ -7,7 +7,7 @@ use Rattle.outer_io.specs.Bytes.{Held, GrowsByFront}
 use Rattle.outer_io.proofs.GrowsLemmas.{Grows-nil}
 use Rattle.zone_model.specs.Dumps.{dump}
 use Rattle.zone_model.specs.declared.Style.{Style}
-use Rattle.command_line.specs.Invocations.{Invocation, Verb, Run, Feed, Check, Make, Dump, Size, Zones, Diff}
+use Rattle.command_line.specs.Invocations.{Invocation, Verb, Run, Feed, Check, Make, Dump, Size, Zones, Diff, Live}
 use Rattle.job_model.specs.Loads.{Load, made_origin, made_text}
 use Rattle.zone_model.specs.Names.{Name}
 use Rattle.zone_model.specs.Versions.{Version}
@@ -121,6 +121,7 @@ some_input Zones chunks origin bytes e = absurd cc
 some_input (Diff style serial) chunks origin bytes e = absurd cc
 some_input Check chunks origin bytes e = absurd cc
 some_input (Make load) chunks origin bytes e = absurd cc
+some_input (Live asked) chunks origin bytes e = absurd cc
 some_input (Dump style) chunks origin bytes e = some_dump chunks style origin (zone_of origin (zone_lines bytes))
 
 some_bytes : (i : Invocation) (bytes : List ℕ) (b : Bool) → is_streamed i.verb ≡ true → (s : Status) × (text : List ℕ) × DueBytes i bytes b s text
@@ -328,6 +329,7 @@ due_answer Zones chunks origin bytes s text h = zones_answer chunks (zones_job_o
 due_answer (Diff style serial) chunks origin bytes s text h = differ_answer style serial origin (zone_said origin bytes) (second_said origin bytes) s text h
 due_answer Check chunks origin bytes s text h = check_answer chunks (zone_of origin (zone_lines bytes)) s text h
 due_answer (Dump style) chunks origin bytes s text h = dump_answer chunks style origin (zone_of origin (zone_lines bytes)) s text h
+due_answer (Live asked) chunks origin bytes s text h = absurd h
 
 pub answer_written : (s : Status) → IsAnswer s → IsWritten s
 answer_written status.Done a = tt

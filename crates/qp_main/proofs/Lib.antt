@@ -12,3 +12,4 @@ pub mod OpensLemmas
 pub mod WritingLemmas
 pub mod DifferLemmas
 pub mod HeardLemmas
+pub mod SessionLemmas

@@ -39,7 +39,7 @@ use Rattle.zone_diff.specs.declared.DiffStyle.TheVariants.{Script}
 use Rattle.zone_diff.specs.declared.Serial.{Serial}
 use Rattle.zone_diff.specs.declared.Serial.TheVariants.{Keep}
 use Rattle.zone_model.specs.declared.Style.{Style}
-use Rattle.command_line.specs.Invocations.{Invocation, Verb, Run, Feed, Check, Make, Dump, Size, Zones, Diff}
+use Rattle.command_line.specs.Invocations.{Invocation, Verb, Run, Feed, Check, Make, Dump, Size, Zones, Diff, Live}
 use Rattle.qp_main.specs.Fits.{fits, no_room_text, opened_text}
 use Rattle.qp_main.specs.Needs.{needs_text}
 use Rattle.qp_main.specs.Saids.{second_said, zone_said}
@@ -214,7 +214,8 @@ Differs style serial origin (Err e) second = ZoneRefuses e
 Differs style serial origin (Ok before) (Err e) = ZoneRefuses e
 Differs style serial origin (Ok before) (Ok after) = Different style serial origin before after
 
--- what is due for bytes within the limit; a check and a dump read the zone alone
+-- what is due for bytes within the limit; a check and a dump read the zone alone; a session has no input that is there before its answers, and
+-- `SessionRan` says what is due in it
 abbrev pub DueInput : Verb → ℕ → Name → List ℕ → Status → List ℕ → Type 0
 DueInput Run chunks origin bytes = Answers Report chunks (job_of origin bytes)
 DueInput (Feed workers) chunks origin bytes = FedAnswers workers chunks (fed_job_of origin bytes)
@@ -224,6 +225,7 @@ DueInput Zones chunks origin bytes = ZonesAnswers chunks (zones_job_of bytes)
 DueInput Check chunks origin bytes = Checks chunks (zone_said origin bytes)
 DueInput (Diff style serial) chunks origin bytes = Differs style serial origin (zone_said origin bytes) (second_said origin bytes)
 DueInput (Dump style) chunks origin bytes = Dumps chunks style origin (zone_said origin bytes)
+DueInput (Live asked) chunks origin bytes = λ s text. ⊥
 
 -- the same by an invocation
 abbrev pub DueUnder : Invocation → List ℕ → Status → List ℕ → Type 0
@@ -238,9 +240,10 @@ abbrev pub DueBytes : Invocation → List ℕ → Bool → Status → List ℕ �
 DueBytes i bytes true = DueUnder i bytes
 DueBytes i bytes false = Ends status.TooLong (codes "input over 16777216 bytes\n")
 
--- the bytes that are read: those that a source has left, or a load's text
+-- the bytes that are read before anything is answered: those that a source has left, or a load's text
 abbrev pub input_of : Verb → Option (List ℕ) → Option (List ℕ)
 input_of (Make load) left = Some (made_text load)
+input_of (Live asked) left = None
 input_of _ left = left
 
 -- Of a source that doesn't tell its bytes nothing is said.
@@ -266,10 +269,19 @@ abbrev pub IsMade : Option Invocation → Type 0
 IsMade None = ⊥
 IsMade (Some invocation) = MakesInput invocation.verb
 
--- these words have an input read
+-- lines are answered one by one
+abbrev pub AnswersLines : Verb → Type 0
+AnswersLines (Live asked) = Unit {0}
+AnswersLines _ = ⊥
+
+abbrev pub IsSession : Option Invocation → Type 0
+IsSession None = ⊥
+IsSession (Some invocation) = AnswersLines invocation.verb
+
+-- these words have an input read to its end, before anything is answered
 abbrev pub ReadsInput : Option Invocation → Type 0
 ReadsInput None = ⊥
-ReadsInput (Some invocation) = MakesInput invocation.verb → ⊥
+ReadsInput (Some invocation) = (MakesInput invocation.verb → ⊥) × (AnswersLines invocation.verb → ⊥)
 
 -- Of the bytes that a source gave in this call, which are all up to the end of input where that is to be read and isn't too long.
 pub record GaveFor (i : Option Invocation) (before after : List ℕ) (ended : Bool) (so : Option (List ℕ) → Type 0) : Type 0 where

@@ -9,4 +9,5 @@ pub mod Stops
 pub mod Saids
 pub mod Opens
 pub mod Heard
+pub mod Sessions
 pub mod Prelude

@@ -30,6 +30,8 @@ pub use Rattle.qp_main.specs.Due.{Answers, Checks, CutShort, Differs, Due, DueUn
 pub use Rattle.qp_main.specs.Due.{IsWritten, MayBeShort, RefusesScript, Sized, Sizes, Written, ZonesAnswers, input_of}
 pub use Rattle.qp_main.specs.Due.{is_streamed, refusal_text, script_kind_text, streams, zone_kind_text}
 pub use Rattle.qp_main.specs.Heard.{FedJobHeard, HasRun, Heard, HeardInput, JobHeard, ListHeard, WhereRun, ZonesJobHeard}
+pub use Rattle.qp_main.specs.Due.{AnswersLines, IsSession}
+pub use Rattle.qp_main.specs.Sessions.{SaysSession, SessionRan}
 pub use Rattle.qp_main.specs.Invocations.{DueFor, invocation_in}
 pub use Rattle.qp_main.specs.Jobs.{fed_job_on, job_on, zones_job_on}
 pub use Rattle.qp_main.specs.Needs.{AreNeedsOf, chunks_text, needs_text}

@@ -5,10 +5,10 @@ ghost use Rattle.qp_main.specs.Prelude.{Rose, CanBeDumped, zone_said, CutShort, 
 use crate::input::Input;
 use crate::refusal_lines::no_room;
 use crate::refusing::Stop;
-use crate::sizing::zone_size;
 use crate::status::Status;
 use crate::writing::{write_answer, write_due};
 use command_line::Invocation;
+use index_items::zone_size;
 use master_file::Zone;
 use outer_io::Sink;
 use qp_multi::room_in;

@@ -10,6 +10,7 @@ mod feeding;
 mod input;
 mod items;
 mod line;
+mod living;
 mod needs;
 mod program;
 mod reading;

@@ -6,10 +6,10 @@ ghost use Rattle.qp_main.specs.Prelude.{trie_entries, Sized, Sizes, IsAnswerDue,
 use crate::input::Input;
 use crate::refusing::Stop;
 use crate::size_lines::needs_line;
-use crate::sizing::zone_size;
 use crate::status::Status;
 use chunk_usage::capacity::least;
 use command_line::Invocation;
+use index_items::zone_size;
 use job_report::Pieces;
 use job_script::{Needs, needs_of};
 use std::alloc::{AllocError, Global};

@@ -4,6 +4,7 @@ ghost use Rattle.std.specs.Prelude.{Ok, Err, false, Option, Result, IfSome, Matc
 ghost use Rattle.qp_main.specs.Prelude.{Due, DueFor, GaveFor, Consumes, zone_said, job_of, made_origin, Rose, Grows, GrowsByFront};
 ghost use Rattle.qp_main.specs.Prelude.{load_view, IsUnder, Make, invocation_in, invocation_view, verb_view, IsStop, Answers, Checks, CutShort};
 ghost use Rattle.qp_main.specs.Prelude.{HasRun, Heard, HeardInput, JobHeard, WhereRun};
+ghost use Rattle.qp_main.specs.Prelude.{AnswersLines, IsSession, SaysSession, SessionRan};
 ghost use Rattle.qp_main.specs.Prelude.{DueUnder, EndsLoad, IsAnswerDue, IsMade, IsUnwritten, IsWritten, MayBeShort, Written, input_of, is_streamed, streams};
 
 use crate::differing::compare_zones;
@@ -11,14 +12,16 @@ use crate::dumping::dump_input;
 use crate::feeding::answer_list;
 use crate::input::Input;
 use crate::items::zone_items;
+use crate::living::serve_session;
 use crate::needs::size_job;
 use crate::refusing::Stop;
 use crate::run_report::{Telling, report_job};
 use crate::several::answer_zones;
-use crate::sizing::{report_size, zone_size};
+use crate::sizing::report_size;
 use crate::status::Status;
 use crate::writing::{write_answer, write_due};
 use command_line::{Invocation, Verb, invocation_of};
+use index_items::zone_size;
 use job_commands::Gate;
 use job_make::{Load, make_text};
 use job_report::Pieces;
@@ -80,7 +83,8 @@ fn serve_input<R: Threads + Wait + Sync, K: Sink, G: Gate>(
     sink: &mut K,
     gate: &G,
 ) -> Status
-    requires { length bytes.items ≤ 2 ^ 24 }
+    requires short { length bytes.items ≤ 2 ^ 24 }
+    requires whole { AnswersLines (verb_view invocation.now.verb) → ⊥ }
     ensures written { IsWritten result → Written (DueUnder (invocation_view invocation.now) bytes.items) (K.held sink.old) (K.held sink.new) result }
     ensures cut_short { MayBeShort (is_streamed (verb_view invocation.now.verb)) result
         → CutShort (DueUnder (invocation_view invocation.now) bytes.items) (K.held sink.old) (K.held sink.new) }
@@ -100,6 +104,8 @@ fn serve_input<R: Threads + Wait + Sync, K: Sink, G: Gate>(
         Verb::Size => size_job(alloc, invocation, input),
         Verb::Zones => answer_zones(rt, alloc, invocation, input, gate),
         Verb::Diff(comparison) => compare_zones(alloc, invocation, comparison, input),
+        // It has no input that is read before.
+        Verb::Live(_) => unreachable!(),
     };
     match due {
         Ok((status, text)) => write_answer(sink, status, &text),
@@ -195,14 +201,16 @@ fn serve_invocation<R: Threads + Wait + Sync, S: Source, K: Sink, G: Gate>(
     ensures quiet_sink { (result ≡ Status.SinkFault → ⊥) → K.faults sink.new ≡ K.faults sink.old }
     ensures source_fault { result ≡ Status.SourceFault → Rose (S.faults source.old) (S.faults source.new) }
     ensures quiet_source { (result ≡ Status.SourceFault → ⊥) → S.faults source.new ≡ S.faults source.old }
-    ensures unwritten { IsUnwritten (is_streamed (verb_view invocation.now.verb)) result → K.held sink.new ≡ K.held sink.old }
-    ensures taken { result ≡ Status.TooLong → (bytes : List ℕ) × Consumes (S.left source.old) (S.left source.new) bytes
+    ensures unwritten { (AnswersLines (verb_view invocation.now.verb) → ⊥) → IsUnwritten (is_streamed (verb_view invocation.now.verb)) result → K.held sink.new ≡ K.held sink.old }
+    ensures taken { (AnswersLines (verb_view invocation.now.verb) → ⊥) → result ≡ Status.TooLong → (bytes : List ℕ) × Consumes (S.left source.old) (S.left source.new) bytes
         × (S.given source.new ≡ S.given source.old ++ bytes) × (length bytes ≡ 16777217) }
     ensures words { result ≡ Status.WordsRefused → ⊥ }
     ensures heard { HasRun result → GaveFor (Some (invocation_view invocation.now)) (S.given source.old) (S.given source.new) (S.ended source.new)
         (λ left. Heard (G.hears gate.now) (Some (invocation_view invocation.now)) left) }
     ensures made { IsMade (Some (invocation_view invocation.now)) → source.new ≡ source.old }
     ensures load { IsMade (Some (invocation_view invocation.now)) → EndsLoad result }
+    ensures session { SaysSession (Some (invocation_view invocation.now)) (λ asked origin.
+        SessionRan asked origin (S.given source.old) (S.given source.new) (S.ended source.new) (K.held sink.old) (K.held sink.new) result) }
 {
     match invocation.verb {
         Verb::Make(load) => serve_made(rt, alloc, invocation, &load, sink, gate),
@@ -213,10 +221,12 @@ fn serve_invocation<R: Threads + Wait + Sync, S: Source, K: Sink, G: Gate>(
         Verb::Zones => serve(rt, alloc, invocation, source, sink, gate),
         Verb::Diff(_) => serve(rt, alloc, invocation, source, sink, gate),
         Verb::Dump(_) => serve(rt, alloc, invocation, source, sink, gate),
+        Verb::Live(asked) => serve_session(rt, alloc, &invocation.origin, asked, source, sink),
     }
 }
 
-/// Runs the program: reads a job from the source, or makes one, runs it, and writes to the sink what is due. The words are those of
+/// Runs the program: reads a job from the source, or makes one, runs it, and writes to the sink what is due; or answers a session's lines, each
+/// before it reads more. The words are those of
 /// the command line, the first of which is the program's name. Each worker has a thread of its own where one can be started, and
 /// waits for its turn to write. The gate is told of each command by the worker's thread; of one list that is handed out to workers, by
 /// the command's number in the list.
@@ -244,11 +254,11 @@ pub fn run<R: Threads + Wait + Sync, S: Source, K: Sink, G: Gate>(
         → GaveFor (invocation_in words.now) (S.given source.old) (S.given source.new) (S.ended source.new)
         (λ left. CutShort (Due (invocation_in words.now) left) (K.held sink.old) (K.held sink.new)) }
 
-    // The source failed, or memory ran out, but not under a dump: nothing was written. Under any status but the source's no call on
-    // it failed.
+    // The source failed, or memory ran out, but neither under a dump nor in a session: nothing was written. Under any status but the
+    // source's no call on it failed.
     ensures source_fault { result ≡ Status.SourceFault → Rose (S.faults source.old) (S.faults source.new) }
     ensures quiet_source { (result ≡ Status.SourceFault → ⊥) → S.faults source.new ≡ S.faults source.old }
-    ensures unwritten { IsUnwritten (streams (invocation_in words.now)) result → K.held sink.new ≡ K.held sink.old }
+    ensures unwritten { (IsSession (invocation_in words.now) → ⊥) → IsUnwritten (streams (invocation_in words.now)) result → K.held sink.new ≡ K.held sink.old }
 
     // Refused words leave the source as it is, and no other words are told to be so. So does a load, of
     // which neither the zone nor the script is refused. An input that is too long is read to one byte past the limit.
@@ -256,12 +266,16 @@ pub fn run<R: Threads + Wait + Sync, S: Source, K: Sink, G: Gate>(
     ensures words { result ≡ Status.WordsRefused → invocation_in words.now ≡ None }
     ensures made { IsMade (invocation_in words.now) → source.new ≡ source.old }
     ensures load { IsMade (invocation_in words.now) → EndsLoad result }
-    ensures taken { result ≡ Status.TooLong → (bytes : List ℕ) × Consumes (S.left source.old) (S.left source.new) bytes
+    ensures taken { (IsSession (invocation_in words.now) → ⊥) → result ≡ Status.TooLong → (bytes : List ℕ) × Consumes (S.left source.old) (S.left source.new) bytes
         × (S.given source.new ≡ S.given source.old ++ bytes) × (length bytes ≡ 16777217) }
 
     // Where commands were run, the gate that is handed in was told of each, by the worker's number and its own.
     ensures heard { HasRun result → GaveFor (invocation_in words.now) (S.given source.old) (S.given source.new) (S.ended source.new)
         (λ left. Heard (G.hears gate.now) (invocation_in words.now) left) }
+
+    // A session: what lies in the sink is due for the bytes that the source gave, by each way to end.
+    ensures session { SaysSession (invocation_in words.now) (λ asked origin.
+        SessionRan asked origin (S.given source.old) (S.given source.new) (S.ended source.new) (K.held sink.old) (K.held sink.new) result) }
 {
     match invocation_of(alloc, words) {
         Ok(Some(invocation)) => serve_invocation(rt, alloc, &invocation, source, sink, gate),

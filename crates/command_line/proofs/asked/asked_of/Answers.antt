@@ -25,4 +25,5 @@ returns-in_default c =
     (past word (codes "feed") _ _ None none.not-feed
     (past word (codes "size") _ _ None none.not-size
     (past word (codes "zones") _ _ None none.not-zones
-    (past word (codes "diff") _ _ None none.not-diff refl))))))))
+    (past word (codes "diff") _ _ None none.not-diff
+    (past word (codes "live") _ _ None none.not-live refl)))))))))

@@ -1,4 +1,6 @@
-use Rattle.std.proofs.Common.{rules, ◌≡◌, ◌∙◌, List, [], Option, Some, None, ap, append-nil, codes, map, refl, subst, sym}
+use Rattle.std.proofs.Common.{rules, ◌≡◌, ◌∙◌, ℕ, List, [], ◌++◌, length, Option, Some, None, ap, append-nil, codes, map, refl, subst, sym}
+use Rattle.std.specs.Io.KnownBytes.{Consumes}
+use Rattle.zone_model.specs.Names.{Name}
 use Rattle.std.specs.Option.{option_map}
 use Rattle.std.specs.String.{string_bytes}
 use Rattle.command_line.specs.Invocations.{Invocation, IsUnder}
@@ -6,10 +8,12 @@ use Rattle.command_line.specs.Words.{invocation_of}
 use Rattle.command_line.specs.Views.{invocation_view, verb_view}
 use Rattle.command_line.proofs.OriginLemmas.{AllUnder, words_under}
 use Rattle.qp_main.specs.declared.status.Status.TheVariants as status
-use Rattle.qp_main.specs.Due.{CutShort, Due, GaveFor, MayBeShort, Written, streams}
+use Rattle.qp_main.specs.Due.{CutShort, Due, GaveFor, IsSession, IsUnwritten, MayBeShort, Written, streams}
 use Rattle.qp_main.specs.Heard.{HasRun, Heard}
+use Rattle.qp_main.specs.Sessions.{SaysSession, SessionRan}
 use Rattle.qp_main.proofs.HeardLemmas.{run_written}
 use Rattle.qp_main.proofs.DueLemmas.{nothing_yet, short_is, some_words}
+use Rattle.qp_main.proofs.SessionLemmas.{says_always, unbegun}
 use Rattle.qp_main.proofs.program.run.Goals as goal
 
 pub returns-in-Ok-None-clause-cut_short : goal.returns-in-Ok-None-clause-cut_short
@@ -82,3 +86,33 @@ pub returns-in-Ok-Some-clause-heard : goal.returns-in-Ok-Some-clause-heard
 returns-in-Ok-Some-clause-heard g c =
     let is : option_map invocation_view (Some c.in-Ok-Some.invocation) ≡ invocation_of (map string_bytes c.args.words.now) = sym (ap (option_map invocation_view) c.in-Ok-Some.field-0-is) ∙ c.in-Ok-Some.ensures in
     subst (λ (o : Option Invocation). HasRun c.serve_invocation.result → GaveFor o (g.S.Source.given c.args.source.now) (g.S.Source.given c.serve_invocation.new.source) (g.S.Source.ended c.serve_invocation.new.source) (λ left. Heard (g.G.Gate.hears c.args.gate.now) o left)) is c.serve_invocation.ensures.heard
+
+-- ---- of a session
+
+pub returns-in-Ok-Some-clause-session : goal.returns-in-Ok-Some-clause-session
+returns-in-Ok-Some-clause-session g c =
+    let is : option_map invocation_view (Some c.in-Ok-Some.invocation) ≡ invocation_of (map string_bytes c.args.words.now) = sym (ap (option_map invocation_view) c.in-Ok-Some.field-0-is) ∙ c.in-Ok-Some.ensures in
+    subst (λ (o : Option Invocation). SaysSession o (λ (asked : Option ℕ) (origin : Name). SessionRan asked origin (g.S.Source.given c.args.source.now) (g.S.Source.given c.serve_invocation.new.source) (g.S.Source.ended c.serve_invocation.new.source) (g.K.Sink.held c.args.sink.now) (g.K.Sink.held c.serve_invocation.new.sink) c.serve_invocation.result)) is c.serve_invocation.ensures.session
+
+pub returns-in-Ok-Some-clause-unwritten : goal.returns-in-Ok-Some-clause-unwritten
+returns-in-Ok-Some-clause-unwritten g c =
+    let is : option_map invocation_view (Some c.in-Ok-Some.invocation) ≡ invocation_of (map string_bytes c.args.words.now) = sym (ap (option_map invocation_view) c.in-Ok-Some.field-0-is) ∙ c.in-Ok-Some.ensures in
+    subst (λ (o : Option Invocation). (IsSession o → ⊥) → IsUnwritten (streams o) c.serve_invocation.result → g.K.Sink.held c.serve_invocation.new.sink ≡ g.K.Sink.held c.args.sink.now) is c.serve_invocation.ensures.unwritten
+
+pub returns-in-Ok-Some-clause-taken : goal.returns-in-Ok-Some-clause-taken
+returns-in-Ok-Some-clause-taken g c =
+    let is : option_map invocation_view (Some c.in-Ok-Some.invocation) ≡ invocation_of (map string_bytes c.args.words.now) = sym (ap (option_map invocation_view) c.in-Ok-Some.field-0-is) ∙ c.in-Ok-Some.ensures in
+    subst (λ (o : Option Invocation). (IsSession o → ⊥) → c.serve_invocation.result ≡ status.TooLong → (bytes : List ℕ) × Consumes (g.S.Source.left c.args.source.now) (g.S.Source.left c.serve_invocation.new.source) bytes × (g.S.Source.given c.serve_invocation.new.source ≡ g.S.Source.given c.args.source.now ++ bytes) × (length bytes ≡ 16777217)) is c.serve_invocation.ensures.taken
+
+pub returns-in-Ok-None-clause-session : goal.returns-in-Ok-None-clause-session
+returns-in-Ok-None-clause-session g c =
+    let given = g.S.Source.given c.args.source.now in
+    let is : option_map invocation_view None ≡ invocation_of (map string_bytes c.args.words.now) = sym (ap (option_map invocation_view) c.in-Ok-None.field-0-is) ∙ c.in-Ok-None.ensures in
+    subst (λ (o : Option Invocation). SaysSession o (λ (asked : Option ℕ) (origin : Name). SessionRan asked origin given given (g.S.Source.ended c.args.source.now) (g.K.Sink.held c.args.sink.now) (g.K.Sink.held c.write_due.new.sink) c.write_due.result)) is tt
+
+pub returns-in-Err-clause-session : goal.returns-in-Err-clause-session
+returns-in-Err-clause-session g c =
+    let given = g.S.Source.given c.args.source.now in
+    let ended = g.S.Source.ended c.args.source.now in
+    let held = g.K.Sink.held c.args.sink.now in
+    says_always (invocation_of (map string_bytes c.args.words.now)) (λ (asked : Option ℕ) (origin : Name). SessionRan asked origin given given ended held held status.NoMemory) (λ asked origin. unbegun asked origin given ended held)

@@ -1,6 +1,6 @@
 use Rattle.std.proofs.Common.{rules, ◌≡◌, ℕ, List, [], ◌++◌, Option, Some, length, codes, subst, sym, append-nil, refl}
 use Rattle.std.specs.Io.KnownBytes.{Consumes}
-use Rattle.command_line.specs.Views.{invocation_view}
+use Rattle.command_line.specs.Views.{invocation_view, verb_view}
 use Rattle.qp_main.specs.declared.status.Status.TheVariants as status
 use Rattle.qp_main.specs.Due.{CutShort, Due, DueInput, IsWritten, Written, is_streamed}
 use Rattle.qp_main.specs.declared.status.Status.{Status}
@@ -8,7 +8,11 @@ use Rattle.qp_main.proofs.DueLemmas.{IsAnswer, cut_as, given_due, nothing_yet, s
 use Rattle.qp_main.proofs.GivenLemmas.{all_due, all_too_long, given_too_long}
 use Rattle.qp_main.specs.Heard.{HasRun}
 use Rattle.qp_main.proofs.HeardLemmas.{given_heard, run_written}
+use Rattle.qp_main.proofs.SessionLemmas.{not_lines}
 use Rattle.qp_main.proofs.program.serve.Goals as goal
+
+pub serve_input-requires-clause-whole : goal.serve_input-requires-clause-whole
+serve_input-requires-clause-whole g c = λ κs bounds. not_lines (verb_view c.args.invocation.now.verb) c.requires
 
 pub returns-in-Err-TooLong-clause-cut_short : goal.returns-in-Err-TooLong-clause-cut_short
 returns-in-Err-TooLong-clause-cut_short g c = λ short.

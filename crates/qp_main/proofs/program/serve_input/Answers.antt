@@ -1,11 +1,15 @@
-use Rattle.std.proofs.Common.{rules, subst}
+use Rattle.std.proofs.Common.{rules, subst, sym}
 use Rattle.command_line.specs.Views.{verb_view}
+use Rattle.command_line.specs.declared.invocation.Verb.{Verb}
 use Rattle.job_report.specs.Pieces.{pieces_text}
-use Rattle.qp_main.specs.Due.{DueInput, is_streamed}
+use Rattle.qp_main.specs.Due.{AnswersLines, DueInput, is_streamed}
 use Rattle.qp_main.specs.Heard.{HasRun, HeardInput, WhereRun}
 use Rattle.qp_main.proofs.HeardLemmas.{run_written}
 use Rattle.qp_main.proofs.DueLemmas.{answer_written, due_answer, short_is}
 use Rattle.qp_main.proofs.program.serve_input.Goals as goal
+
+pub unreachable-requires : goal.unreachable-requires
+unreachable-requires g c = c.requires.whole (subst (λ (v : Verb). AnswersLines (verb_view v)) (sym c.in-Live.is) tt)
 
 pub write_answer-requires : goal.write_answer-requires
 write_answer-requires g c =

@@ -1,10 +1,13 @@
 use Rattle.std.proofs.Common.{Some, subst, sym}
 use Rattle.job_make.specs.Views.{load_view}
 use Rattle.command_line.specs.Views.{invocation_view, verb_view}
-use Rattle.qp_main.specs.Due.{Due, DueInput, MayBeShort, is_streamed}
+use Rattle.qp_main.specs.Due.{AnswersLines, Due, DueInput, MayBeShort, is_streamed}
 use Rattle.qp_main.proofs.DueLemmas.{cut_as, load_answer, load_ended, made_due, written_as}
 use Rattle.qp_main.proofs.HeardLemmas.{made_heard}
 use Rattle.qp_main.proofs.program.serve_made.Goals as goal
+
+pub serve_input-requires-clause-whole : goal.serve_input-requires-clause-whole
+serve_input-requires-clause-whole g c = λ κs bounds (a : AnswersLines (verb_view c.args.invocation.now.verb)). subst AnswersLines c.requires.made a
 
 pub returns-clause-written : goal.returns-clause-written
 returns-clause-written g c left = λ w.

@@ -1,0 +1,17 @@
+#!/usr/bin/env bash
+# Times a live session: questions one at a time and through a pipe, transactions of one addition with a question each, and the slowest of
+# 100,000 questions one at a time while another session answers a full pipe beside it.
+# Usage: bench/live.sh [RECORDS [PROGRAM]] (100,000 records); build the program first, as the README says. Prints microseconds each, the
+# quickest of three runs; changes nothing but files of its own in a temporary folder.
+set -eu
+here=$(cd "$(dirname "$0")" && pwd)
+records=${1:-100000}
+program=${2:-$here/../crates/qpzone/out/qpzone}
+folder=$(mktemp -d)
+trap 'rm -rf "$folder"' EXIT
+python3 "$here/hosts.py" "$records" 1 one | sed -n '1,/^%%$/p' >"$folder/session"
+quickest() { for _ in 1 2 3; do python3 "$here/live.py" "$folder/session" "$program" "$@"; done | sort -g | head -n 1; }
+echo "questions one at a time: $(quickest one 100000) us each"
+echo "questions through a pipe: $(quickest pipe 1000000) us each"
+echo "commits with a question each, through a pipe: $(quickest commits 100000) us each"
+echo "slowest of 100,000 questions beside a full pipe: $(quickest slowest 100000) us"

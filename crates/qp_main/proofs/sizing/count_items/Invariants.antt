@@ -1,9 +1,0 @@
-use Rattle.std.proofs.Common.{length}
-use Rattle.qp_main.proofs.SizingLemmas.{Counted}
-use Rattle.qp_main.proofs.sizing.count_items.Given as goal
-
-abbrev pub invariant-loop-len : goal.invariant-loop-len
-invariant-loop-len l = Counted l.size l.left l.fn.left
-
-abbrev pub decreases-loop-len : goal.decreases-loop-len
-decreases-loop-len l = length l.left
