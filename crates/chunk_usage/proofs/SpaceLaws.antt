@@ -10,19 +10,31 @@ use Rattle.std.proofs.lemmas.Option.{get_or_from_slice_get}
 use Rattle.trie_model.specs.Extents.{IsRow}
 use Rattle.chunk_usage.specs.declared.bump.Bump.{Bump}
 use Rattle.chunk_usage.specs.declared.space.Grant.{Grant}
-use Rattle.chunk_usage.specs.declared.space.Full.{Full}
+use Rattle.chunk_usage.specs.declared.space.Shortage.{Shortage}
 use Rattle.chunk_usage.specs.Rooms.{Handed, GivesChunk, OpensFree, Grows, Meets, account_of}
-use Rattle.chunk_usage.specs.Ledger.{Ledger, IsLedger, IsBump, is_given, is_bump, is_used, is_mutable, filled, left, free_count, reserve_of, reserved}
-use Rattle.chunk_usage.specs.Handing.{lowest_free, with_bump, taken, next_cell, roomy, granted_from, allocated_from, grant_of, allocated, shortage, consumed, unconsumed}
+use Rattle.chunk_usage.specs.Ledger.{Ledger, IsLedger, IsBump, is_given, is_bump, is_used, is_mutable, filled, left, free_count, reserve_of, reserved, frozen_part}
+use Rattle.chunk_usage.specs.Handing.{lowest_free, with_bump, taken, next_cell, roomy, new_grant, newly_taken, granted_from, allocated_from, grant_of, allocated, shortage, consumed, unconsumed}
 use Rattle.chunk_sets.proofs.FlagLemmas.{set_stays, set_within, get_set, get_clear, one_fewer_clear, First, first_is}
 use Rattle.chunk_usage.proofs.RowLemmas.{counts_more}
 use Rattle.chunk_usage.proofs.HandingLaws.{opened_mutable}
 
-pub record Hands (l new : Ledger) (n : ℕ) (r : Result Grant Full) : Type 0 where
+-- where there is no room, so many cells were wanted
+abbrev Wanted : ℕ → Result Grant Shortage → Type 0
+Wanted n r = IfErr r (λ f. f.needed ≡ n)
+
+-- What an allocation of n cells does, by what it answers.
+pub record Hands (l new : Ledger) (n : ℕ) (r : Result Grant Shortage) : Type 0 where
   pub gives : IfOk r (λ g. GivesChunk l.given new.given g.given)
   pub grows : Grows (is_used l) (is_used new) (is_mutable l) (is_mutable new)
   pub consumes : consumed new ≤ consumed l + n
   pub handed : IfOk r (λ g. Handed (account_of l) (account_of new) g.at n)
+  -- a chunk that becomes the bump chunk was free
+  pub opens : OpensFree l.given (is_bump l.bump) (is_bump new.bump)
+  -- a chunk that gets a cell that counts had one, was the bump chunk, or was free
+  pub meets : Meets (account_of l) (account_of new)
+  pub frozen : frozen_part new ≡ frozen_part l
+  pub wanted : Wanted n r
+  pub stays : IfErr r (λ _. new ≡ l)
 
 differ : true ≡ false → ⊥
 differ e = cc
@@ -37,6 +49,15 @@ used_given l h q u = go l.bump h.opened u
       | inl e ↦ subst (λ (k : ℕ). is_given l k ≡ true) e h.1
       | inr ne ↦ grind (arith, nat_tests)
     ]
+
+set_other : (live : List ℕ) (c k x : ℕ) → (c ≡ k → ⊥) → slice_index (slice_set live c x) k ≡ slice_index live k
+set_other live c k x apart = get_or-set_other live c k x 0 (λ e. apart (sym e))
+
+taken_meets : (l : Ledger) (o : Bump) (n : ℕ) → l.bump ≡ Some o → Meets (account_of l) (account_of (taken l o n))
+taken_meets l o n is k some = elim (cases_eq o.chunk k) [
+  | inl e ↦ inr (inl (ap (λ (b : Option Bump). is_bump b k) is ∙ grind (arith, nat_tests)))
+  | inr apart ↦ inl (let e = set_other l.live o.chunk k (slice_index l.live o.chunk + n) apart in omega arith)
+]
 
 -- from the open chunk
 module _ (l : Ledger) (h : IsLedger l) (n : ℕ) (some : 0 < n) (o : Bump) (is : l.bump ≡ Some o) (enough : n ≤ 1024 - o.filled) where
@@ -83,11 +104,28 @@ module _ (l : Ledger) (h : IsLedger l) (n : ℕ) (some : 0 < n) (o : Bump) (is :
     grows = record { stays = stays; settled = λ q u. refl; fresher = λ q f. f };
     consumes = consumes;
     handed = open_handed;
+    opens = λ k e. inl (ap (λ (p : Option Bump). is_bump p k) is ∙ e);
+    meets = taken_meets l o n is;
+    frozen = refl;
+    wanted = tt;
+    stays = tt;
   }
 
 -- from a free chunk
 abbrev newly : Ledger → ℕ → ℕ → Ledger
 newly l n c = taken (with_bump l c) (record { chunk = c; filled = 0 }) n
+
+same_chunk : (c k : ℕ) → (c == k) ≡ true → k ≡ c
+same_chunk c k e = grind (arith, nat_tests)
+
+newly_opens : (l : Ledger) (n c : ℕ) → First c l.given → OpensFree l.given (is_bump l.bump) (is_bump (newly l n c).bump)
+newly_opens l n c first = λ k o. inr (λ h. differ (sym (get_or_from_slice_get l.given k true false h) ∙ (ap (λ (j : ℕ). slice_index_or l.given j false) (same_chunk c k o) ∙ first.clear)))
+
+newly_meets : (l : Ledger) (n c : ℕ) → First c l.given → Meets (account_of l) (account_of (newly l n c))
+newly_meets l n c first k some = elim (cases_eq c k) [
+  | inl e ↦ inr (inr (λ h. differ (sym (get_or_from_slice_get l.given k true false h) ∙ (ap (λ (j : ℕ). slice_index_or l.given j false) (sym e) ∙ first.clear))))
+  | inr apart ↦ inl (let e = set_other l.live c k (slice_index l.live c + n) apart in omega arith)
+]
 
 module _ (l : Ledger) (h : IsLedger l) (n : ℕ) (some : 0 < n) (few : n ≤ 256) (short : left l.bump < n) (c : ℕ) (first : First c l.given) where
   -- what is in use lies in another chunk
@@ -154,119 +192,51 @@ module _ (l : Ledger) (h : IsLedger l) (n : ℕ) (some : 0 < n) (few : n ≤ 256
     grows = record { stays = new_stays; settled = new_settled; fresher = new_fresher };
     consumes = new_consumes;
     handed = new_handed;
+    opens = newly_opens l n c first;
+    meets = newly_meets l n c first;
+    frozen = refl;
+    wanted = tt;
+    stays = tt;
   }
 
-none_hands : (l : Ledger) (n : ℕ) (f : Full) → Hands l l n (Err f)
-none_hands l n f = record { gives = tt; grows = record { stays = λ q u. u; settled = λ q u. refl; fresher = λ q t. t }; consumes = (omega arith); handed = tt }
+none_hands : (l : Ledger) (n : ℕ) → Hands l l n (Err (shortage l n))
+none_hands l n = record {
+  gives = tt;
+  grows = record { stays = λ q u. u; settled = λ q u. refl; fresher = λ q t. t };
+  consumes = omega arith;
+  handed = tt;
+  opens = λ k o. inl o;
+  meets = λ k o. inl o;
+  frozen = refl;
+  wanted = refl;
+  stays = refl;
+}
 
-module _ (l : Ledger) (h : IsLedger l) (n : ℕ) (some : 0 < n) (few : n ≤ 256) where
-  by_free : (b : Bool) → nat_le (free_count l) (reserve_of l) ≡ b → left l.bump < n
-      → Hands l (if b then l else taken (with_bump l (lowest_free l)) (record { chunk = lowest_free l; filled = 0 }) n) n (if b then Err (shortage l n) else Ok (record { at = lowest_free l * 1024; given = Some (lowest_free l) }))
-  by_free true e short = none_hands l n (shortage l n)
-  by_free false e short = new_hands l h n some few short (lowest_free l) (first_is l.given (lowest_free l) refl (grind (arith, nat_tests)))
-
-  by_bump : (o : Option Bump) → l.bump ≡ o → Hands l (allocated_from l n (roomy o n)) n (granted_from l n (roomy o n))
-  by_bump None is = by_free (nat_le (free_count l) (reserve_of l)) refl (let e = ap left is in omega arith)
-  by_bump (Some o) is = by_left (nat_le n (1024 - o.filled)) refl
-    where
-      by_left : (b : Bool) → nat_le n (1024 - o.filled) ≡ b → Hands l (allocated_from l n (if b then Some o else None)) n (granted_from l n (if b then Some o else None))
-      by_left true e = open_hands l h n some o is (grind (arith, nat_tests))
-      by_left false e = by_free (nat_le (free_count l) (reserve_of l)) refl (let room = ap left is in grind (arith, nat_tests, e))
-
--- an allocation, by what it answered and left
-pub handed : (l : Ledger) → IsLedger l → (n : ℕ) → 0 < n → n ≤ 256 → (new : Ledger) (r : Result Grant Full) → new ≡ allocated l n → r ≡ grant_of l n → Hands l new n r
-handed l h n some few new r e f =
-    subst (λ (m : Ledger). Hands l m n r) (sym e) (subst (Hands l (allocated l n) n) (sym f) (by_bump l h n some few l.bump refl))
-
--- where there is no room, so many cells were wanted
-abbrev pub Wanted : ℕ → Result Grant Full → Type 0
-Wanted n r = IfErr r (λ f. f.needed ≡ n)
-
-pub wanted : (l : Ledger) (n : ℕ) (r : Result Grant Full) → r ≡ grant_of l n → Wanted n r
-wanted l n r is = subst (Wanted n) (sym is) (of_room (roomy l.bump n))
+-- What holds however an allocation goes: from the bump chunk, from the lowest free one, or not at all.
+pub allocated_by : (P : Ledger → Result Grant Shortage → Type 0) (kept_free : ℕ) (l : Ledger) (n : ℕ) → 0 < n
+    → ((o : Bump) → l.bump ≡ Some o → n ≤ 1024 - o.filled → P (taken l o n) (Ok (record { at = next_cell o; given = None })))
+    → (left l.bump < n → kept_free < free_count l → First (lowest_free l) l.given → P (newly_taken l n) (Ok (new_grant l)))
+    → P l (Err (shortage l n)) → (new : Ledger) (r : Result Grant Shortage) → new ≡ allocated kept_free l n → r ≡ grant_of kept_free l n → P new r
+allocated_by P kept_free l n some from_bump from_free none new r after grant =
+    subst (λ (m : Ledger). P m r) (sym after) (subst (P (allocated kept_free l n)) (sym grant) (by_bump l.bump refl))
   where
-    of_free : (b : Bool) → Wanted n (if b then Err (shortage l n) else Ok (record { at = lowest_free l * 1024; given = Some (lowest_free l) }))
-    of_free true = refl
-    of_free false = tt
+    by_free : (b : Bool) → nat_le (free_count l) kept_free ≡ b → left l.bump < n → P (if b then l else newly_taken l n) (if b then Err (shortage l n) else Ok (new_grant l))
+    by_free true e short = none
+    by_free false e short = from_free short (grind (arith, nat_tests, e)) (first_is l.given (lowest_free l) refl (grind (arith, nat_tests, e)))
 
-    of_room : (o : Option Bump) → Wanted n (granted_from l n o)
-    of_room None = of_free (nat_le (free_count l) (reserve_of l))
-    of_room (Some o) = tt
-
--- ---- a chunk that becomes the bump chunk was free
-
-abbrev pub OpensIn : Ledger → Ledger → Type 0
-OpensIn l new = OpensFree l.given (is_bump l.bump) (is_bump new.bump)
-
-same_chunk : (c k : ℕ) → (c == k) ≡ true → k ≡ c
-same_chunk c k e = grind (arith, nat_tests)
-
-pub newly_opens : (l : Ledger) (n c : ℕ) → First c l.given → OpensIn l (newly l n c)
-newly_opens l n c first = λ k o. inr (λ h. differ (sym (get_or_from_slice_get l.given k true false h) ∙ (ap (λ (j : ℕ). slice_index_or l.given j false) (same_chunk c k o) ∙ first.clear)))
-
-pub opens : (l : Ledger) (n : ℕ) (new : Ledger) → new ≡ allocated l n → OpensIn l new
-opens l n new is = subst (OpensIn l) (sym is) (of_room l.bump refl)
-  where
-    of_free : (b : Bool) → nat_le (free_count l) (reserve_of l) ≡ b → OpensIn l (if b then l else newly l n (lowest_free l))
-    of_free true e = λ k o. inl o
-    of_free false e = newly_opens l n (lowest_free l) (first_is l.given (lowest_free l) refl (grind (arith, nat_tests)))
-
-    of_room : (o : Option Bump) → l.bump ≡ o → OpensIn l (allocated_from l n (roomy o n))
-    of_room None is = of_free (nat_le (free_count l) (reserve_of l)) refl
-    of_room (Some o) is = of_left (nat_le n (1024 - o.filled))
+    by_bump : (o : Option Bump) → l.bump ≡ o → P (allocated_from kept_free l n (roomy o n)) (granted_from kept_free l n (roomy o n))
+    by_bump None is = by_free (nat_le (free_count l) kept_free) refl (let e = ap left is in omega arith)
+    by_bump (Some o) is = by_left (nat_le n (1024 - o.filled)) refl
       where
-        of_left : (b : Bool) → OpensIn l (allocated_from l n (if b then Some o else None))
-        of_left true = λ k e. inl (ap (λ (p : Option Bump). is_bump p k) is ∙ e)
-        of_left false = of_free (nat_le (free_count l) (reserve_of l)) refl
+        by_left : (b : Bool) → nat_le n (1024 - o.filled) ≡ b → P (allocated_from kept_free l n (if b then Some o else None)) (granted_from kept_free l n (if b then Some o else None))
+        by_left true e = from_bump o is (grind (arith, nat_tests))
+        by_left false e = by_free (nat_le (free_count l) kept_free) refl (let room = ap left is in grind (arith, nat_tests, e))
 
--- ---- which chunks get a cell that counts
+pub handed : (kept_free : ℕ) (l : Ledger) → IsLedger l → (n : ℕ) → 0 < n → n ≤ 256 → (new : Ledger) (r : Result Grant Shortage) → new ≡ allocated kept_free l n → r ≡ grant_of kept_free l n → Hands l new n r
+handed kept_free l h n some few = allocated_by (λ new r. Hands l new n r) kept_free l n some (λ o is enough. open_hands l h n some o is enough) (λ short more first. new_hands l h n some few short (lowest_free l) first) (none_hands l n)
 
-abbrev pub MeetsIn : Ledger → Ledger → Type 0
-MeetsIn l new = Meets (account_of l) (account_of new)
-
-set_other : (live : List ℕ) (c k x : ℕ) → (c ≡ k → ⊥) → slice_index (slice_set live c x) k ≡ slice_index live k
-set_other live c k x apart = get_or-set_other live c k x 0 (λ e. apart (sym e))
-
-pub taken_meets : (l : Ledger) (o : Bump) (n : ℕ) → l.bump ≡ Some o → MeetsIn l (taken l o n)
-taken_meets l o n is k some = elim (cases_eq o.chunk k) [
-  | inl e ↦ inr (inl (ap (λ (b : Option Bump). is_bump b k) is ∙ grind (arith, nat_tests)))
-  | inr apart ↦ inl (let e = set_other l.live o.chunk k (slice_index l.live o.chunk + n) apart in omega arith)
-]
-
-pub newly_meets : (l : Ledger) (n c : ℕ) → First c l.given → MeetsIn l (newly l n c)
-newly_meets l n c first k some = elim (cases_eq c k) [
-  | inl e ↦ inr (inr (λ h. differ (sym (get_or_from_slice_get l.given k true false h) ∙ (ap (λ (j : ℕ). slice_index_or l.given j false) (sym e) ∙ first.clear))))
-  | inr apart ↦ inl (let e = set_other l.live c k (slice_index l.live c + n) apart in omega arith)
-]
-
-pub meets : (l : Ledger) (n : ℕ) (new : Ledger) → new ≡ allocated l n → MeetsIn l new
-meets l n new is = subst (MeetsIn l) (sym is) (of_room l.bump refl)
-  where
-    of_free : (b : Bool) → nat_le (free_count l) (reserve_of l) ≡ b → MeetsIn l (if b then l else newly l n (lowest_free l))
-    of_free true e = λ k o. inl o
-    of_free false e = newly_meets l n (lowest_free l) (first_is l.given (lowest_free l) refl (grind (arith, nat_tests)))
-
-    of_room : (o : Option Bump) → l.bump ≡ o → MeetsIn l (allocated_from l n (roomy o n))
-    of_room None is = of_free (nat_le (free_count l) (reserve_of l)) refl
-    of_room (Some o) is = of_left (nat_le n (1024 - o.filled))
-      where
-        of_left : (b : Bool) → MeetsIn l (allocated_from l n (if b then Some o else None))
-        of_left true = taken_meets l o n is
-        of_left false = of_free (nat_le (free_count l) (reserve_of l)) refl
-
--- ---- no chunk of the reserve is taken
-
-pub spares : (l : Ledger) (n : ℕ) (new : Ledger) → new ≡ allocated l n → reserved new ≡ reserved l
-spares l n new is = ap reserved is ∙ of_room (roomy l.bump n)
-  where
-    of_free : (b : Bool) → nat_le (free_count l) (reserve_of l) ≡ b → reserved (if b then l else newly l n (lowest_free l)) ≡ reserved l
-    of_free true e = refl
-    of_free false e =
-        let more : reserve_of l < free_count l = grind (arith, nat_tests, e) in
-        let first = first_is l.given (lowest_free l) refl (omega arith) in
-        let fewer = one_fewer_clear l.given (lowest_free l) first.within first.clear in
-        let same = length-set l.given (lowest_free l) true in omega arith
-
-    of_room : (o : Option Bump) → reserved (allocated_from l n o) ≡ reserved l
-    of_room None = of_free (nat_le (free_count l) (reserve_of l)) refl
-    of_room (Some o) = refl
+-- no chunk of the reserve is taken
+pub spares : (l : Ledger) (n : ℕ) → 0 < n → (new : Ledger) (r : Result Grant Shortage) → new ≡ allocated (reserve_of l) l n → r ≡ grant_of (reserve_of l) l n → reserved new ≡ reserved l
+spares l n some = allocated_by (λ new r. reserved new ≡ reserved l) (reserve_of l) l n some (λ o is enough. refl) (λ short more first. (
+    let fewer = one_fewer_clear l.given (lowest_free l) first.within first.clear in
+    let same = length-set l.given (lowest_free l) true in omega arith)) refl

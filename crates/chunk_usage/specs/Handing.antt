@@ -1,10 +1,10 @@
 -- Cells that are handed out and released: what each call makes of a ledger.
-use Rattle.std.specs.Prelude.{◌≡◌, ℕ, ◌+◌, ◌-◌, ◌*◌, ◌/◌, ◌<◌, ◌≤◌, nat_le, ◌==◌, true, not, if◌then◌else◌, Option, None, Some, length, replicate, slice_index, slice_set, Result, Ok, Err}
+use Rattle.std.specs.Prelude.{◌≡◌, ℕ, ◌+◌, ◌-◌, ◌*◌, ◌/◌, ◌<◌, ◌≤◌, nat_le, true, not, if◌then◌else◌, Option, None, Some, length, replicate, slice_index, slice_set, Result, Ok, Err}
 use Rattle.std.specs.List.{position_or_len}
 use Rattle.trie_model.specs.Capacity.{filled_cells}
 use Rattle.chunk_usage.specs.declared.bump.Bump.{Bump}
 use Rattle.chunk_usage.specs.declared.space.Grant.{Grant}
-use Rattle.chunk_usage.specs.declared.space.Full.{Full}
+use Rattle.chunk_usage.specs.declared.space.Shortage.{Shortage}
 use Rattle.chunk_usage.specs.Ledger.{Ledger, left, free_count, reserve_of}
 
 -- the free chunk with the lowest number
@@ -26,12 +26,12 @@ taken l o n = record l {
   bump = Some (record { chunk = o.chunk; filled = o.filled + n });
 }
 
--- the bump chunk has fewer than n cells left, and only the reserve is free
-pub record IsShort (l : Ledger) (n : ℕ) : Type 0 where
+-- where so many chunks are kept free: the bump chunk has fewer than n cells left, and no other chunk is free
+pub record IsShort (kept_free : ℕ) (l : Ledger) (n : ℕ) : Type 0 where
   pub few_left : left l.bump < n
-  pub none_free : free_count l ≤ reserve_of l
+  pub none_free : free_count l ≤ kept_free
 
-abbrev pub shortage : Ledger → ℕ → Full
+abbrev pub shortage : Ledger → ℕ → Shortage
 shortage l n = record { needed = n; left = left l.bump; free = free_count l; reserve = reserve_of l }
 
 -- the place of the bump chunk's next cell
@@ -43,26 +43,6 @@ abbrev pub roomy : Option Bump → ℕ → Option Bump
 roomy None n = None
 roomy (Some o) n = if nat_le n (1024 - o.filled) then Some o else None
 
-abbrev pub granted_from : Ledger → ℕ → Option Bump → Result Grant Full
-granted_from l n (Some o) = Ok (record { at = next_cell o; given = None })
-granted_from l n None = if nat_le (free_count l) (reserve_of l) then Err (shortage l n) else Ok (record { at = lowest_free l * 1024; given = Some (lowest_free l) })
-
-abbrev pub allocated_from : Ledger → ℕ → Option Bump → Ledger
-allocated_from l n (Some o) = taken l o n
-allocated_from l n None = if nat_le (free_count l) (reserve_of l) then l else taken (with_bump l (lowest_free l)) (record { chunk = lowest_free l; filled = 0 }) n
-
--- what an allocation of n cells answers, and what it leaves
-abbrev pub grant_of : Ledger → ℕ → Result Grant Full
-grant_of l n = granted_from l n (roomy l.bump n)
-
-abbrev pub allocated : Ledger → ℕ → Ledger
-allocated l n = allocated_from l n (roomy l.bump n)
-
--- no chunk is free, and the bump chunk has fewer than n cells left
-pub record IsSpent (l : Ledger) (n : ℕ) : Type 0 where
-  pub few_left : left l.bump < n
-  pub none_free : free_count l ≡ 0
-
 -- the first cells of the lowest free chunk, which becomes the bump chunk
 abbrev pub new_grant : Ledger → Grant
 new_grant l = record { at = lowest_free l * 1024; given = Some (lowest_free l) }
@@ -70,20 +50,20 @@ new_grant l = record { at = lowest_free l * 1024; given = Some (lowest_free l) }
 abbrev pub newly_taken : Ledger → ℕ → Ledger
 newly_taken l n = taken (with_bump l (lowest_free l)) (record { chunk = lowest_free l; filled = 0 }) n
 
-abbrev pub reserve_granted_from : Ledger → ℕ → Option Bump → Result Grant Full
-reserve_granted_from l n (Some o) = Ok (record { at = next_cell o; given = None })
-reserve_granted_from l n None = if free_count l == 0 then Err (shortage l n) else Ok (new_grant l)
+-- What an allocation of n cells answers where so many chunks are kept free, and what it leaves: the reserve is kept free, or none is.
+abbrev pub granted_from : ℕ → Ledger → ℕ → Option Bump → Result Grant Shortage
+granted_from kept_free l n (Some o) = Ok (record { at = next_cell o; given = None })
+granted_from kept_free l n None = if nat_le (free_count l) kept_free then Err (shortage l n) else Ok (new_grant l)
 
-abbrev pub reserve_allocated_from : Ledger → ℕ → Option Bump → Ledger
-reserve_allocated_from l n (Some o) = taken l o n
-reserve_allocated_from l n None = if free_count l == 0 then l else newly_taken l n
+abbrev pub allocated_from : ℕ → Ledger → ℕ → Option Bump → Ledger
+allocated_from kept_free l n (Some o) = taken l o n
+allocated_from kept_free l n None = if nat_le (free_count l) kept_free then l else newly_taken l n
 
--- what an allocation of n cells answers that may take the reserve, and what it leaves
-abbrev pub reserve_grant_of : Ledger → ℕ → Result Grant Full
-reserve_grant_of l n = reserve_granted_from l n (roomy l.bump n)
+abbrev pub grant_of : ℕ → Ledger → ℕ → Result Grant Shortage
+grant_of kept_free l n = granted_from kept_free l n (roomy l.bump n)
 
-abbrev pub reserve_allocated : Ledger → ℕ → Ledger
-reserve_allocated l n = reserve_allocated_from l n (roomy l.bump n)
+abbrev pub allocated : ℕ → Ledger → ℕ → Ledger
+allocated kept_free l n = allocated_from kept_free l n (roomy l.bump n)
 
 -- n cells of one chunk don't count any more; none does
 abbrev pub released : Ledger → ℕ → ℕ → Ledger
@@ -93,8 +73,8 @@ abbrev pub all_released : Ledger → Ledger
 all_released l = record l { live = replicate (length l.live) 0 }
 
 -- the numbers say why there is no room; no more than 256 cells are wanted at once
-abbrev pub Lacks : Ledger → Full → Type 0
-Lacks l f = IsShort l f.needed × (f ≡ shortage l f.needed) × (f.needed ≤ 256)
+abbrev pub Lacks : Ledger → Shortage → Type 0
+Lacks l f = IsShort (reserve_of l) l f.needed × (f ≡ shortage l f.needed) × (f.needed ≤ 256)
 
 -- `filled_cells` for each given chunk, less what the bump chunk lacks of so many that are handed out
 abbrev pub unconsumed : Option Bump → ℕ

@@ -6,8 +6,8 @@ use Rattle.chunk_usage.specs.Ledger.{Ledger, Row, IsLedger, free_count}
 abbrev pub ledger_of : State → Ledger
 ledger_of s = record {
   live = s.counts.live;
-  given = s.allocated;
-  since = s.recent;
+  given = s.given;
+  since = s.since;
   bump = s.bump;
   last_live = s.counts.last;
   fender = s.fender;
@@ -21,5 +21,5 @@ pub record IsWhole (s : State) : Type 0 where
   pub free : s.free ≡ free_count (ledger_of s)
   pub slots : length s.slots.items ≡ s.passes + 2
   pub within : s.kept ≤ s.passes + 2
-  pub wide : All (λ (r : Row). length r.chunks ≡ length s.allocated) s.slots.items
-  pub unreached : length s.unreached ≡ length s.allocated
+  pub wide : All (λ (r : Row). length r.chunks ≡ length s.given) s.slots.items
+  pub unreached : length s.unreached ≡ length s.given

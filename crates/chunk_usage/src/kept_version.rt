@@ -50,14 +50,14 @@ impl KeptVersion {
     }
 
     /// Whether it is one of these versions.
-    pub fn is_among(&self, versions: &[u64]) -> bool
+    pub(crate) fn is_among(&self, versions: &[u64]) -> bool
         ensures { result ≡ is_among versions.now self.now.version }
     {
         versions.iter().any(|version| *version == self.version)
     }
 
     /// Whether it is this version.
-    pub fn is_of(&self, version: u64) -> bool
+    pub(crate) fn is_of(&self, version: u64) -> bool
         ensures { result ≡ is_row_of version self.now }
     {
         self.version == version

@@ -20,5 +20,5 @@ mod usage;
 pub use bump::Bump;
 pub use chunk_hints::{Listed, PATH_STEPS, Path};
 pub use kept_version::KeptVersion;
-pub use space::{Full, Grant, Space};
+pub use space::{Grant, Shortage, Space};
 pub use usage::Usage;

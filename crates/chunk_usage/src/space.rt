@@ -16,7 +16,7 @@ pub struct Grant {
 /// There is no room: the bump chunk has too few cells left, and no chunk but the reserve is free.
 #[derive(Clone, Copy, PartialEq, Eq, Debug, Error)]
 #[error("no room for {needed} cells: {left} are left in the bump chunk, and {free} chunks are free, where {reserve} are kept free")]
-pub struct Full {
+pub struct Shortage {
     /// How many cells were wanted.
     pub needed: u32,
     /// How many the bump chunk has left.
@@ -33,17 +33,17 @@ pub trait Space {
     ghost use Rattle.trie_model.specs.Extents.{row};
     ghost use Rattle.trie_model.specs.Reach.{in_chunk};
     ghost use Rattle.chunk_cells.specs.Chunks.{IsGiven};
-    ghost use Rattle.chunk_usage.specs.declared.space.Full.{Full};
+    ghost use Rattle.chunk_usage.specs.declared.space.Shortage.{Shortage};
     ghost use Rattle.chunk_usage.specs.Rooms.{Account, Handed, GivesChunk, OpensFree, Grows, Meets};
 
     // What is known of the cells.
     ghost account: { Self → Account };
 
     // These numbers say why there is no room.
-    ghost lacks: { Self → Full → Type 0 };
+    ghost lacks: { Self → Shortage → Type 0 };
 
     /// Hands out n cells of one chunk.
-    fn alloc(&mut self, n: u32) -> Result<Grant, Full>
+    fn alloc(&mut self, n: u32) -> Result<Grant, Shortage>
         requires some { 0 < n }
         requires few { n ≤ 256 }
         ensures handed { IfOk result (λ g. Handed (account self.old) (account self.new) g.at n) }
@@ -70,7 +70,7 @@ pub trait Space {
         requires together { at % 1024 + n ≤ 1024 }
         ensures counts { (k : ℕ) → (account self.new).live k + row (in_chunk k) at n ≡ (account self.old).live k }
         ensures rest { account self.new ≡ record (account self.old) { live = (account self.new).live } }
-        ensures lacks { (f : Full) → lacks self.old f → lacks self.new f };
+        ensures lacks { (f : Shortage) → lacks self.old f → lacks self.new f };
 
     /// The cells that are handed out are for what lies on a path. This is a hint, by which they may be found again.
     fn note(&mut self, path: Path)
@@ -80,5 +80,5 @@ pub trait Space {
     fn release_all(&mut self)
         ensures counts { (k : ℕ) → (account self.new).live k ≡ 0 }
         ensures rest { account self.new ≡ record (account self.old) { live = (account self.new).live } }
-        ensures lacks { (f : Full) → lacks self.old f → lacks self.new f };
+        ensures lacks { (f : Shortage) → lacks self.old f → lacks self.new f };
 }

@@ -30,8 +30,8 @@ struct State {
     // How many cells of each chunk count, now and at the last freeze.
     counts: Counts,
     // The chunks that are given, and those of them that were given since the last freeze.
-    allocated: ChunkSet,
-    recent: ChunkSet,
+    given: ChunkSet,
+    since: ChunkSet,
     // How many chunks are free.
     free: u32,
     // The bump chunk with its counter, and the fender: the same at the last freeze.
@@ -71,13 +71,13 @@ impl Usage {
         ensures { IfOk result (λ u. u ≡ unused chunks passes) }
     {
         let counts = Counts::new(alloc, chunks)?;
-        let (allocated, recent, unreached) = empty_sets(alloc, chunks)?;
+        let (given, since, unreached) = empty_sets(alloc, chunks)?;
         let slots = slots_for(alloc, passes + 2, chunks)?;
         let (ages, hints) = guesses(alloc, chunks)?;
         let state = State {
             counts,
-            allocated,
-            recent,
+            given,
+            since,
             free: chunks,
             bump: None,
             fender: None,
@@ -105,7 +105,7 @@ impl Usage {
     pub fn chunks(&self) -> u32
         ensures { result ≡ length self.now.given }
     {
-        self.state.allocated.chunks()
+        self.state.given.chunks()
     }
 
     /// How many chunks are free.
@@ -121,7 +121,7 @@ impl Usage {
     pub fn reserve(&self) -> u32
         ensures { result ≡ reserve_of self.now }
     {
-        self.state.allocated.chunks() / 4
+        self.state.given.chunks() / 4
     }
 
     /// Whether there is such a chunk, and it is free.
@@ -129,7 +129,7 @@ impl Usage {
     pub fn is_free(&self, chunk: u32) -> bool
         ensures { IsTrue result ↔ IsFree self.now.given chunk }
     {
-        chunk < self.state.allocated.chunks() && !self.state.allocated.contains(chunk)
+        chunk < self.state.given.chunks() && !self.state.given.contains(chunk)
     }
 
     /// How many cells of a chunk count: 0 where there is no such chunk.

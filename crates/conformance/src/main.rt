@@ -17,7 +17,7 @@ use std::sync::Wait;
 use std::thread::Threads;
 
 /// The files of cases, one a topic.
-const TOPICS: [&str; 15] = [
+const TOPICS: [&str; 17] = [
     "answers.cases",
     "check.cases",
     "diff.cases",
@@ -26,9 +26,11 @@ const TOPICS: [&str; 15] = [
     "faults.cases",
     "feed.cases",
     "jobs.cases",
+    "live.cases",
     "loads.cases",
     "prerequisites.cases",
     "refusals.cases",
+    "responses.cases",
     "room.cases",
     "sizes.cases",
     "workers.cases",

@@ -25,7 +25,7 @@ use Rattle.trie_space.proofs.RootedLaws.{stands_rooted, rooted_stands}
 use Rattle.evacuate.specs.declared.evacuation.Done.{Done}
 use Rattle.evacuate.specs.declared.evacuation.Done.TheVariants.{Whole, Stopped}
 use Rattle.evacuate.specs.Evacuations.{IsDense, IsCleared, refused}
-use Rattle.evacuate.specs.Fillings.{Fills, IsFull, is_old, old_live}
+use Rattle.evacuate.specs.Fillings.{Fills, IsUsedUp, is_old, old_live}
 use Rattle.evacuate.specs.Places.{Stood}
 use Rattle.evacuate.proofs.FillingLaws.{all_parts, sparse_old}
 use Rattle.evacuate.proofs.SumLaws.{old_reached}
@@ -94,10 +94,10 @@ module _ (l new : Ledger) (same : length new.given ≡ length l.given) (c : ℕ)
   pub asked : free_count l ≤ free_count new + (c / 769 + 1)
   asked = let a = most_free in let b = most_free_then in let u = unconsumed_few new.bump in omega arith
 
-  pub asked_in_vain : IsFull new → free_count l + 1 ≤ free_count new + (c / 769 + 1)
-  asked_in_vain full = let a = most_free in let b = most_free_then in let s = full.consumed.few_left in let n = full.few in let u = all_consumed new.bump (omega arith) in omega arith
+  pub asked_in_vain : IsUsedUp new → free_count l + 1 ≤ free_count new + (c / 769 + 1)
+  asked_in_vain full = let a = most_free in let b = most_free_then in let s = full.short.few_left in let n = full.few in let u = all_consumed new.bump (omega arith) in omega arith
 
-  pub asked_by : (d : Done) → (d ≡ Stopped → IsFull new) → free_count l + refused d ≤ free_count new + (c / 769 + 1)
+  pub asked_by : (d : Done) → (d ≡ Stopped → IsUsedUp new) → free_count l + refused d ≤ free_count new + (c / 769 + 1)
   asked_by Whole full = let a = asked in omega arith
   asked_by Stopped full = asked_in_vain (full refl)
 

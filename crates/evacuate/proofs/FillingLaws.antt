@@ -6,14 +6,13 @@ use Rattle.std.proofs.lemmas.Bool.Decides.{nat_tests}
 use Rattle.std.proofs.lemmas.List.{length-set, get_or-set_same, get_or-set_other}
 use Rattle.chunk_usage.specs.declared.bump.Bump.{Bump}
 use Rattle.chunk_usage.specs.declared.space.Grant.{Grant}
-use Rattle.chunk_usage.specs.declared.space.Full.{Full}
+use Rattle.chunk_usage.specs.declared.space.Shortage.{Shortage}
 use Rattle.chunk_usage.specs.Counting.{is_low, is_sparse}
 use Rattle.chunk_usage.specs.Ledger.{Ledger, IsLedger, IsBump, is_given, is_bump, is_used, is_mutable, filled, left, free_count, frozen_part}
-use Rattle.chunk_usage.specs.Handing.{lowest_free, newly_taken, new_grant, next_cell, taken, roomy, shortage, released, reserve_granted_from, reserve_allocated_from, reserve_grant_of, reserve_allocated}
+use Rattle.chunk_usage.specs.Handing.{lowest_free, newly_taken, new_grant, next_cell, taken, released, grant_of, allocated}
 use Rattle.chunk_usage.specs.Keeping.{closed, full}
 use Rattle.chunk_sets.proofs.FlagLemmas.{set_stays, set_within, First, first_is}
-use Rattle.chunk_usage.proofs.SpaceLaws.{Hands, MeetsIn, OpensIn, used_given}
-use Rattle.evacuate.proofs.ReserveLaws.{reserve_handed, reserve_frozen, reserve_meets, reserve_opens}
+use Rattle.chunk_usage.proofs.SpaceLaws.{Hands, allocated_by, handed, used_given}
 use Rattle.evacuate.specs.Evacuations.{FillsNew}
 use Rattle.evacuate.specs.Fillings.{Fills, Moves, Paid, is_old, old_live}
 
@@ -83,7 +82,7 @@ sparse_closed l k s = let p = sparse_parts l k s in all_parts _ _ _ p.is p.few (
 
 -- ---- cells are handed out
 
-pub record FillsMore (given : List Bool) (l new : Ledger) (r : Result Grant Full) : Type 0 where
+pub record FillsMore (given : List Bool) (l new : Ledger) (r : Result Grant Shortage) : Type 0 where
   pub fills : Fills given new
   pub sparse : (k : ℕ) → is_sparse l k ≡ true → is_sparse new k ≡ true
   pub same : old_live given new.live ≡ old_live given l.live
@@ -203,24 +202,9 @@ module _ (given : List Bool) (l : Ledger) (h : IsLedger l) (f : Fills given l) w
       elsewhere = ap (λ (k : ℕ). slice_index_or given k false) (let z : lowest_free l * 1024 / 1024 ≡ lowest_free l = omega arith in z) ∙ c_new;
     }
 
-  none_fills : (full : Full) → FillsMore given l l (Err full)
-  none_fills full = record { fills = f; sparse = λ k s. s; same = refl; elsewhere = tt }
-
   module _ (n : ℕ) (some : 0 < n) (few : n ≤ 256) where
-    fills_by_free : (b : Bool) → (free_count l == 0) ≡ b → left l.bump < n → FillsMore given l (if b then l else newly_taken l n) (if b then Err (shortage l n) else Ok (new_grant l))
-    fills_by_free true e short = none_fills (shortage l n)
-    fills_by_free false e short = new_fills n few short (first_is l.given (lowest_free l) refl (grind (arith, nat_tests, e)))
-
-    fills_by_bump : (o : Option Bump) → l.bump ≡ o → FillsMore given l (reserve_allocated_from l n (roomy o n)) (reserve_granted_from l n (roomy o n))
-    fills_by_bump None is = fills_by_free (free_count l == 0) refl (let e = ap left is in omega arith)
-    fills_by_bump (Some o) is = by_left (nat_le n (1024 - o.filled)) refl
-      where
-        by_left : (b : Bool) → nat_le n (1024 - o.filled) ≡ b → FillsMore given l (reserve_allocated_from l n (if b then Some o else None)) (reserve_granted_from l n (if b then Some o else None))
-        by_left true e = open_fills n some o is (grind (arith, nat_tests))
-        by_left false e = fills_by_free (free_count l == 0) refl (let room = ap left is in grind (arith, nat_tests, e))
-
-    pub fills_handed : (new : Ledger) (r : Result Grant Full) → new ≡ reserve_allocated l n → r ≡ reserve_grant_of l n → FillsMore given l new r
-    fills_handed new r e e2 = subst (λ (m : Ledger). FillsMore given l m r) (sym e) (subst (FillsMore given l (reserve_allocated l n)) (sym e2) (fills_by_bump l.bump refl))
+    pub fills_handed : (new : Ledger) (r : Result Grant Shortage) → new ≡ allocated 0 l n → r ≡ grant_of 0 l n → FillsMore given l new r
+    fills_handed = allocated_by (FillsMore given l) 0 l n some (λ o is enough. open_fills n some o is enough) (λ short more first. new_fills n few short first) (record { fills = f; sparse = λ k s. s; same = refl; elsewhere = tt })
 
 -- ---- n cells of an old chunk are released, and what lies in one
 
@@ -278,24 +262,18 @@ pub moves_then : {given : List Bool} {n : ℕ} {l l1 l2 : Ledger} → Moves give
 moves_then a b = record { fills = b.fills; sparse = λ k s. b.sparse k (a.sparse k s); fewer = (let x = a.fewer in let y = b.fewer in omega arith); paid = (let x = a.paid in let y = b.paid in omega arith) }
 
 -- cells are handed out
-pub moves_handed : {given : List Bool} {n : ℕ} {l new : Ledger} {r : Result Grant Full} → FillsMore given l new r → Hands l new n r → Moves given n l new
+pub moves_handed : {given : List Bool} {n : ℕ} {l new : Ledger} {r : Result Grant Shortage} → FillsMore given l new r → Hands l new n r → Moves given n l new
 moves_handed f h = record { fills = f.fills; sparse = f.sparse; fewer = (let e = f.same in omega arith); paid = (let e = f.same in let s = h.consumes in omega arith) }
 
 -- an allocation that was granted
 pub record Granted (l new : Ledger) (n : ℕ) (g : Grant) : Type 0 where
   pub hands : Hands l new n (Ok g)
   pub fills : (given : List Bool) → Fills given l → FillsMore given l new (Ok g)
-  pub frozen : frozen_part new ≡ frozen_part l
-  pub opens : OpensIn l new
-  pub meets : MeetsIn l new
 
-pub granted : {l new : Ledger} {n : ℕ} {g : Grant} → IsLedger l → 0 < n → n ≤ 256 → new ≡ reserve_allocated l n → Ok g ≡ reserve_grant_of l n → Granted l new n g
+pub granted : {l new : Ledger} {n : ℕ} {g : Grant} → IsLedger l → 0 < n → n ≤ 256 → new ≡ allocated 0 l n → Ok g ≡ grant_of 0 l n → Granted l new n g
 granted {l} {new} {n} {g} h some few e f = record {
-  hands = reserve_handed l h n some few new (Ok g) e f;
+  hands = handed 0 l h n some few new (Ok g) e f;
   fills = λ given fills. fills_handed given l h fills n some few new (Ok g) e f;
-  frozen = ap frozen_part e ∙ reserve_frozen l n;
-  opens = reserve_opens l n new e;
-  meets = reserve_meets l n new e;
 }
 
 -- and those that they stand for are released

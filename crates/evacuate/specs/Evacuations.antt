@@ -5,7 +5,7 @@ use Rattle.chunk_usage.specs.Counting.{is_sparse}
 use Rattle.chunk_usage.specs.Ledger.{Ledger, filled, is_given, is_bump}
 use Rattle.evacuate.specs.declared.evacuation.Done.{Done}
 use Rattle.evacuate.specs.declared.evacuation.Done.TheVariants.{Whole, Stopped}
-use Rattle.evacuate.specs.Fillings.{Fills, IsFull}
+use Rattle.evacuate.specs.Fillings.{Fills, IsUsedUp}
 
 -- each chunk with a cell that counts, but the bump chunk, has over 256
 abbrev pub IsDense : Ledger → Type 0
@@ -35,5 +35,5 @@ refused Stopped = 1
 -- how what lists led to was moved, unless some is left
 pub record ListsEnd (l new : Ledger) (done : Option Done) : Type 0 where
   pub whole : done ≡ Some Whole → IsCleared new
-  pub full : done ≡ Some Stopped → IsFull new
+  pub full : done ≡ Some Stopped → IsUsedUp new
   pub left : done ≡ Some Stopped → (given : List Bool) → Fills given l → HasSparse new

@@ -4,7 +4,7 @@ use Rattle.trie_model.specs.Capacity.{filled_cells}
 use Rattle.chunk_usage.specs.declared.bump.Bump.{Bump}
 use Rattle.chunk_usage.specs.Counting.{is_sparse, is_unmixed}
 use Rattle.chunk_usage.specs.Ledger.{Ledger, is_given, is_bump, filled}
-use Rattle.chunk_usage.specs.Handing.{IsSpent, consumed}
+use Rattle.chunk_usage.specs.Handing.{IsShort, consumed}
 use Rattle.chunk_usage.specs.Keeping.{closed}
 
 -- the cell lies in a chunk that the evacuation found given, and doesn't fill
@@ -67,10 +67,10 @@ abbrev pub PaidIfOld : Ledger → Ledger → ℕ → ℕ → Type 0
 PaidIfOld l new from n = (given : List Bool) → Fills given l → is_old given from ≡ true → Paid given n l new
 
 -- no chunk is free, and the bump chunk has fewer cells left than some row or item needs
-pub record IsFull (l : Ledger) : Type 0 where
+pub record IsUsedUp (l : Ledger) : Type 0 where
   pub needed : ℕ
   pub few : needed ≤ 256
-  pub consumed : IsSpent l needed
+  pub short : IsShort 0 l needed
 
 -- something was moved: fewer cells of old chunks count
 abbrev pub Fewer : Ledger → Ledger → Type 0

@@ -10,7 +10,7 @@ use Rattle.chunk_usage.specs.Ledger.{Ledger, free_count}
 use Rattle.chunk_usage.specs.Rooms.{reserve_account_of}
 use Rattle.trie_space.specs.Spaces.{Fenced, IsWritable, Ready}
 use Rattle.evacuate.specs.Evacuations.{FillsNew}
-use Rattle.evacuate.specs.Fillings.{Fills, Moves, IsFull, old_live}
+use Rattle.evacuate.specs.Fillings.{Fills, Moves, IsUsedUp, old_live}
 use Rattle.evacuate.specs.Places.{Stood, HangsIn, IsStood, IsHung}
 
 -- more may be moved
@@ -37,7 +37,7 @@ pub record CanMove {S : Type 0} (has : S → ℕ → Cell → Type 0) (kept : S 
 
 -- there was no room to move it, and all is as it was
 pub record Unmoved {S : Type 0} (s : S) (l : Ledger) (s_new : S) (l_new : Ledger) : Type 0 where
-  pub full : IsFull l_new
+  pub full : IsUsedUp l_new
   pub same : s_new ≡ s
   pub unchanged : l_new ≡ l
 

@@ -2,7 +2,7 @@
 
 ghost use Rattle.std.specs.Prelude.{◌≡◌, ◌+◌, ◌/◌, ◌<◌, ◌≤◌, ◌^◌, List, Bool, true, IfOk, IfErr, IfSome, count_ones};
 ghost use Rattle.evacuate.specs.Prelude.{Branch, branch_node, is_sparse, reserve_account_of, Ready, Fenced, IsWritable, Fills};
-ghost use Rattle.evacuate.specs.Prelude.{Moves, IsFull, Hangs, IsStood, CanMove, CanRearrange, MayPass, OnWay, Rearranged};
+ghost use Rattle.evacuate.specs.Prelude.{Moves, IsUsedUp, Hangs, IsStood, CanMove, CanRearrange, MayPass, OnWay, Rearranged};
 ghost use Rattle.evacuate.specs.Prelude.{Unmoved, Passed};
 
 use super::foothold::Foothold;
@@ -12,7 +12,7 @@ use super::path_walk::{Descent, NO_OFFSET, descent_on};
 use super::sparse::{is_chunk_sparse, is_item_sparse};
 use chunk_cells::CellWrite;
 use chunk_cells::extents::LAST_OCTETS;
-use chunk_usage::{Full, Path, Usage};
+use chunk_usage::{Path, Shortage, Usage};
 use packed_node::{Branch, Leaf, Node, Ref, chunk_of};
 
 /// A branch on the way, and whether its twigs stay where they are.
@@ -84,7 +84,7 @@ pub fn pass<C: CellWrite>(
     usage: &mut Usage,
     at: Ref,
     passage: Passage,
-) -> Result<Ref, Full>
+) -> Result<Ref, Shortage>
     requires may_pass { MayPass usage.old passage }
     requires can { CanMove C.has C.kept C.given at (branch_node passage.descent.branch) cells.old usage.old }
     ensures hung { IfOk result (λ twig. Passed C.has at passage cells.old usage.old cells.new usage.new twig) }
@@ -123,14 +123,14 @@ pub fn go_on<C: CellWrite>(
     chunk: u32,
     end: u16,
     others: bool,
-) -> Result<WayEnd, Full>
+) -> Result<WayEnd, Shortage>
     requires stood { IsStood C.has cells.old usage.old root }
     requires hangs { Hangs C.has cells.old usage.old root from.at from.node }
     requires writable { IsWritable C.given reserve_account_of cells.old usage.old from.at }
     requires ready { Ready C.kept C.given reserve_account_of cells.old usage.old }
     ensures way { IfOk result (λ to. OnWay C.has C.kept C.given root cells.old usage.old cells.new usage.new to.at to.node) }
     ensures rearranged { Rearranged C.has C.kept C.given root cells.old usage.old cells.new usage.new }
-    ensures full { IfErr result (λ _. IsFull usage.new) }
+    ensures full { IfErr result (λ _. IsUsedUp usage.new) }
 {
     let mut on = from.on;
     let mut at = from.at;
@@ -156,10 +156,10 @@ pub fn empty_along<C: CellWrite>(
     path: Path,
     chunk: u32,
     to_item: bool,
-) -> Result<bool, Full>
+) -> Result<bool, Shortage>
     requires { CanRearrange C.has C.kept C.given root cells.old usage.old }
     ensures rearranged { Rearranged C.has C.kept C.given root cells.old usage.old cells.new usage.new }
-    ensures full { IfErr result (λ _. IsFull usage.new) }
+    ensures full { IfErr result (λ _. IsUsedUp usage.new) }
 {
     let from = Foothold {
         at: root,

@@ -6,7 +6,7 @@ ghost use Rattle.evacuate.specs.Prelude.{Fills, Moves, Unmoved, begun, filled_on
 
 use super::moves::move_root;
 use chunk_cells::CellWrite;
-use chunk_usage::{Full, Usage};
+use chunk_usage::{Shortage, Usage};
 use packed_node::{Ref, chunk_of};
 
 /// The bump chunk is filled on, and told, where its transaction has it to itself and nothing in it has ceased to count. Else what is
@@ -37,7 +37,7 @@ pub fn copy_root<C: CellWrite>(
     usage: &mut Usage,
     root: Ref,
     chunk: Option<u32>,
-) -> Result<Ref, Full>
+) -> Result<Ref, Shortage>
     requires stood { IsStood C.has cells.old usage.old root }
     requires fills { Fills (old_chunks usage.old.given chunk) usage.old }
     requires ready { Ready C.kept C.given reserve_account_of cells.old usage.old }

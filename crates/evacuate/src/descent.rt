@@ -3,7 +3,7 @@
 
 ghost use Rattle.std.specs.Prelude.{◌≡◌, ◌^◌, ◌<◌, ◌≤◌, List, Bool, IfOk, IfErr, IfSome, None};
 ghost use Rattle.evacuate.specs.Prelude.{branch_node, node_of, Tree, reserve_account_of, Ready, Fenced, IsWritable, NotBefore};
-ghost use Rattle.evacuate.specs.Prelude.{HasSparse, Fills, Moves, Fewer, IsFull, CanMove, CanRearrange, Rearranged};
+ghost use Rattle.evacuate.specs.Prelude.{HasSparse, Fills, Moves, Fewer, IsUsedUp, CanMove, CanRearrange, Rearranged};
 ghost use Rattle.evacuate.specs.Prelude.{Finds, IsDue, Reaches, StandsAboveNode};
 
 use super::along::{Passage, pass};
@@ -13,7 +13,7 @@ use super::node_cells::first_cell;
 use super::path_walk::Descent;
 use super::trail::Trail;
 use chunk_cells::CellWrite;
-use chunk_usage::{Full, Usage};
+use chunk_usage::{Shortage, Usage};
 use packed_node::{Branch, Node, Ref};
 
 /// The branch that a node is, where its offset comes before a place.
@@ -47,13 +47,13 @@ pub fn reach<C: CellWrite>(
     usage: &mut Usage,
     root: Ref,
     trail: &Trail,
-) -> Result<Spot, Full>
+) -> Result<Spot, Shortage>
     requires can { CanRearrange C.has C.kept C.given root cells.old usage.old }
     requires found { Finds C.has cells.old usage.old root trail.now }
     ensures reached { IfOk result (λ spot. Reaches C.has root cells.old usage.old cells.new usage.new spot.at spot.node) }
     ensures writable { IfOk result (λ spot. IsWritable C.given reserve_account_of cells.new usage.new spot.at) }
     ensures rearranged { Rearranged C.has C.kept C.given root cells.old usage.old cells.new usage.new }
-    ensures full { IfErr result (λ _. IsFull usage.new) }
+    ensures full { IfErr result (λ _. IsUsedUp usage.new) }
     ensures left { IfErr result (λ _. (given : List Bool) → Fills given usage.old → HasSparse usage.new) }
 {
     let mut at = root;
@@ -70,12 +70,12 @@ pub fn reach<C: CellWrite>(
 
 /// Moves what hangs on a spot's node: the twigs of a branch, or the extents of an item as far as some lie in sparse chunks. Where there is
 /// no room, what was moved before stays so.
-fn move_spot<C: CellWrite>(cells: &mut C, usage: &mut Usage, spot: Spot) -> Result<(), Full>
+fn move_spot<C: CellWrite>(cells: &mut C, usage: &mut Usage, spot: Spot) -> Result<(), Shortage>
     requires { CanMove C.has C.kept C.given spot.at spot.node cells.old usage.old }
     ensures stood { StandsAboveNode C.has spot.at spot.node cells.old usage.old cells.new usage.new }
     ensures moves { IsDue C.has cells.old usage.old spot.at spot.node → (given : List Bool) → Fills given usage.old → Moves given 0 usage.old usage.new }
     ensures less { IfOk result (λ _. IsDue C.has cells.old usage.old spot.at spot.node → Fewer usage.old usage.new) }
-    ensures full { IfErr result (λ _. IsFull usage.new) }
+    ensures full { IfErr result (λ _. IsUsedUp usage.new) }
     ensures left { IfErr result (λ _. IsDue C.has cells.old usage.old spot.at spot.node → HasSparse usage.new) }
     ensures frame { Fenced C.has C.kept C.given reserve_account_of cells.old usage.old cells.new usage.new }
     ensures ready { Ready C.kept C.given reserve_account_of cells.new usage.new }
@@ -96,12 +96,12 @@ pub fn move_found<C: CellWrite>(
     usage: &mut Usage,
     root: Ref,
     trail: &Trail,
-) -> Result<Ref, Full>
+) -> Result<Ref, Shortage>
     requires can { CanRearrange C.has C.kept C.given root cells.old usage.old }
     requires found { Finds C.has cells.old usage.old root trail.now }
     ensures rearranged { Rearranged C.has C.kept C.given root cells.old usage.old cells.new usage.new }
     ensures less { IfOk result (λ _. Fewer usage.old usage.new) }
-    ensures full { IfErr result (λ _. IsFull usage.new) }
+    ensures full { IfErr result (λ _. IsUsedUp usage.new) }
     ensures left { IfErr result (λ _. (given : List Bool) → Fills given usage.old → HasSparse usage.new) }
 {
     let spot = reach(cells, usage, root, trail)?;

@@ -2,7 +2,7 @@
 
 ghost use Rattle.std.specs.Prelude.{◌≡◌, ◌+◌, ◌/◌, ◌≤◌, List, true, false};
 ghost use Rattle.evacuate.specs.Prelude.{Entry, account_of, reserve_account_of, Ready, Fenced, HasTrie, FillsNew, IsDense};
-ghost use Rattle.evacuate.specs.Prelude.{IsCleared, HasSparse, ListsEnd, IsFull, IsStood, CanRearrange, Emptied, Rearranged};
+ghost use Rattle.evacuate.specs.Prelude.{IsCleared, HasSparse, ListsEnd, IsUsedUp, IsStood, CanRearrange, Emptied, Rearranged};
 ghost use Rattle.evacuate.specs.Prelude.{cells_of, filled_cells, free_count, refused};
 
 use super::beginning::{begin, copy_root};
@@ -39,7 +39,7 @@ pub fn evacuate<C: CellWrite>(cells: &mut C, usage: &mut Usage, root: Root) -> (
     ensures none { IsCleared usage.old → usage.new ≡ usage.old }
     ensures fills { FillsNew usage.old usage.new }
     ensures whole { result.1 ≡ Done.Whole → IsDense usage.new }
-    ensures stopped { result.1 ≡ Done.Stopped → IsFull usage.new }
+    ensures stopped { result.1 ≡ Done.Stopped → IsUsedUp usage.new }
     ensures left { result.1 ≡ Done.Stopped → HasSparse usage.new }
     ensures asks { (version : List Entry) → HasTrie C.has account_of cells.old usage.old root version
         → free_count usage.old + refused result.1 ≤ free_count usage.new + (cells_of version / filled_cells + 1) }
@@ -69,7 +69,7 @@ fn empty_sparse<C: CellWrite>(cells: &mut C, usage: &mut Usage, root: Ref) -> (R
     requires ready { Ready C.kept C.given reserve_account_of cells.old usage.old }
     ensures emptied { Emptied C.has C.kept C.given root cells.old usage.old result.0 cells.new usage.new }
     ensures whole { result.1 ≡ Done.Whole → IsCleared usage.new }
-    ensures stopped { result.1 ≡ Done.Stopped → IsFull usage.new }
+    ensures stopped { result.1 ≡ Done.Stopped → IsUsedUp usage.new }
     ensures left { result.1 ≡ Done.Stopped → HasSparse usage.new }
 {
     usage.known(); // for the proof

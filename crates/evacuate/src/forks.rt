@@ -1,14 +1,14 @@
 //! What lies in sparse chunks along a path that forks: at a branch of which it says no twig it goes on to all.
 
 ghost use Rattle.std.specs.Prelude.{◌≡◌, ◌≤◌, true, IfErr, count_ones};
-ghost use Rattle.evacuate.specs.Prelude.{Tree, IsTop, IsFull, CanRearrange, Rearranged, Found, TrailKept};
+ghost use Rattle.evacuate.specs.Prelude.{Tree, IsTop, IsUsedUp, CanRearrange, Rearranged, Found, TrailKept};
 
 use super::descent::{move_found, reach};
 use super::path_walk::{descent_on, position_from};
 use super::sparse::is_chunk_sparse;
 use super::trail::{Trail, ends_at_leaf};
 use chunk_cells::{CellRead, CellWrite};
-use chunk_usage::{Full, Path, Usage};
+use chunk_usage::{Path, Shortage, Usage};
 use packed_node::{Branch, Cell, Node, Ref, chunk_of};
 
 /// So many nodes are passed before a path is given up.
@@ -157,10 +157,10 @@ pub fn copy_forked<C: CellWrite>(
     usage: &mut Usage,
     root: Ref,
     path: Path,
-) -> Result<bool, Full>
+) -> Result<bool, Shortage>
     requires { CanRearrange C.has C.kept C.given root cells.old usage.old }
     ensures rearranged { Rearranged C.has C.kept C.given root cells.old usage.old cells.new usage.new }
-    ensures full { IfErr result (λ _. IsFull usage.new) }
+    ensures full { IfErr result (λ _. IsUsedUp usage.new) }
 {
     let mut trail = Trail::new();
     let mut leaf = path;
@@ -179,10 +179,10 @@ pub fn move_forked<C: CellWrite>(
     usage: &mut Usage,
     root: Ref,
     path: Path,
-) -> Result<(), Full>
+) -> Result<(), Shortage>
     requires { CanRearrange C.has C.kept C.given root cells.old usage.old }
     ensures rearranged { Rearranged C.has C.kept C.given root cells.old usage.old cells.new usage.new }
-    ensures full { IfErr result (λ _. IsFull usage.new) }
+    ensures full { IfErr result (λ _. IsUsedUp usage.new) }
 {
     let mut trail = Trail::new();
     let mut leaf = path;

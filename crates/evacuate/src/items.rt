@@ -3,14 +3,14 @@
 
 ghost use Rattle.std.specs.Prelude.{◌≡◌, ◌⊎◌, ◌+◌, ◌-◌, ◌/◌, ◌^◌, ◌<◌, ◌≤◌, List, Bool, true, false, IfOk, IfErr};
 ghost use Rattle.evacuate.specs.Prelude.{leaf_node, is_sparse, is_mutable, reserve_account_of, Ready, Fenced, IsWritable, GoesOn};
-ghost use Rattle.evacuate.specs.Prelude.{GoesSparse, HasSparse, Fills, Moves, Fewer, MovedIfDue, IsFull, IsDue, CanMove, Unmoved};
+ghost use Rattle.evacuate.specs.Prelude.{GoesSparse, HasSparse, Fills, Moves, Fewer, MovedIfDue, IsUsedUp, IsDue, CanMove, Unmoved};
 ghost use Rattle.evacuate.specs.Prelude.{HoldsBehind, StandsAboveItem, StandsAboveNode, StillGoesOn, StillHangs};
 
 use super::moves::{move_linked, move_node};
 use super::sparse::is_item_sparse;
 use chunk_cells::CellWrite;
 use chunk_cells::extents::{LAST_OCTETS, LINKED_OCTETS, link_of, next_extent};
-use chunk_usage::{Full, Usage};
+use chunk_usage::{Shortage, Usage};
 use packed_node::{Leaf, Node, Ref, chunk_of};
 
 /// Whether an extent is to be moved that begins here, where its item has so many octets from there on: it lies in a sparse chunk, or it
@@ -36,7 +36,7 @@ fn move_first<C: CellWrite>(
     usage: &mut Usage,
     at: Ref,
     leaf: Leaf,
-) -> Result<Ref, Full>
+) -> Result<Ref, Shortage>
     requires { CanMove C.has C.kept C.given at (leaf_node leaf) cells.old usage.old }
     ensures hung { IfOk result (λ to. StillHangs C.has at (leaf_node leaf) cells.old usage.old cells.new usage.new to) }
     ensures writable { IfOk result (λ to. 4096 < leaf.len → IsWritable C.given reserve_account_of cells.new usage.new (to + 255)) }
@@ -54,7 +54,12 @@ fn move_first<C: CellWrite>(
 }
 
 /// The same of the extent behind one that begins here, whose item has so many octets from there on.
-fn move_next<C: CellWrite>(cells: &mut C, usage: &mut Usage, at: Ref, len: u16) -> Result<Ref, Full>
+fn move_next<C: CellWrite>(
+    cells: &mut C,
+    usage: &mut Usage,
+    at: Ref,
+    len: u16,
+) -> Result<Ref, Shortage>
     requires goes { GoesOn C.has cells.old usage.old at len }
     requires writable { IsWritable C.given reserve_account_of cells.old usage.old (at + 255) }
     requires ready { Ready C.kept C.given reserve_account_of cells.old usage.old }
@@ -81,14 +86,14 @@ fn move_behind<C: CellWrite>(
     usage: &mut Usage,
     at: Ref,
     len: u16,
-) -> Result<(), Full>
+) -> Result<(), Shortage>
     requires goes { GoesOn C.has cells.old usage.old at len }
     requires writable { IsWritable C.given reserve_account_of cells.old usage.old (at + 255) }
     requires ready { Ready C.kept C.given reserve_account_of cells.old usage.old }
     ensures stood { StandsAboveItem C.has at len cells.old usage.old cells.new usage.new }
     ensures moves { (given : List Bool) → Fills given usage.old → Moves given 0 usage.old usage.new }
     ensures less { IfOk result (λ _. GoesSparse C.has cells.old usage.old at len → Fewer usage.old usage.new) }
-    ensures full { IfErr result (λ _. IsFull usage.new) }
+    ensures full { IfErr result (λ _. IsUsedUp usage.new) }
     ensures left { IfErr result (λ _. HasSparse usage.new) }
     ensures frame { Fenced C.has C.kept C.given reserve_account_of cells.old usage.old cells.new usage.new }
     ensures ready { Ready C.kept C.given reserve_account_of cells.new usage.new }
@@ -112,12 +117,12 @@ pub fn move_item<C: CellWrite>(
     usage: &mut Usage,
     at: Ref,
     leaf: Leaf,
-) -> Result<(), Full>
+) -> Result<(), Shortage>
     requires { CanMove C.has C.kept C.given at (leaf_node leaf) cells.old usage.old }
     ensures stood { StandsAboveNode C.has at (leaf_node leaf) cells.old usage.old cells.new usage.new }
     ensures moves { (given : List Bool) → Fills given usage.old → Moves given 0 usage.old usage.new }
     ensures less { IfOk result (λ _. IsDue C.has cells.old usage.old at (leaf_node leaf) → Fewer usage.old usage.new) }
-    ensures full { IfErr result (λ _. IsFull usage.new) }
+    ensures full { IfErr result (λ _. IsUsedUp usage.new) }
     ensures left { IfErr result (λ _. IsDue C.has cells.old usage.old at (leaf_node leaf) → HasSparse usage.new) }
     ensures frame { Fenced C.has C.kept C.given reserve_account_of cells.old usage.old cells.new usage.new }
     ensures ready { Ready C.kept C.given reserve_account_of cells.new usage.new }

@@ -1,7 +1,7 @@
 //! What lies in sparse chunks, found along the paths that these were written on, and moved.
 
 ghost use Rattle.std.specs.Prelude.{◌≡◌, IfErr};
-ghost use Rattle.evacuate.specs.Prelude.{IsFull, CanRearrange, Rearranged};
+ghost use Rattle.evacuate.specs.Prelude.{IsUsedUp, CanRearrange, Rearranged};
 
 use super::along::{empty_along, go_on};
 use super::foothold::descend;
@@ -9,7 +9,7 @@ use super::forks::{copy_forked, move_forked};
 use super::marks::{Listing, Mark, Marks, Search};
 use super::path_walk::{Last, Rest, last_along};
 use chunk_cells::CellWrite;
-use chunk_usage::{Full, Path, Usage};
+use chunk_usage::{Path, Shortage, Usage};
 use packed_node::Ref;
 
 // How often sparse chunks are looked for whose paths weren't gone along.
@@ -32,10 +32,10 @@ fn move_along<C: CellWrite>(
     chunk: u32,
     path: Path,
     to_item: bool,
-) -> Result<(), Full>
+) -> Result<(), Shortage>
     requires { CanRearrange C.has C.kept C.given root cells.old usage.old }
     ensures rearranged { Rearranged C.has C.kept C.given root cells.old usage.old cells.new usage.new }
-    ensures full { IfErr result (λ _. IsFull usage.new) }
+    ensures full { IfErr result (λ _. IsUsedUp usage.new) }
 {
     let moved = empty_along(cells, usage, root, path, chunk, to_item)?;
     if moved {
@@ -62,10 +62,10 @@ fn copy_along<C: CellWrite>(
     root: Ref,
     chunk: u32,
     path: Path,
-) -> Result<Option<Mark>, Full>
+) -> Result<Option<Mark>, Shortage>
     requires { CanRearrange C.has C.kept C.given root cells.old usage.old }
     ensures rearranged { Rearranged C.has C.kept C.given root cells.old usage.old cells.new usage.new }
-    ensures full { IfErr result (λ _. IsFull usage.new) }
+    ensures full { IfErr result (λ _. IsUsedUp usage.new) }
 {
     let from = descend(cells, usage, root, path, chunk);
     match last_along(cells, chunk, from.node, from.on) {
@@ -91,10 +91,10 @@ fn copy_step<C: CellWrite>(
     root: Ref,
     marks: &mut Marks,
     listing: Listing,
-) -> Result<(), Full>
+) -> Result<(), Shortage>
     requires { CanRearrange C.has C.kept C.given root cells.old usage.old }
     ensures rearranged { Rearranged C.has C.kept C.given root cells.old usage.old cells.new usage.new }
-    ensures full { IfErr result (λ _. IsFull usage.new) }
+    ensures full { IfErr result (λ _. IsUsedUp usage.new) }
 {
     let listed = usage.path(listing.chunk, listing.place);
     if marks.search == Search::Likely && usage.is_gone(listing.chunk, listed) {
@@ -114,10 +114,10 @@ fn move_step<C: CellWrite>(
     root: Ref,
     marks: &Marks,
     listing: Listing,
-) -> Result<(), Full>
+) -> Result<(), Shortage>
     requires { CanRearrange C.has C.kept C.given root cells.old usage.old }
     ensures rearranged { Rearranged C.has C.kept C.given root cells.old usage.old cells.new usage.new }
-    ensures full { IfErr result (λ _. IsFull usage.new) }
+    ensures full { IfErr result (λ _. IsUsedUp usage.new) }
 {
     let Some(mark) = marks.of(listing) else {
         return Ok(());
@@ -139,10 +139,10 @@ fn step_along<C: CellWrite>(
     step: Step,
     marks: &mut Marks,
     listing: Listing,
-) -> Result<(), Full>
+) -> Result<(), Shortage>
     requires { CanRearrange C.has C.kept C.given root cells.old usage.old }
     ensures rearranged { Rearranged C.has C.kept C.given root cells.old usage.old cells.new usage.new }
-    ensures full { IfErr result (λ _. IsFull usage.new) }
+    ensures full { IfErr result (λ _. IsUsedUp usage.new) }
 {
     match step {
         Step::Copy => copy_step(cells, usage, root, marks, listing),
@@ -158,10 +158,10 @@ fn step_in_chunk<C: CellWrite>(
     chunk: u32,
     step: Step,
     marks: &mut Marks,
-) -> Result<(), Full>
+) -> Result<(), Shortage>
     requires { CanRearrange C.has C.kept C.given root cells.old usage.old }
     ensures rearranged { Rearranged C.has C.kept C.given root cells.old usage.old cells.new usage.new }
-    ensures full { IfErr result (λ _. IsFull usage.new) }
+    ensures full { IfErr result (λ _. IsUsedUp usage.new) }
 {
     if step == Step::Copy && !marks.begin(chunk, usage.listed(chunk)) {
         return Ok(());
@@ -190,10 +190,10 @@ fn step_in_all<C: CellWrite>(
     root: Ref,
     step: Step,
     marks: &mut Marks,
-) -> Result<(), Full>
+) -> Result<(), Shortage>
     requires { CanRearrange C.has C.kept C.given root cells.old usage.old }
     ensures rearranged { Rearranged C.has C.kept C.given root cells.old usage.old cells.new usage.new }
-    ensures full { IfErr result (λ _. IsFull usage.new) }
+    ensures full { IfErr result (λ _. IsUsedUp usage.new) }
 {
     let mut from = 0;
     while let Some(chunk) = usage.sparse_from(from) {
@@ -211,10 +211,10 @@ fn copy_all<C: CellWrite>(
     usage: &mut Usage,
     root: Ref,
     marks: &mut Marks,
-) -> Result<(), Full>
+) -> Result<(), Shortage>
     requires { CanRearrange C.has C.kept C.given root cells.old usage.old }
     ensures rearranged { Rearranged C.has C.kept C.given root cells.old usage.old cells.new usage.new }
-    ensures full { IfErr result (λ _. IsFull usage.new) }
+    ensures full { IfErr result (λ _. IsUsedUp usage.new) }
 {
     for _ in 0..ROUNDS {
         let sparse = usage.sparse();
@@ -232,10 +232,10 @@ pub fn move_listed<C: CellWrite>(
     usage: &mut Usage,
     root: Ref,
     search: Search,
-) -> Result<(), Full>
+) -> Result<(), Shortage>
     requires { CanRearrange C.has C.kept C.given root cells.old usage.old }
     ensures rearranged { Rearranged C.has C.kept C.given root cells.old usage.old cells.new usage.new }
-    ensures full { IfErr result (λ _. IsFull usage.new) }
+    ensures full { IfErr result (λ _. IsUsedUp usage.new) }
 {
     let mut marks = Marks::new(search);
     copy_all(cells, usage, root, &mut marks)?;

@@ -9,13 +9,18 @@ use super::node_cells::{cell_count, first_cell, first_extent_for, with_cells_at}
 use super::room::room_for;
 use chunk_cells::CellWrite;
 use chunk_cells::extents::{LINKED_OCTETS, link_of, link_to, next_extent};
-use chunk_usage::{Full, Usage};
+use chunk_usage::{Shortage, Usage};
 use packed_node::{Node, Ref};
 use trie_space::copy_twigs;
 
 /// Copies cells in use to new ones.
 #[inline]
-fn copy_out<C: CellWrite>(cells: &mut C, usage: &mut Usage, from: Ref, n: u32) -> Result<Ref, Full>
+fn copy_out<C: CellWrite>(
+    cells: &mut C,
+    usage: &mut Usage,
+    from: Ref,
+    n: u32,
+) -> Result<Ref, Shortage>
     requires some { 0 < n }
     requires few { n ≤ 256 }
     requires row { IsRow from n }
@@ -41,7 +46,7 @@ pub fn move_node<C: CellWrite>(
     usage: &mut Usage,
     at: Ref,
     node: Node,
-) -> Result<Ref, Full>
+) -> Result<Ref, Shortage>
     requires { CanMove C.has C.kept C.given at node cells.old usage.old }
     ensures hung { IfOk result (λ to. StillHangs C.has at node cells.old usage.old cells.new usage.new to) }
     ensures writable { IfOk result (λ to. (i : ℕ) → i < width_of node → IsWritable C.given reserve_account_of cells.new usage.new (to + i)) }
@@ -65,7 +70,7 @@ pub fn move_linked<C: CellWrite>(
     usage: &mut Usage,
     at: Ref,
     len: u16,
-) -> Result<Ref, Full>
+) -> Result<Ref, Shortage>
     requires goes { GoesOn C.has cells.old usage.old at len }
     requires writable { IsWritable C.given reserve_account_of cells.old usage.old (at + 255) }
     requires ready { Ready C.kept C.given reserve_account_of cells.old usage.old }
@@ -85,7 +90,7 @@ pub fn move_linked<C: CellWrite>(
 }
 
 /// Moves the root's cell.
-pub fn move_root<C: CellWrite>(cells: &mut C, usage: &mut Usage, root: Ref) -> Result<Ref, Full>
+pub fn move_root<C: CellWrite>(cells: &mut C, usage: &mut Usage, root: Ref) -> Result<Ref, Shortage>
     requires stood { IsStood C.has cells.old usage.old root }
     requires ready { Ready C.kept C.given reserve_account_of cells.old usage.old }
     ensures stood { IfOk result (λ to. (es : List Entry) (t : Tree) → Stood C.has cells.old usage.old root es t → Stood C.has cells.new usage.new to es t) }

@@ -5,7 +5,7 @@ ghost use Rattle.qp_multi.specs.Drafts.{Works};
 use crate::buffer::Buffer;
 use crate::items::numbered;
 use crate::worker::{Act, Any, Refusal, Worker, act_within, alone, pair, tag};
-use qp_multi::{Full, Locked, Named, Snapshot, Transaction};
+use qp_multi::{Locked, Named, OutOfSpace, Snapshot, Transaction};
 use shift_key::Key;
 use std::alloc::Global;
 use std::sync::Wait;
@@ -186,7 +186,7 @@ fn fill_up<'i, N: Named, R: Wait>(
     workers: &mut Vec<Worker<'i, N>>,
     held: &mut Vec<Snapshot<'i, Any, N>>,
     octets: usize,
-) -> Option<(Full, u64)>
+) -> Option<(OutOfSpace, u64)>
     requires { octets ≤ 4096 }
 {
     for round in 0..64u64 {
@@ -216,8 +216,8 @@ pub(crate) fn full<N: Named, R: Wait>(
     let mut writer = workers.pop()?;
     let mut held = Vec::new(alloc);
     let (full, number) = fill_up(rt, alloc, &mut writer, &mut workers, &mut held, LARGE)?;
-    let told = full.request.free <= full.request.reserve
-        && full.request.left < full.request.needed
+    let told = full.shortage.free <= full.shortage.reserve
+        && full.shortage.left < full.shortage.needed
         && workers.is_empty()
         && full.kept.as_slice().len() == held.len()
         && number == 64;
@@ -232,12 +232,12 @@ const VERSION_CELLS: usize = 257;
 
 /// Whether what is told of a refusal is so on 16 chunks: the versions that it names and the working set have more cells than there are chunks,
 /// but for those that are kept free and eight more.
-fn is_cramped(full: &Full) -> bool {
+fn is_cramped(full: &OutOfSpace) -> bool {
     let versions = full.kept.as_slice().len().saturating_add(1);
     let cells = versions.saturating_mul(VERSION_CELLS);
-    let others = (full.request.reserve as usize).saturating_add(8);
-    full.request.free <= full.request.reserve
-        && full.request.left < full.request.needed
+    let others = (full.shortage.reserve as usize).saturating_add(8);
+    full.shortage.free <= full.shortage.reserve
+        && full.shortage.left < full.shortage.needed
         && others.saturating_add(cells) >= 16
 }
 

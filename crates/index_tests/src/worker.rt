@@ -6,7 +6,8 @@ ghost use Rattle.qp_multi.specs.Drafts.{Works};
 use crate::buffer::Buffer;
 use crate::items::numbered;
 use qp_multi::{
-    ChangeRefusal, Full, Index, InsertRefusal, Law, Locked, Named, Note, Pass, Receipt, Transaction,
+    ChangeRefusal, Index, InsertRefusal, Law, Locked, Named, Note, OutOfSpace, Pass, Receipt,
+    Transaction,
 };
 use shift_key::Key;
 use std::alloc::Global;
@@ -41,7 +42,7 @@ pub(crate) enum Act {
 /// Why a transaction made no version.
 #[derive(Clone, Copy)]
 pub(crate) enum Refusal {
-    Full(Full),
+    Full(OutOfSpace),
     /// It is there already, or isn't there; or there is no version or no memory left.
     Other,
 }

@@ -31,7 +31,7 @@ use Rattle.qp_multi.specs.Kinds.{StartsAs}
 use Rattle.qp_multi.specs.Receipts.{Recycles}
 use Rattle.zone_edit.specs.Stores.{WorksOnSome}
 use Rattle.zone_edit.specs.Blocks.{Edited, EditsInOrder, Executes, done_of}
-use Rattle.chunk_usage.specs.declared.space.Full.{Full as Request}
+use Rattle.chunk_usage.specs.declared.space.Shortage.{Shortage as Request}
 use Rattle.zone_edit.specs.declared.refusal.EditRefusal.{EditRefusal}
 use Rattle.zone_edit.specs.declared.refusal.EditRefusal.TheVariants as refusals
 use Rattle.qp_multi.proofs.WorkLaws.{Both, both}

@@ -44,7 +44,7 @@ use Rattle.pin_core.proofs.Lists.{contains_cases}
 use Rattle.qp_multi.specs.Capacity.{BoundsHistory}
 use Rattle.qp_multi.specs.Crowds.{BoundsWays}
 use Rattle.qp_multi.proofs.GoesLaws.{base_goes_on}
-use Rattle.chunk_usage.specs.declared.space.Full.{Full as Request}
+use Rattle.chunk_usage.specs.declared.space.Shortage.{Shortage as Request}
 use Rattle.zone_edit.specs.declared.refusal.EditRefusal.TheVariants as refusals
 use Rattle.job_commands.specs.Histories.{Setup, BeginsAt, Commit, Entries, IsLawful, StandsAs, AreVersions, Deeds, Explains, IsAsked, index_at, judged_by}
 use Rattle.job_commands.specs.Commands.{Accepts, Commits, OpensAt}

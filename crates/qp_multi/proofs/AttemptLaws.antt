@@ -10,7 +10,7 @@ use Rattle.atomic_table.specs.Seated.{TableId}
 use Rattle.pin_core.specs.Words.{status_at, words_for}
 use Rattle.pin_core.specs.declared.kept.Kept.{Kept}
 use Rattle.chunk_cells.specs.Chunks.{IsGiven}
-use Rattle.chunk_usage.specs.declared.space.Full.{Full as NoRoom}
+use Rattle.chunk_usage.specs.declared.space.Shortage.{Shortage}
 use Rattle.chunk_usage.specs.Ledger.{Ledger, Frozen, is_bump, is_used, is_mutable, is_given, frozen_part, reserved}
 use Rattle.chunk_usage.specs.Handing.{Lacks, consumed}
 use Rattle.chunk_usage.specs.Rooms.{Grows, OpensFree, account_of}
@@ -23,19 +23,19 @@ use Rattle.trie_write.proofs.RootLaws.{stands_later, standing_later}
 use Rattle.shared_cells.specs.declared.turn.JoinedSeat.{JoinedSeat}
 use Rattle.shared_cells.specs.Views.{words_of, kept_in}
 use Rattle.shared_cells.specs.Cells.{Cells, cells_of, given_chunks, kept_references, HasCell, with_words}
-use Rattle.qp_multi.specs.declared.change.Change.{Change}
+use Rattle.qp_multi.specs.declared.change.TrieChange.{TrieChange}
 use Rattle.qp_multi.specs.declared.meaning.Operation.{Operation}
-use Rattle.trie_write.specs.declared.refusal.Unchanged.{Unchanged}
-use Rattle.trie_write.specs.declared.refusal.Unchanged.TheVariants.{Refused, Full}
+use Rattle.trie_write.specs.declared.refusal.NotDone.{NotDone}
+use Rattle.trie_write.specs.declared.refusal.NotDone.TheVariants.{Refused, Full}
 use Rattle.qp_multi.specs.Operations.{operated}
 use Rattle.qp_multi.specs.Passes.{Known}
-use Rattle.qp_multi.specs.Turns.{Agrees, HasBack, cells_with, row_for, cell_counts, current_image, is_immutable}
+use Rattle.qp_multi.specs.Turns.{Agrees, cells_with, row_for, cell_counts, current_image, current_root, is_immutable}
 use Rattle.qp_multi.specs.Bases.{IsRooted, StandsFor}
 use Rattle.qp_multi.specs.Changes.{operation_of, key_of, written_by, asked_by, IsRefused}
 use Rattle.qp_multi.specs.Tries.{Grown, Tried, PathHas, PathHasEach}
 use Rattle.qp_multi.proofs.Lists.{all_of, all_from}
 use Rattle.qp_multi.proofs.KeepLaws.{immutable_used, immutable_old, immutable_of}
-use Rattle.qp_multi.proofs.WordsLaws.{same_words, same_chunks, same_passes, lent_begins, lent_seat, lent_back}
+use Rattle.qp_multi.proofs.WordsLaws.{same_words, same_chunks, same_passes, lent_begins, lent_seat, lent_back, words_kept}
 
 pub if_ok : {T E : Type 0} (P Q : T → Type 0) (r : Result T E) → ((x : T) → P x → Q x) → IfOk r P → IfOk r Q
 if_ok P Q (Ok x) f h = f x h
@@ -177,7 +177,7 @@ module _ {first lent : Cells} {v w : Known} {u n : Ledger} {count : ℕ} (l : Re
       agrees_grown (cells_with u v.turn) (cells_with n w.turn) u n count (chunks_now ∙ l.wide) (ap (λ (k : Cells). k.kept) now) (ap given_chunks now ∙ l.leaves.same) l.leaves.last l.leaves.grows l.agrees
 
   -- an operation was tried on them
-  module _ (root : Option ℕ) (c : Change) (r : Result (Option ℕ) Unchanged) where
+  module _ (root : Option ℕ) (c : TrieChange) (r : Result (Option ℕ) NotDone) where
     path_in : (twigs : ℕ) → PathHas v u root (key_of c) twigs → TwigsOnPath HasCell account_of first u root (key_of c) twigs
     path_in twigs p = subst (λ (k : Cells). TwigsOnPath HasCell account_of k u root (key_of c) twigs) (sym l.begun) p
 
@@ -189,8 +189,8 @@ module _ {first lent : Cells} {v w : Known} {u n : Ledger} {count : ℕ} (l : Re
         → (r ≡ Err Refused → n ≡ u)
         → IfErr r (λ _. (es : List Entry) → IsRooted (HasCell first) u root es → IsRooted (HasCell lent) n root es)
         → IfErr r (λ _. Same HasCell account_of first u lent n)
-        → ((f : NoRoom) → r ≡ Err (Full f) → Lacks n f)
-        → ((f : NoRoom) → r ≡ Err (Full f) → (branches : List ℕ) → BranchesOnPath HasCell account_of first u root (key_of c) branches → Contains (asked_by c branches) f.needed)
+        → ((f : Shortage) → r ≡ Err (Full f) → Lacks n f)
+        → ((f : Shortage) → r ≡ Err (Full f) → (branches : List ℕ) → BranchesOnPath HasCell account_of first u root (key_of c) branches → Contains (asked_by c branches) f.needed)
         → ((twigs : ℕ) → TwigsOnPath HasCell account_of first u root (key_of c) twigs → consumed n ≤ consumed u + (written_by c + twigs))
         → Tried c root v u w n r
     tried_of reserve done refused denied stays same full asked consumes = record {
@@ -208,13 +208,17 @@ module _ {first lent : Cells} {v w : Known} {u n : Ledger} {count : ℕ} (l : Re
       consumes = λ twigs p. consumes twigs (path_in twigs p);
     }
 
--- the seat that lent them
-pub has_back : {first lent : Cells} {u n : Ledger} {lent_by : TableId} (old new : JoinedSeat (List Entry) (List Operation)) → Returned first lent old.place.me.0 new.place.me.0 u n old.passes
-    → old.place.table_id ≡ lent_by → new.place.table_id ≡ lent_by → HasBack old new n
-has_back {lent = lent} {n = n} old new l was is =
-    let passes : new.passes ≡ old.passes = same_passes old.place.me.0 new.place.me.0 lent.words old.passes new.passes l.seat old.blank new.blank in
-    record {
-      table = is ∙ sym was;
-      passes = passes;
-      agrees = subst (λ (count : ℕ). Agrees (cells_with n new.place.me.0.turn) n count) (sym passes) (agrees_later l);
-    }
+-- what the draft of the seat that lent them knows of them now
+
+pub wide_back : {first lent : Cells} {u n : Ledger} {lent_by : TableId} (old new : JoinedSeat (List Entry) (List Operation)) → Returned first lent old.place.me.0 new.place.me.0 u n old.passes → words_for (length u.given) ≡ old.place.table_id.words
+    → old.place.table_id ≡ lent_by → new.place.table_id ≡ lent_by → words_for (length n.given) ≡ new.place.table_id.words
+wide_back old new l wide was is = ap words_for (grown_now l).wide ∙ wide ∙ sym (same_words new.place.table_id old.place.table_id (is ∙ sym was))
+
+pub passes_back : {first lent : Cells} {u n : Ledger} (old new : JoinedSeat (List Entry) (List Operation)) → Returned first lent old.place.me.0 new.place.me.0 u n old.passes → new.passes ≡ old.passes
+passes_back {lent = lent} old new l = same_passes old.place.me.0 new.place.me.0 lent.words old.passes new.passes l.seat old.blank new.blank
+
+pub agrees_back : {first lent : Cells} {u n : Ledger} (old new : JoinedSeat (List Entry) (List Operation)) → Returned first lent old.place.me.0 new.place.me.0 u n old.passes → Agrees (cells_with n new.place.me.0.turn) n new.passes
+agrees_back {n = n} old new l = subst (λ (count : ℕ). Agrees (cells_with n new.place.me.0.turn) n count) (sym (passes_back old new l)) (agrees_later l)
+
+pub base_back : {first lent : Cells} {v w : Known} {u n : Ledger} {count : ℕ} → Returned first lent v w u n count → (base : Option ℕ) → base ≡ current_root (kept_in v.turn) → base ≡ current_root (kept_in w.turn)
+base_back {v = v} {w} l base is = is ∙ sym (ap current_root (ap (λ (k : Known). kept_in k.turn) (words_seat l) ∙ words_kept v.turn (words_of w.turn)))

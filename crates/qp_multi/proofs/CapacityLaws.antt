@@ -6,7 +6,7 @@ use Rattle.std.proofs.lemmas.List.Elements.{All-filter, Contains-append_left, Co
 use Rattle.std.proofs.lemmas.List.Sums.{fold-append}
 use Rattle.trie_model.specs.Keys.{Entry}
 use Rattle.trie_model.specs.Shape.{cells}
-use Rattle.chunk_usage.specs.declared.space.Full.{Full as NoRoom}
+use Rattle.chunk_usage.specs.declared.space.Shortage.{Shortage}
 use Rattle.trie_model.specs.Capacity.{is_roomy}
 use Rattle.chunk_usage.specs.Handing.{Lacks, consumed}
 use Rattle.chunk_usage.specs.Keeping.{closed, is_among, rows_of}
@@ -73,7 +73,7 @@ given_all : (u : Ledger) → length u.given ≤ given_count u + free_count u
 given_all u = omega arith
 
 -- a try finds room: of what was given before, 40 chunks more are given at most, and those are no more than the reserve leaves
-pub no_shortage : (c o : ℕ) (u n : Ledger) (f : NoRoom) (done : ℕ) → 1 ≤ o → is_roomy u.passes c o (length u.given) → length n.given ≡ length u.given → done ≤ o → consumed u ≤ 769 * (most_at_rest u c + 40 * done) → consumed n ≤ consumed u + 30760 → Lacks n f → ⊥
+pub no_shortage : (c o : ℕ) (u n : Ledger) (f : Shortage) (done : ℕ) → 1 ≤ o → is_roomy u.passes c o (length u.given) → length n.given ≡ length u.given → done ≤ o → consumed u ≤ 769 * (most_at_rest u c + 40 * done) → consumed n ≤ consumed u + 30760 → Lacks n f → ⊥
 no_shortage c o u n f done some roomy wide few before after lacks =
     let w = most_met c in
     let a = more_passes u.passes w in
@@ -139,10 +139,10 @@ done_roomy u n s t operations o is spares opening history cost r =
     }
 
 -- it found no room: so none of these numbers are such
-pub cramped_of : (u n : Ledger) (s : AllSeen) (operations : List Operation) (f : NoRoom) → length n.given ≡ length u.given → consumed n ≤ consumed u + 30760 → Lacks n f → WorksRoomy u s operations → EachRoomy u s (λ c o. length operations ≤ o → ⊥)
+pub cramped_of : (u n : Ledger) (s : AllSeen) (operations : List Operation) (f : Shortage) → length n.given ≡ length u.given → consumed n ≤ consumed u + 30760 → Lacks n f → WorksRoomy u s operations → EachRoomy u s (λ c o. length operations ≤ o → ⊥)
 cramped_of u n s operations f wide cost lacks r c o some b roomy few = no_shortage c o u n f (length operations) some roomy wide few (r.consumes c o some b roomy few) cost lacks
 
-pub short_roomy : (u n : Ledger) (s t : AllSeen) (operations : List Operation) (f : NoRoom) → IsLedger n → Spares u n → t.opening ≡ s.opening → t.history ≡ s.history → consumed n ≤ consumed u + 30760 → Lacks n f → WorksRoomy u s operations → WorksRoomy n t operations
+pub short_roomy : (u n : Ledger) (s t : AllSeen) (operations : List Operation) (f : Shortage) → IsLedger n → Spares u n → t.opening ≡ s.opening → t.history ≡ s.history → consumed n ≤ consumed u + 30760 → Lacks n f → WorksRoomy u s operations → WorksRoomy n t operations
 short_roomy u n s t operations f is spares opening history cost lacks r =
     let grown = spares.grown in
     let each = tried_each u n s t operations [] is spares opening history r in

@@ -13,7 +13,7 @@ use Rattle.trie_model.specs.Reach.{in_chunk, weigh_tree}
 use Rattle.trie_model.proofs.ExtentLaws.{second_true}
 use Rattle.trie_model.proofs.ReachLaws.{live_is}
 use Rattle.chunk_usage.specs.declared.bump.Bump.{Bump}
-use Rattle.chunk_usage.specs.declared.space.Full.{Full}
+use Rattle.chunk_usage.specs.declared.space.Shortage.{Shortage}
 use Rattle.chunk_usage.specs.Ledger.{Ledger, Frozen, Row, is_in_row, frozen_part, is_bump, is_given, free_count, reserve_of}
 use Rattle.chunk_usage.specs.Handing.{Lacks, consumed}
 use Rattle.chunk_usage.specs.Keeping.{is_in_rows, is_needed, freed}
@@ -211,7 +211,7 @@ kept_images v (k ∷ kept) all =
     sum_by-cons (λ (j : Kept). length j.image) k kept ∙ (let f = sum_by-cons (λ (n : ℕ). cells (version_at v n)) k.version (numbers_of kept) in omega arith)
 
 -- so where a call then finds no room, the cells are many
-pub many : (m new : Ledger) (f : Full) (chunks cells_es cells_base meets_es meets_base b n written : ℕ) → length m.given ≡ chunks → length new.given ≡ chunks → chunks ≤ free_count m + (2 + meets_es + meets_base) → meets_es + b ≤ cells_es → meets_base ≤ cells_base
+pub many : (m new : Ledger) (f : Shortage) (chunks cells_es cells_base meets_es meets_base b n written : ℕ) → length m.given ≡ chunks → length new.given ≡ chunks → chunks ≤ free_count m + (2 + meets_es + meets_base) → meets_es + b ≤ cells_es → meets_base ≤ cells_base
     → n ≤ 47 * b → written ≤ 4115 → consumed new ≤ consumed m + (written + n) → Lacks new f → chunks - reserve_of new - 8 ≤ cells_es + cells_base
 many m new f chunks cells_es cells_base meets_es meets_base b n written old_length new_length given es base path short cost lacks =
     let all = none_unconsumed new.bump f.needed lacks.0.few_left lacks.2 in
@@ -273,7 +273,7 @@ opened_is m new k h = go m.bump h
         (λ (e : o.chunk ≡ k). inl (eq-eqb o.chunk k e))
         (λ (d : Contains (taken m new) k). inr (since d)) (contains_cases o.chunk k (taken m new) c)
 
-pub few_taken : (m new : Ledger) (f : Full) (cost : ℕ) → length new.given ≡ length m.given → ((k : ℕ) → is_given m k ≡ true → is_given new k ≡ true) → consumed new ≤ consumed m + cost → Lacks new f → 769 * length (with_bump m.bump (taken m new)) ≤ 769 + cost
+pub few_taken : (m new : Ledger) (f : Shortage) (cost : ℕ) → length new.given ≡ length m.given → ((k : ℕ) → is_given m k ≡ true → is_given new k ≡ true) → consumed new ≤ consumed m + cost → Lacks new f → 769 * length (with_bump m.bump (taken m new)) ≤ 769 + cost
 few_taken m new f cost chunks stays short lacks =
     let a = open_few m.bump (taken m new) in
     let b = risen_few m.given new.given 0 chunks stays in

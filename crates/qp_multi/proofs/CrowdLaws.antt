@@ -8,7 +8,7 @@ use Rattle.std.proofs.lemmas.List.Elements.{All-filter, All-push, All-head, All-
 use Rattle.std.proofs.lemmas.List.Sums.{sum_by-cons}
 use Rattle.trie_model.specs.Extents.{row}
 use Rattle.chunk_usage.specs.declared.bump.Bump.{Bump}
-use Rattle.chunk_usage.specs.declared.space.Full.{Full as NoRoom}
+use Rattle.chunk_usage.specs.declared.space.Shortage.{Shortage}
 use Rattle.chunk_usage.specs.Ledger.{Ledger, Frozen, Row, IsBump, IsLedger, frozen_part, free_count, is_bump, is_given, is_in_row, reserve_of, reserved, row_of}
 use Rattle.chunk_usage.specs.Handing.{Lacks, consumed}
 use Rattle.chunk_usage.specs.Keeping.{closed, freed, frozen, full, is_among, is_in_rows, is_needed, narrowed, restored}
@@ -172,7 +172,7 @@ given_needed l needed =
     let e = rows_sum l.rows n in omega arith
 
 -- THE BOUND: at the refused request, by what was left when room was made
-pub crowded : (c cost : ℕ) (left n : Ledger) (f : NoRoom) → RowsAreFew c left.rows → met_count left ≤ most_met c → ((k : ℕ) → is_given left k ≡ true → NeededBy left k)
+pub crowded : (c cost : ℕ) (left n : Ledger) (f : Shortage) → RowsAreFew c left.rows → met_count left ≤ most_met c → ((k : ℕ) → is_given left k ≡ true → NeededBy left k)
     → consumed n ≤ consumed left + cost → Lacks n f → length n.given - reserve_of n ≤ (length left.rows + 1) * most_met c + 1 + cost / 769
 crowded c cost left n f rows met needed takes lacks =
     let a = given_short n f lacks in

@@ -5,7 +5,7 @@ use Rattle.packed_node.specs.declared.Cell.{Cell}
 use Rattle.trie_model.specs.Extents.{row}
 use Rattle.trie_model.specs.Keys.{Entry}
 use Rattle.trie_model.specs.Shape.{cells}
-use Rattle.chunk_usage.specs.declared.space.Full.{Full as NoRoom}
+use Rattle.chunk_usage.specs.declared.space.Shortage.{Shortage}
 use Rattle.chunk_usage.specs.Ledger.{Ledger, Frozen, IsLedger, free_count, is_bump, is_given, is_used, reserve_of}
 use Rattle.chunk_usage.specs.Handing.{Lacks, consumed}
 use Rattle.chunk_usage.specs.Keeping.{kept_versions, narrowed}
@@ -34,7 +34,7 @@ use Rattle.trie_write.specs.Roots.{OnPath}
 use Rattle.trie_space.specs.Standing.{Standing}
 use Rattle.trie_read.specs.Reads.{EachTells}
 use Rattle.zone_model.specs.Keys.{Leads}
-use Rattle.qp_multi.specs.declared.change.Change.{Change}
+use Rattle.qp_multi.specs.declared.change.TrieChange.{TrieChange}
 use Rattle.qp_multi.specs.Changes.{written_by}
 use Rattle.qp_multi.proofs.WorkLaws.{set_stays}
 use Rattle.qp_multi.specs.Keepings.{GoesOn}
@@ -73,7 +73,7 @@ evacuated_met c u d done.Whole small some works fits w e asks =
     let a = dense_met d.usage (cells (working_set d)) (e.whole refl) (live_few (HasCell (cells_with d.usage d.seat.place.me.0.turn)) (is_used d.usage) d.usage d.root (working_set d) e.ledger works.stands) in omega arith
 evacuated_met c u d done.Stopped small some works fits w e asks =
     let used_up = (e.stopped refl).0 in
-    stopped_met c (cells (working_set d)) u d.usage some fits small used_up.consumed.none_free asks (spread_few u d.usage e.ledger e.grown e.grown.meets) w
+    stopped_met c (cells (working_set d)) u d.usage some fits small (let none = used_up.short.none_free in omega arith) asks (spread_few u d.usage e.ledger e.grown e.grown.meets) w
 
 -- what the crates below would promise of the try
 pub record TriedSmall (u n : Ledger) : Type 0 where
@@ -141,7 +141,7 @@ path_cells has used live (Some r) key es s tells =
     (twigs_on_path key s.0, (s.0, es, s.1, tells, refl), (let a = path_size key s.0 in let e = ap cells (sym s.1.trie.holds) ∙ size_is 0 s.0 s.1.trie.shape in omega arith))
 
 -- a try behind made room found none: the bound
-pub last_crowded : (c : ℕ) (left d : Draft) (change : Change) (f : NoRoom) (path : ℕ) → RowsAreFew c left.usage.rows → met_count left.usage ≤ most_met c → ((k : ℕ) → is_given left.usage k ≡ true → NeededBy left.usage k)
+pub last_crowded : (c : ℕ) (left d : Draft) (change : TrieChange) (f : Shortage) (path : ℕ) → RowsAreFew c left.usage.rows → met_count left.usage ≤ most_met c → ((k : ℕ) → is_given left.usage k ≡ true → NeededBy left.usage k)
     → Spares left.usage d.usage → consumed d.usage ≤ consumed left.usage + (written_by change + path) → Lacks d.usage f
     → length d.usage.given - reserve_of d.usage ≤ (length d.usage.rows + 1) * most_met c + 1 + (written_by change + path) / 769
 last_crowded c left d change f path rows met needed spares cost lacks =

@@ -13,7 +13,7 @@ use Rattle.trie_read.specs.Reads.{EachTells}
 use Rattle.trie_write.specs.Paths.{branches_on_path}
 use Rattle.trie_write.specs.Roots.{OnBranches}
 use Rattle.trie_space.specs.Standing.{Standing}
-use Rattle.chunk_usage.specs.declared.space.Full.{Full as NoRoom}
+use Rattle.chunk_usage.specs.declared.space.Shortage.{Shortage}
 use Rattle.chunk_usage.specs.Ledger.{Ledger, Row, is_given, is_used}
 use Rattle.chunk_usage.specs.Handing.{Lacks}
 use Rattle.chunk_usage.specs.Keeping.{freed, kept_versions, narrowed}
@@ -22,11 +22,11 @@ use Rattle.shared_cells.specs.declared.view.Entry.{Entry as Commit}
 use Rattle.shared_cells.specs.History.{version_after}
 use Rattle.shared_cells.specs.Views.{kept_in}
 use Rattle.shared_cells.specs.Cells.{HasCell}
-use Rattle.qp_multi.specs.declared.change.Change.{Change}
-use Rattle.qp_multi.specs.declared.change.Change.TheVariants as change
-use Rattle.trie_write.specs.declared.refusal.Unchanged.TheVariants as unchanged
+use Rattle.qp_multi.specs.declared.change.TrieChange.{TrieChange}
+use Rattle.qp_multi.specs.declared.change.TrieChange.TheVariants as change
+use Rattle.trie_write.specs.declared.refusal.NotDone.TheVariants as not_done
 use Rattle.qp_multi.specs.declared.desk.Draft.{Draft}
-use Rattle.qp_multi.specs.declared.refusal.Full.{Full}
+use Rattle.qp_multi.specs.declared.refusal.OutOfSpace.{OutOfSpace}
 use Rattle.qp_multi.specs.declared.meaning.Operation.{Operation}
 use Rattle.qp_multi.specs.Operations.{applied}
 use Rattle.qp_multi.specs.Meanings.{IsVersion}
@@ -36,7 +36,7 @@ use Rattle.qp_multi.specs.Changes.{key_of, written_by, asked_by, LeadsItem}
 use Rattle.qp_multi.specs.Drafts.{Works, working_set}
 use Rattle.qp_multi.specs.Tries.{Tried, PathHas, PathHasEach}
 use Rattle.qp_multi.specs.Keepings.{GoesOn, numbers_of, versions_in}
-use Rattle.qp_multi.specs.Fulls.{FullCause, cells_kept, version_at}
+use Rattle.qp_multi.specs.Fulls.{WhyOutOfSpace, cells_kept, version_at}
 use Rattle.qp_multi.proofs.CauseLaws.{NeededBy, each_needed, given_few, kept_images, live_of, many, met_or_opened, opened_is, few_taken, path_of, rows_met, some_live, some_row, taken}
 use Rattle.qp_multi.proofs.RisenLaws.{with_bump}
 
@@ -59,7 +59,7 @@ images_on v w x g same all =
     (λ k h. subst (IsVersion k.image k.root) (sym (version_at_on k.version g)) h) (kept_in w.turn) all)
 
 -- a call writes few cells beside the path's twigs
-pub few_written : (c : Change) → LeadsItem c → written_by c ≤ 4115
+pub few_written : (c : TrieChange) → LeadsItem c → written_by c ≤ 4115
 few_written (change.Insert key item) leads = let l = leads.short in omega arith
 few_written (change.Replace key item) leads = let l = leads.short in omega arith
 few_written (change.Delete key) leads = omega arith
@@ -69,9 +69,9 @@ each_of : (has : ℕ → Cell → Type 0) (used : ℕ → Bool) (live : ℕ → 
 each_of has used live None key es s tells = ([], refl)
 each_of has used live (Some r) key es s tells = (branches_on_path key s.0, (s.0, es, s.1, tells, refl))
 
-pub cause_of : (u : Ledger) (room d : Draft) (c : Change) (full : NoRoom) (f : Full) → room.usage ≡ freed (narrowed u (kept_versions room.usage)) → f.request.needed ≡ full.needed → versions_in f.kept ≡ kept_versions room.usage → Works room → All (λ k. IsVersion k.image k.root (version_at room.seat.place.me.0 k.version)) (kept_in room.seat.place.me.0.turn)
-    → LeadsItem c → Tried c room.root room.seat.place.me.0 room.usage d.seat.place.me.0 d.usage (Err (unchanged.Full full)) → d.root ≡ room.root → GoesOn room.seat.place.me.0 d.seat.place.me.0 → working_set d ≡ working_set room → Lacks d.usage full
-    → FullCause room.usage d (key_of c) (written_by c) (asked_by c) f
+pub cause_of : (u : Ledger) (room d : Draft) (c : TrieChange) (full : Shortage) (f : OutOfSpace) → room.usage ≡ freed (narrowed u (kept_versions room.usage)) → f.shortage.needed ≡ full.needed → versions_in f.kept ≡ kept_versions room.usage → Works room → All (λ k. IsVersion k.image k.root (version_at room.seat.place.me.0 k.version)) (kept_in room.seat.place.me.0.turn)
+    → LeadsItem c → Tried c room.root room.seat.place.me.0 room.usage d.seat.place.me.0 d.usage (Err (not_done.Full full)) → d.root ≡ room.root → GoesOn room.seat.place.me.0 d.seat.place.me.0 → working_set d ≡ working_set room → Lacks d.usage full
+    → WhyOutOfSpace room.usage d (key_of c) (written_by c) (asked_by c) f
 cause_of u room d c full f after request same works images leads t root on set lacks =
     let m = room.usage in
     let v : Known = room.seat.place.me.0 in

@@ -12,7 +12,7 @@ use Rattle.pin_core.specs.declared.kept.CellAt.{CellAt}
 use Rattle.pin_core.specs.declared.kept.Kept.{Kept}
 use Rattle.trie_model.specs.Extents.{row}
 use Rattle.chunk_usage.specs.declared.bump.Bump.{Bump}
-use Rattle.chunk_usage.specs.declared.space.Full.{Full}
+use Rattle.chunk_usage.specs.declared.space.Shortage.{Shortage}
 use Rattle.chunk_usage.specs.Ledger.{Ledger, Row, is_given, is_in_row, is_bump}
 use Rattle.chunk_usage.specs.Handing.{Lacks, consumed, unconsumed}
 use Rattle.chunk_usage.specs.Keeping.{is_in_rows}
@@ -39,7 +39,7 @@ pub consumed_given : (l : Ledger) → consumed l ≤ 769 * given_count l
 consumed_given l = omega arith
 
 -- where there is no room all of them count whole
-pub given_short : (l : Ledger) (f : Full) → Lacks l f → 769 * given_count l ≤ consumed l
+pub given_short : (l : Ledger) (f : Shortage) → Lacks l f → 769 * given_count l ≤ consumed l
 given_short l f lacks = let a = none_unconsumed l.bump f.needed lacks.0.few_left lacks.2 in omega arith
 
 -- ---- by rows

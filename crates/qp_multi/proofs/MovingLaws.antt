@@ -15,7 +15,7 @@ use Rattle.trie_space.specs.Standing.{Standing}
 use Rattle.evacuate.specs.declared.evacuation.Done.{Done}
 use Rattle.evacuate.specs.declared.evacuation.Done.TheVariants.{Whole, Stopped}
 use Rattle.evacuate.specs.Evacuations.{FillsNew, IsCleared, IsDense, HasSparse, refused}
-use Rattle.evacuate.specs.Fillings.{IsFull as IsUsedUp}
+use Rattle.evacuate.specs.Fillings.{IsUsedUp}
 use Rattle.shared_cells.specs.Cells.{Cells, given_chunks, kept_references, HasCell}
 use Rattle.qp_multi.specs.Passes.{Known}
 use Rattle.qp_multi.specs.Movings.{Moved, is_thin, FewThin}

@@ -7,7 +7,7 @@ use Rattle.trie_model.specs.Keys.{Entry}
 use Rattle.zone_model.specs.Keys.{Leads}
 use Rattle.trie_read.specs.Reads.{EachTells}
 use Rattle.chunk_usage.specs.declared.bump.Bump.{Bump}
-use Rattle.chunk_usage.specs.declared.space.Full.{Full}
+use Rattle.chunk_usage.specs.declared.space.Shortage.{Shortage}
 use Rattle.chunk_usage.specs.Ledger.{Ledger, Frozen, Row, row_of, IsLedger, unused, frozen_part, free_count, left}
 use Rattle.chunk_usage.specs.Handing.{Lacks, consumed, unconsumed}
 use Rattle.chunk_usage.specs.Keeping.{frozen}
@@ -34,7 +34,7 @@ pub none_unconsumed : (o : Option Bump) (n : ℕ) → left o < n → n ≤ 256 �
 none_unconsumed None n a b = refl
 none_unconsumed (Some o) n a b = omega arith
 
-pub no_shortage : (l : Ledger) (f : Full) (chunks cells : ℕ) → length l.given ≡ chunks → 16 ≤ chunks → consumed l ≤ cells → cells ≤ 769 * (chunks - chunks / 4 - 1) → free_count l ≤ length l.given → Lacks l f → ⊥
+pub no_shortage : (l : Ledger) (f : Shortage) (chunks cells : ℕ) → length l.given ≡ chunks → 16 ≤ chunks → consumed l ≤ cells → cells ≤ 769 * (chunks - chunks / 4 - 1) → free_count l ≤ length l.given → Lacks l f → ⊥
 no_shortage l f chunks cells n many s c free lacks =
     let all = none_unconsumed l.bump f.needed lacks.0.few_left lacks.2 in
     let none = lacks.0.none_free in omega arith

@@ -6,7 +6,7 @@ use Rattle.std.proofs.lemmas.List.Elements.{All-nil, All-push}
 use Rattle.std.proofs.lemmas.List.{length-map}
 use Rattle.trie_model.specs.Keys.{Entry}
 use Rattle.trie_model.specs.Shape.{cells}
-use Rattle.chunk_usage.specs.declared.space.Full.{Full as NoRoom}
+use Rattle.chunk_usage.specs.declared.space.Shortage.{Shortage}
 use Rattle.trie_model.specs.Capacity.{is_roomy}
 use Rattle.chunk_usage.specs.Counting.{sparse_count}
 use Rattle.chunk_usage.specs.Handing.{consumed}
@@ -15,9 +15,9 @@ use Rattle.chunk_usage.specs.Ledger.{Ledger, Frozen, Row, IsLedger, free_count, 
 use Rattle.shared_cells.specs.declared.view.Entry.{Entry as Commit}
 use Rattle.shared_cells.specs.Cells.{Cells, HasCell}
 use Rattle.shared_cells.specs.Views.{words_of}
-use Rattle.qp_multi.specs.declared.change.Change.{Change}
-use Rattle.trie_write.specs.declared.refusal.Unchanged.{Unchanged}
-use Rattle.trie_write.specs.declared.refusal.Unchanged.TheVariants as unchanged
+use Rattle.qp_multi.specs.declared.change.TrieChange.{TrieChange}
+use Rattle.trie_write.specs.declared.refusal.NotDone.{NotDone}
+use Rattle.trie_write.specs.declared.refusal.NotDone.TheVariants as not_done
 use Rattle.qp_multi.specs.declared.desk.Draft.{Draft}
 use Rattle.qp_multi.specs.declared.meaning.Operation.{Operation}
 use Rattle.qp_multi.specs.Bounds.{BoundsDraft, Crowds, HasRoom, IsCramped, IsCrowded, IsSmall, StaysSmall, WhereRoomy, WhereSmall}
@@ -49,7 +49,7 @@ use Rattle.qp_multi.proofs.WordsLaws.{freed_chunks}
 
 -- ---- an operation was tried
 
-pub tried_done : (c : Change) (d : Draft) (w : Known) (n : Ledger) (new : Option ℕ) (operations : List Operation) → Works d → LeadsItem c → IsLedger n → Tried c d.root d.seat.place.me.0 d.usage w n (Ok new) → operations ≡ d.log.operations ++ operation_of c ∷ [] → HasRoom d → WorksRoomy n w.seen operations
+pub tried_done : (c : TrieChange) (d : Draft) (w : Known) (n : Ledger) (new : Option ℕ) (operations : List Operation) → Works d → LeadsItem c → IsLedger n → Tried c d.root d.seat.place.me.0 d.usage w n (Ok new) → operations ≡ d.log.operations ++ operation_of c ∷ [] → HasRoom d → WorksRoomy n w.seen operations
 tried_done c d w n new operations works leads is t log room =
     let on = words_go_on d.seat.place.me.0 w (words_of w.turn) t.same in
     subst (WorksRoomy n w.seen) (sym log)
@@ -67,15 +67,15 @@ kept_roomy s t u operations opening history r =
           works (work_part s t operations [] opening history (subst (BoundsWork most t) (sym (append-nil operations)) within))) r.works;
     }
 
-pub tried_failed : (c : Change) (d : Draft) (w : Known) (n : Ledger) (x : Unchanged) → Works d → LeadsItem c → IsLedger n → Tried c d.root d.seat.place.me.0 d.usage w n (Err x) → HasRoom d → WorksRoomy n w.seen d.log.operations
-tried_failed c d w n unchanged.Refused works leads is t room =
+pub tried_failed : (c : TrieChange) (d : Draft) (w : Known) (n : Ledger) (x : NotDone) → Works d → LeadsItem c → IsLedger n → Tried c d.root d.seat.place.me.0 d.usage w n (Err x) → HasRoom d → WorksRoomy n w.seen d.log.operations
+tried_failed c d w n not_done.Refused works leads is t room =
     let on = words_go_on d.seat.place.me.0 w (words_of w.turn) t.same in
     subst (λ (u : Ledger). WorksRoomy u w.seen d.log.operations) (sym (t.denied refl)) (kept_roomy d.seat.place.me.0.seen w.seen d.usage d.log.operations on.opening on.history room)
-tried_failed c d w n (unchanged.Full f) works leads is t room =
+tried_failed c d w n (not_done.Full f) works leads is t room =
     let on = words_go_on d.seat.place.me.0 w (words_of w.turn) t.same in
     short_roomy d.usage n d.seat.place.me.0.seen w.seen d.log.operations f is t.spares on.opening on.history (few_consumed d c n works leads t.consumes) (t.full f refl) room
 
-pub tried_cramped : (c : Change) (d : Draft) (w : Known) (n : Ledger) (f : NoRoom) → Works d → LeadsItem c → Tried c d.root d.seat.place.me.0 d.usage w n (Err (unchanged.Full f)) → HasRoom d → IsCramped d
+pub tried_cramped : (c : TrieChange) (d : Draft) (w : Known) (n : Ledger) (f : Shortage) → Works d → LeadsItem c → Tried c d.root d.seat.place.me.0 d.usage w n (Err (not_done.Full f)) → HasRoom d → IsCramped d
 tried_cramped c d w n f works leads t room = cramped_draft d (cramped_of d.usage n d.seat.place.me.0.seen d.log.operations f t.spares.grown.wide (few_consumed d c n works leads t.consumes) (t.full f refl) room)
 
 -- ---- the rows that are left
@@ -121,12 +121,12 @@ rests_kept u n s t k opening history =
     small_on u n s t k.wide opening (same_part s t history) (λ most small b some r. record { rows = k.rows most r.rows; base = let e = k.base in let a = r.base in omega arith })
 
 -- an operation is done, or it isn't
-pub no_fewer : {o : Operation} {denied : List Entry → Type 0} {old new : Draft} {B : Type 0} (r : Result (Unit {0}) Unchanged) → Operates o denied old new (IsOk r) B → length old.log.operations ≤ length new.log.operations
+pub no_fewer : {o : Operation} {denied : List Entry → Type 0} {old new : Draft} {B : Type 0} (r : Result (Unit {0}) NotDone) → Operates o denied old new (IsOk r) B → length old.log.operations ≤ length new.log.operations
 no_fewer {o} {denied} {old} {new} (Ok x) h = let e = ap (λ (os : List Operation). length os) (h.done refl) ∙ length-append old.log.operations (o ∷ []) in omega arith
 no_fewer {o} {denied} {old} {new} (Err x) h = let e = ap (λ (os : List Operation). length os) (h.stays (λ ok. cc)) in omega arith
 
 -- the operations are as before, or one more
-pub begins_with : {o : Operation} {denied : List Entry → Type 0} {old new : Draft} {B : Type 0} (r : Result (Unit {0}) Unchanged) → Operates o denied old new (IsOk r) B → (more : List Operation) × (new.log.operations ≡ old.log.operations ++ more)
+pub begins_with : {o : Operation} {denied : List Entry → Type 0} {old new : Draft} {B : Type 0} (r : Result (Unit {0}) NotDone) → Operates o denied old new (IsOk r) B → (more : List Operation) × (new.log.operations ≡ old.log.operations ++ more)
 begins_with {o} {denied} {old} {new} (Ok x) h = (o ∷ [], h.done refl)
 begins_with {o} {denied} {old} {new} (Err x) h = ([], h.stays (λ ok. cc) ∙ sym (append-nil old.log.operations))
 

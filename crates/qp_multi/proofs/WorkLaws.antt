@@ -4,7 +4,7 @@ use Rattle.std.specs.Prelude.{IsOk, IfSome, IsSomeAnd}
 use Rattle.std.specs.List.{Contains}
 use Rattle.std.proofs.lemmas.List.Elements.{Contains-append_left}
 use Rattle.trie_model.specs.Keys.{Entry}
-use Rattle.chunk_usage.specs.declared.space.Full.{Full as NoRoom}
+use Rattle.chunk_usage.specs.declared.space.Shortage.{Shortage}
 use Rattle.chunk_usage.specs.Ledger.{Ledger}
 use Rattle.chunk_usage.specs.Handing.{Lacks}
 use Rattle.shared_cells.specs.declared.view.Entry.{Entry as Commit}
@@ -12,14 +12,14 @@ use Rattle.shared_cells.specs.declared.view.Naming.{Naming}
 use Rattle.shared_cells.specs.History.{entry_of}
 use Rattle.shared_cells.specs.Views.{words_of}
 use Rattle.shared_cells.specs.Steps.{IsNamed}
-use Rattle.qp_multi.specs.declared.change.Change.{Change}
-use Rattle.trie_write.specs.declared.refusal.Unchanged.{Unchanged}
-use Rattle.trie_write.specs.declared.refusal.Unchanged.TheVariants as unchanged
-use Rattle.trie_write.specs.declared.refusal.Unchanged.TheVariants.{Refused}
+use Rattle.qp_multi.specs.declared.change.TrieChange.{TrieChange}
+use Rattle.trie_write.specs.declared.refusal.NotDone.{NotDone}
+use Rattle.trie_write.specs.declared.refusal.NotDone.TheVariants as not_done
+use Rattle.trie_write.specs.declared.refusal.NotDone.TheVariants.{Refused}
 use Rattle.qp_multi.specs.declared.desk.Draft.{Draft}
 use Rattle.chunk_usage.specs.Keeping.{freed, kept_versions, narrowed}
 use Rattle.qp_multi.specs.declared.kept.Versions.{Versions}
-use Rattle.qp_multi.specs.declared.refusal.Full.{Full}
+use Rattle.qp_multi.specs.declared.refusal.OutOfSpace.{OutOfSpace}
 use Rattle.qp_multi.specs.declared.meaning.Operation.{Operation}
 use Rattle.qp_multi.specs.Operations.{operated, applied}
 use Rattle.qp_multi.specs.Passes.{Known, version_seen}
@@ -35,8 +35,8 @@ use Rattle.qp_multi.proofs.AttemptLaws.{rooted_there}
 use Rattle.qp_multi.proofs.GoesLaws.{words_go_on, goes_further, base_goes_on, applied_more}
 
 -- the operation was done
-pub operates_done : (c : Change) (old new : Draft) → Works old → Tried c old.root old.seat.place.me.0 old.usage new.seat.place.me.0 new.usage (Ok new.root) → new.log.operations ≡ old.log.operations ++ operation_of c ∷ [] → new.seat.passes ≡ old.seat.passes
-    → Operates (operation_of c) (IsRefused c) old new (IsOk {T = Unit {0}} {E = Unchanged} (Ok tt)) (◌≡◌ {A = Result (Unit {0}) Unchanged} (Ok tt) (Err Refused))
+pub operates_done : (c : TrieChange) (old new : Draft) → Works old → Tried c old.root old.seat.place.me.0 old.usage new.seat.place.me.0 new.usage (Ok new.root) → new.log.operations ≡ old.log.operations ++ operation_of c ∷ [] → new.seat.passes ≡ old.seat.passes
+    → Operates (operation_of c) (IsRefused c) old new (IsOk {T = Unit {0}} {E = NotDone} (Ok tt)) (◌≡◌ {A = Result (Unit {0}) NotDone} (Ok tt) (Err Refused))
 operates_done c old new works t log passes =
     let v : Known = old.seat.place.me.0 in
     let w : Known = new.seat.place.me.0 in
@@ -82,8 +82,8 @@ pub version_on : {v w : Known} (a b : ℕ) → GoesOn v w → a ≡ length v.see
 version_on {v} {w} a b g old new = new ∙ ap length g.history ∙ sym old
 
 -- why the call found no room
-pub full_of : (room d : Draft) (full : NoRoom) (f : Full) → GoesOn room.seat.place.me.0 d.seat.place.me.0 → kept_versions d.usage ≡ kept_versions room.usage → ((n : ℕ) → Contains (kept_versions room.usage) n → (n ≡ room.seat.version) ⊎ IsNamed room.seat.place.me.0 n)
-    → (older : List ℕ) × (kept_versions room.usage ≡ older ++ room.seat.version ∷ []) → Lacks d.usage full → f.request ≡ full → versions_in f.kept ≡ kept_versions d.usage → IsFull d f
+pub full_of : (room d : Draft) (full : Shortage) (f : OutOfSpace) → GoesOn room.seat.place.me.0 d.seat.place.me.0 → kept_versions d.usage ≡ kept_versions room.usage → ((n : ℕ) → Contains (kept_versions room.usage) n → (n ≡ room.seat.version) ⊎ IsNamed room.seat.place.me.0 n)
+    → (older : List ℕ) × (kept_versions room.usage ≡ older ++ room.seat.version ∷ []) → Lacks d.usage full → f.shortage ≡ full → versions_in f.kept ≡ kept_versions d.usage → IsFull d f
 full_of room d full f on same named ends lacks request kept =
     record {
       lacks = subst (Lacks d.usage) (sym request) lacks;
@@ -157,25 +157,25 @@ operates_as o denied old new A B C D done still forth back h = record {
 }
 
 -- a refusal, told by another enum
-pub refusal_told : {E : Type 0} (o : Operation) (denied : List Entry → Type 0) (old new : Option Draft) (r : Result (Unit {0}) Unchanged) (e : Unchanged) (told : E) → r ≡ Err e → e ≡ Refused → Between (λ d f. Operates o denied d f (IsOk r) (r ≡ Err Refused)) old new
+pub refusal_told : {E : Type 0} (o : Operation) (denied : List Entry → Type 0) (old new : Option Draft) (r : Result (Unit {0}) NotDone) (e : NotDone) (told : E) → r ≡ Err e → e ≡ Refused → Between (λ d f. Operates o denied d f (IsOk r) (r ≡ Err Refused)) old new
     → Between (λ d f. Operates o denied d f (IsOk {T = Unit {0}} {E = E} (Err told)) (◌≡◌ {A = Result (Unit {0}) E} (Err told) (Err told))) old new
 refusal_told {E} o denied old new r e told is field =
-    let here : r ≡ Err Refused = subst (λ (u : Unchanged). r ≡ Err u) field is in
+    let here : r ≡ Err Refused = subst (λ (u : NotDone). r ≡ Err u) field is in
     between_as (λ d f. Operates o denied d f (IsOk r) (r ≡ Err Refused)) (λ d f. Operates o denied d f (IsOk {T = Unit {0}} {E = E} (Err told)) (◌≡◌ {A = Result (Unit {0}) E} (Err told) (Err told))) old new
     (λ d f _ _ h. operates_as o denied d f (IsOk r) (r ≡ Err Refused) (IsOk {T = Unit {0}} {E = E} (Err told)) (◌≡◌ {A = Result (Unit {0}) E} (Err told) (Err told))
-    (λ never. absurd cc) (λ done. subst (λ (x : Result (Unit {0}) Unchanged). IsOk x) here done) (λ b. refl) (λ d. here) h)
+    (λ never. absurd cc) (λ done. subst (λ (x : Result (Unit {0}) NotDone). IsOk x) here done) (λ b. refl) (λ d. here) h)
 
 -- where a change finds no room, the cause that it tells holds with the list of kept versions that is told besides
-pub cause_told : (key : List ℕ) (written : ℕ) (asks : List ℕ → List ℕ) (old new : Option Draft) (r : Result (Unit {0}) Unchanged) (e : Unchanged) (full : NoRoom) (told f : Full) → r ≡ Err e → e ≡ unchanged.Full full
+pub cause_told : (key : List ℕ) (written : ℕ) (asks : List ℕ → List ℕ) (old new : Option Draft) (r : Result (Unit {0}) NotDone) (e : NotDone) (full : Shortage) (told f : OutOfSpace) → r ≡ Err e → e ≡ not_done.Full full
     → (kept : Versions) × IfSome new (λ d. versions_in kept ≡ kept_versions d.usage) × (told ≡ full_with full kept) → told ≡ f
-    → ((n : NoRoom) (kept : Versions) → r ≡ Err (unchanged.Full n) → IfSome new (λ d. versions_in kept ≡ kept_versions d.usage) → Between (λ d e. CausedFrom d e key written asks (full_with n kept)) old new)
+    → ((n : Shortage) (kept : Versions) → r ≡ Err (not_done.Full n) → IfSome new (λ d. versions_in kept ≡ kept_versions d.usage) → Between (λ d e. CausedFrom d e key written asks (full_with n kept)) old new)
     → Between (λ d e. CausedFrom d e key written asks f) old new
 cause_told key written asks old new r e full told f is field made same cause =
-    subst (λ (x : Full). Between (λ d e. CausedFrom d e key written asks x) old new) (sym made.2 ∙ same) (cause full made.0 (subst (λ (u : Unchanged). r ≡ Err u) field is) made.1)
+    subst (λ (x : OutOfSpace). Between (λ d e. CausedFrom d e key written asks x) old new) (sym made.2 ∙ same) (cause full made.0 (subst (λ (u : NotDone). r ≡ Err u) field is) made.1)
 
-pub crowded_told : (key : List ℕ) (written : ℕ) (new : Option Draft) (r : Result (Unit {0}) Unchanged) (e : Unchanged) (full : NoRoom) (told f : Full) → r ≡ Err e → e ≡ unchanged.Full full
+pub crowded_told : (key : List ℕ) (written : ℕ) (new : Option Draft) (r : Result (Unit {0}) NotDone) (e : NotDone) (full : Shortage) (told f : OutOfSpace) → r ≡ Err e → e ≡ not_done.Full full
     → (kept : Versions) × IfSome new (λ d. versions_in kept ≡ kept_versions d.usage) × (told ≡ full_with full kept) → told ≡ f
-    → ((n : NoRoom) (kept : Versions) → r ≡ Err (unchanged.Full n) → IfSome new (λ d. versions_in kept ≡ kept_versions d.usage) → IsSomeAnd new (λ d. IsCrowded d key written (length (versions_in kept))))
+    → ((n : Shortage) (kept : Versions) → r ≡ Err (not_done.Full n) → IfSome new (λ d. versions_in kept ≡ kept_versions d.usage) → IsSomeAnd new (λ d. IsCrowded d key written (length (versions_in kept))))
     → IsSomeAnd new (λ d. IsCrowded d key written (length (versions_in f.kept)))
 crowded_told key written new r e full told f is field made same crowded =
-    subst (λ (x : Full). IsSomeAnd new (λ d. IsCrowded d key written (length (versions_in x.kept)))) (sym made.2 ∙ same) (crowded full made.0 (subst (λ (u : Unchanged). r ≡ Err u) field is) made.1)
+    subst (λ (x : OutOfSpace). IsSomeAnd new (λ d. IsCrowded d key written (length (versions_in x.kept)))) (sym made.2 ∙ same) (crowded full made.0 (subst (λ (u : NotDone). r ≡ Err u) field is) made.1)

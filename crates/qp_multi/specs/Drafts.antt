@@ -10,7 +10,7 @@ use Rattle.shared_cells.specs.Views.{pass_of}
 use Rattle.shared_cells.specs.Steps.{IsNamed}
 use Rattle.qp_multi.specs.declared.meaning.Operation.{Operation}
 use Rattle.qp_multi.specs.declared.desk.Draft.{Draft}
-use Rattle.qp_multi.specs.declared.refusal.Full.{Full}
+use Rattle.qp_multi.specs.declared.refusal.OutOfSpace.{OutOfSpace}
 use Rattle.qp_multi.specs.Operations.{applied}
 use Rattle.qp_multi.specs.Passes.{Known, known_at, version_seen}
 use Rattle.qp_multi.specs.Bases.{StandsFor, Joined}
@@ -50,8 +50,8 @@ pub record Operates (o : Operation) (denied : List Entry → Type 0) (old new : 
 
 -- The request is one that the usage refuses. Kept are the current version, which is the last, and others that some
 -- pass was found reading.
-pub record IsFull (d : Draft) (f : Full) : Type 0 where
-  pub lacks : Lacks d.usage f.request
+pub record IsFull (d : Draft) (f : OutOfSpace) : Type 0 where
+  pub lacks : Lacks d.usage f.shortage
   pub kept : versions_in f.kept ≡ kept_versions d.usage
   pub named : (v : ℕ) → Contains (versions_in f.kept) v → (v ≡ d.seat.version) ⊎ IsNamed d.seat.place.me.0 v
   pub ends : (older : List ℕ) × (versions_in f.kept ≡ older ++ d.seat.version ∷ [])

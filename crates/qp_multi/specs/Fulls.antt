@@ -3,13 +3,13 @@ use Rattle.std.specs.Prelude.{◌≡◌, ◌⊎◌, ℕ, ◌+◌, ◌-◌, ◌*�
 use Rattle.std.specs.List.{sum_by}
 use Rattle.trie_model.specs.Shape.{cells}
 use Rattle.trie_model.specs.Capacity.{filled_cells}
-use Rattle.chunk_usage.specs.declared.space.Full.{Full as NoRoom}
+use Rattle.chunk_usage.specs.declared.space.Shortage.{Shortage}
 use Rattle.chunk_usage.specs.Ledger.{Ledger, is_bump, is_given, free_count, reserve_of}
 use Rattle.chunk_usage.specs.Keeping.{is_in_rows, kept_versions}
 use Rattle.shared_cells.specs.History.{version_after}
 use Rattle.qp_multi.specs.declared.desk.Draft.{Draft}
 use Rattle.qp_multi.specs.declared.kept.Versions.{Versions}
-use Rattle.qp_multi.specs.declared.refusal.Full.{Full}
+use Rattle.qp_multi.specs.declared.refusal.OutOfSpace.{OutOfSpace}
 use Rattle.qp_multi.specs.Operations.{applied}
 use Rattle.qp_multi.specs.Passes.{Known, first_version}
 use Rattle.qp_multi.specs.Drafts.{working_set}
@@ -27,13 +27,13 @@ abbrev pub cells_kept : Known → List ℕ → ℕ
 cells_kept v versions = sum_by (λ n. cells (version_at v n)) versions
 
 -- a refused request, with the versions that are kept
-abbrev pub full_with : NoRoom → Versions → Full
-full_with f versions = record { request = f; kept = versions }
+abbrev pub full_with : Shortage → Versions → OutOfSpace
+full_with f versions = record { shortage = f; kept = versions }
 
 -- At the refused request of a call, behind a round and a freeing that left this usage.
 -- The call is for a key, and writes so many cells beside the twigs on the key's path. Where the branches there have so many twigs, it
 -- asks for these numbers of cells.
-pub record FullCause (after : Ledger) (d : Draft) (key : List ℕ) (written : ℕ) (asks : List ℕ → List ℕ) (f : Full) : Type 0 where
+pub record WhyOutOfSpace (after : Ledger) (d : Draft) (key : List ℕ) (written : ℕ) (asks : List ℕ → List ℕ) (f : OutOfSpace) : Type 0 where
   -- no chunk but the reserve is free
   pub none_free : free_count d.usage ≤ reserve_of d.usage
   -- the bump chunk of that round, and the chunks that were allocated since: of `filled_cells` that were written one, at most
@@ -43,7 +43,7 @@ pub record FullCause (after : Ledger) (d : Draft) (key : List ℕ) (written : �
   pub on_path : PathHas d.seat.place.me.0 d.usage d.root key path
   pub branches : List ℕ
   pub on_branches : PathHasEach d.seat.place.me.0 d.usage d.root key branches
-  pub needed : Contains (asks branches) f.request.needed
+  pub needed : Contains (asks branches) f.shortage.needed
   pub few_opened : filled_cells * length opened ≤ filled_cells + (written + path)
   -- each other allocated chunk is the one to which a rollback returns, or has a cell of the working set or of a kept version
   pub others_met : (k : ℕ) → is_given d.usage k ≡ true
@@ -53,14 +53,14 @@ pub record FullCause (after : Ledger) (d : Draft) (key : List ℕ) (written : �
   pub many_cells : length d.usage.given - reserve_of d.usage - 8 ≤ cells (working_set d) + cells_kept d.seat.place.me.0 (versions_in f.kept)
 
 -- The call's first try had found no room either, and this was left when room was made, with the versions that are told.
-pub record CausedBy (first d : Draft) (key : List ℕ) (written : ℕ) (asks : List ℕ → List ℕ) (f : Full) : Type 0 where
+pub record CausedBy (first d : Draft) (key : List ℕ) (written : ℕ) (asks : List ℕ → List ℕ) (f : OutOfSpace) : Type 0 where
   pub left : Draft
   pub makes : MakesRoom first left
   pub kept : versions_in f.kept ≡ kept_versions left.usage
   pub fails : Fails left d
-  pub cause : FullCause left.usage d key written asks f
+  pub cause : WhyOutOfSpace left.usage d key written asks f
 
-pub record CausedFrom (old d : Draft) (key : List ℕ) (written : ℕ) (asks : List ℕ → List ℕ) (f : Full) : Type 0 where
+pub record CausedFrom (old d : Draft) (key : List ℕ) (written : ℕ) (asks : List ℕ → List ℕ) (f : OutOfSpace) : Type 0 where
   pub first : Draft
   pub fails : Fails old first
   pub caused : CausedBy first d key written asks f

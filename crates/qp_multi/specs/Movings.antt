@@ -9,7 +9,7 @@ use Rattle.chunk_usage.specs.Counting.{is_sparse}
 use Rattle.evacuate.specs.declared.evacuation.Done.{Done}
 use Rattle.evacuate.specs.declared.evacuation.Done.TheVariants.{Whole, Stopped}
 use Rattle.evacuate.specs.Evacuations.{FillsNew, IsCleared, IsDense, HasSparse, refused}
-use Rattle.evacuate.specs.Fillings.{IsFull as IsUsedUp}
+use Rattle.evacuate.specs.Fillings.{IsUsedUp}
 use Rattle.shared_cells.specs.Views.{words_of}
 use Rattle.shared_cells.specs.Cells.{with_words}
 use Rattle.qp_multi.specs.Passes.{Known}

@@ -22,5 +22,5 @@ pub use Rattle.qp_multi.specs.Movings.{Evacuates, Moved}
 pub use Rattle.qp_multi.specs.Operations.{AreWithin, applied, operated}
 pub use Rattle.qp_multi.specs.Passes.{first_version, known_at}
 pub use Rattle.qp_multi.specs.Tries.{Spares, Tried}
-pub use Rattle.qp_multi.specs.Turns.{Agrees, AgreesWithin, HasBack, cells_with, current_root}
+pub use Rattle.qp_multi.specs.Turns.{Agrees, AgreesWithin, cells_with, current_root}
 pub use Rattle.qp_multi.specs.declared.kept.Versions.{Versions}

@@ -1,6 +1,6 @@
 -- How a call whose first try finds no room makes some, and which chunks its operation takes.
 use Rattle.std.specs.Prelude.{◌≡◌, ◌⊎◌, ℕ, slice_index}
-use Rattle.chunk_usage.specs.declared.space.Full.{Full as NoRoom}
+use Rattle.chunk_usage.specs.declared.space.Shortage.{Shortage}
 use Rattle.chunk_usage.specs.Handing.{Lacks}
 use Rattle.evacuate.specs.declared.evacuation.Done.{Done}
 use Rattle.qp_multi.specs.declared.desk.Draft.{Draft}
@@ -14,7 +14,7 @@ pub record Fails (old new : Draft) : Type 0 where
   pub seen : new.seat.place.me.0.seen ≡ old.seat.place.me.0.seen
   pub spares : Spares old.usage new.usage
   pub counts : (k : ℕ) → slice_index new.usage.live k ≡ slice_index old.usage.live k
-  pub full : NoRoom
+  pub full : Shortage
   pub lacks : Lacks new.usage full
 
 -- a round of the call's, and the freeing behind it

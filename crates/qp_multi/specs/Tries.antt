@@ -1,15 +1,15 @@
 -- An operation tried: on the turn's cells, from a root.
 use Rattle.std.specs.Prelude.{◌≡◌, ◌↔◌, ◌⊎◌, ℕ, ◌+◌, ◌<◌, ◌≤◌, true, false, List, Contains, length, Option, Result, Err, IfOk, IfErr, slice_index}
 use Rattle.trie_model.specs.Keys.{Entry}
-use Rattle.chunk_usage.specs.declared.space.Full.{Full as NoRoom}
+use Rattle.chunk_usage.specs.declared.space.Shortage.{Shortage}
 use Rattle.chunk_usage.specs.Ledger.{Ledger, is_bump, is_used, is_given, frozen_part, reserved}
 use Rattle.chunk_usage.specs.Handing.{Lacks, consumed}
 use Rattle.trie_write.specs.Roots.{OnPath, OnBranches}
 use Rattle.shared_cells.specs.Views.{words_of}
 use Rattle.shared_cells.specs.Cells.{HasCell, with_words}
-use Rattle.qp_multi.specs.declared.change.Change.{Change}
-use Rattle.trie_write.specs.declared.refusal.Unchanged.{Unchanged}
-use Rattle.trie_write.specs.declared.refusal.Unchanged.TheVariants.{Refused, Full}
+use Rattle.qp_multi.specs.declared.change.TrieChange.{TrieChange}
+use Rattle.trie_write.specs.declared.refusal.NotDone.{NotDone}
+use Rattle.trie_write.specs.declared.refusal.NotDone.TheVariants.{Refused, Full}
 use Rattle.qp_multi.specs.Operations.{operated}
 use Rattle.qp_multi.specs.Passes.{Known}
 use Rattle.qp_multi.specs.Turns.{cells_with}
@@ -39,14 +39,14 @@ pub record Spares (old new : Ledger) : Type 0 where
   pub reserve : reserved new ≡ reserved old
 
 -- The new root stands for what the operation makes of the version; where there is none, the root stands for what it did.
-pub record Tried (c : Change) (root : Option ℕ) (v : Known) (u : Ledger) (w : Known) (n : Ledger) (r : Result (Option ℕ) Unchanged) : Type 0 where
+pub record Tried (c : TrieChange) (root : Option ℕ) (v : Known) (u : Ledger) (w : Known) (n : Ledger) (r : Result (Option ℕ) NotDone) : Type 0 where
   pub done : IfOk r (λ new. (es : List Entry) → StandsFor v u root es → StandsFor w n new (operated es (operation_of c)))
   pub refused : (es : List Entry) → StandsFor v u root es → (r ≡ Err Refused) ↔ IsRefused c es
   -- then no cell was handed out
   pub denied : r ≡ Err Refused → n ≡ u
   pub stays : IfErr r (λ _. (es : List Entry) → StandsFor v u root es → StandsFor w n root es)
-  pub full : (f : NoRoom) → r ≡ Err (Full f) → Lacks n f
-  pub asked : (f : NoRoom) → r ≡ Err (Full f) → (branches : List ℕ) → PathHasEach v u root (key_of c) branches → Contains (asked_by c branches) f.needed
+  pub full : (f : Shortage) → r ≡ Err (Full f) → Lacks n f
+  pub asked : (f : Shortage) → r ≡ Err (Full f) → (branches : List ℕ) → PathHasEach v u root (key_of c) branches → Contains (asked_by c branches) f.needed
   -- what the turn knows is the same but for the words
   pub same : w ≡ with_words v (words_of w.turn)
   pub spares : Spares u n

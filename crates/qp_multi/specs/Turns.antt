@@ -4,11 +4,8 @@ use Rattle.std.specs.List.{list_any, list_all, range_with_len}
 use Rattle.pin_core.specs.declared.kept.CellAt.{CellAt}
 use Rattle.pin_core.specs.declared.kept.Kept.{Kept}
 use Rattle.chunk_usage.specs.Ledger.{Ledger, Row, is_used, is_mutable}
-use Rattle.trie_model.specs.Keys.{Entry}
-use Rattle.shared_cells.specs.declared.turn.JoinedSeat.{JoinedSeat}
 use Rattle.shared_cells.specs.declared.view.TurnView.{TurnView}
 use Rattle.shared_cells.specs.Cells.{Cells, cells_of, given_chunks, kept_references}
-use Rattle.qp_multi.specs.declared.meaning.Operation.{Operation}
 
 -- of each chunk, whether the image has a cell in it; and how many it has there
 
@@ -62,9 +59,3 @@ pub record AtRest (u : Ledger) : Type 0 where
 -- the turn's cells, of as many chunks as the usage has
 abbrev pub cells_with : Ledger → Option TurnView → Cells
 cells_with u turn = cells_of (length u.given) turn
-
--- A seat has the cells back that it lent: it is of the same table, with as many passes, and the usage is that of its cells.
-pub record HasBack (old new : JoinedSeat (List Entry) (List Operation)) (u : Ledger) : Type 0 where
-  pub table : new.place.table_id ≡ old.place.table_id
-  pub passes : new.passes ≡ old.passes
-  pub agrees : Agrees (cells_with u new.place.me.0.turn) u new.passes

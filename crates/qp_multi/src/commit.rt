@@ -108,7 +108,7 @@ impl Draft {
         if self.usage.sparse() <= most {
             return (self, true);
         }
-        let (draft, done) = self.evacuate(shared);
+        let (draft, done) = self.evacuate::<L, Brand>(shared);
         match done {
             Done::Whole => (draft, true),
             Done::Stopped => (draft, false),

@@ -1,35 +1,11 @@
 //! What lies in sparse chunks, moved by who has the turn.
-ghost use Rattle.std.specs.Prelude.{◌≡◌, ◌+◌, ◌*◌, ◌/◌, ◌≤◌, List, length};
-ghost use Rattle.qp_multi.specs.Prelude.{words_for, Entry, kept_in, Agrees, HasBack, cells_with, StandsFor, Evacuates, Moved};
+ghost use Rattle.std.specs.Prelude.{◌≡◌, ◌+◌, ◌/◌, ◌≤◌};
+ghost use Rattle.qp_multi.specs.Prelude.{kept_in, Evacuates};
 
 use crate::desk::Draft;
 use crate::meaning::{Law, Meaning, Operations, Version};
-use chunk_usage::Usage;
 use evacuate::Done;
-use packed_node::Ref;
-use shared_cells::{JoinedSeat, Lent, Shared};
-use std::marker::Brand;
-
-/// Moves what the trie of a root has in sparse chunks, in cells whose seat is named.
-fn evacuate<L: Law, B: Lent<Version, Operations>>(
-    shared: &Shared<Version, Operations, Meaning<L>>,
-    seat: JoinedSeat<Version, Operations>,
-    usage: &mut Usage,
-    root: Option<Ref>,
-) -> (JoinedSeat<Version, Operations>, Option<Ref>, Done)
-    requires table { seat.place.table_id ≡ shared.now.table.shared.table_id }
-    requires lent { (seat.place.table_id ≡ B.table) × (seat.place.me.0 ≡ B.view) }
-    requires wide { words_for (length usage.old.given) ≡ seat.place.table_id.words }
-    requires agrees { Agrees (cells_with usage.old seat.place.me.0.turn) usage.old seat.passes }
-    requires stands { (es : List Entry) × StandsFor seat.place.me.0 usage.old root es }
-    ensures back { HasBack seat result.0 usage.new }
-    ensures moved { Moved root seat.place.me.0 usage.old result.0.place.me.0 usage.new result.1 result.2 }
-{
-    let mut cells = seat.lend::<Meaning<L>, B>(shared);
-    let (root, done) = evacuate::evacuate(&mut cells, usage, root);
-    usage.known(); // for the proof
-    (cells.into_joined(), root, done)
-}
+use shared_cells::{Lent, Shared};
 
 impl Draft {
     ghost use Rattle.trie_model.specs.Capacity.{filled_cells};
@@ -39,12 +15,13 @@ impl Draft {
     ghost use Rattle.qp_multi.specs.Drafts.{Works, working_set};
     ghost use Rattle.qp_multi.specs.Keepings.{GoesOn};
 
-    /// Moves what the working set has in sparse chunks. The set is the same.
-    pub(crate) fn evacuate<L: Law>(
+    /// Moves what the working set has in sparse chunks, in cells whose seat is named. The set is the same.
+    pub(crate) fn evacuate<L: Law, B: Lent<Version, Operations>>(
         self,
         shared: &Shared<Version, Operations, Meaning<L>>,
     ) -> (Draft, Done)
         requires table { self.seat.place.table_id ≡ shared.now.table.shared.table_id }
+        requires lent { (self.seat.place.table_id ≡ B.table) × (self.seat.place.me.0 ≡ B.view) }
         requires works { Works self }
         ensures table { result.0.seat.place.table_id ≡ self.seat.place.table_id }
         ensures goes_on { GoesOn self.seat.place.me.0 result.0.seat.place.me.0 }
@@ -63,9 +40,11 @@ impl Draft {
             root,
             log,
         } = self;
-        let (seat, root, done) = evacuate::<L, Brand>(shared, seat, &mut usage, root);
+        let mut cells = seat.lend::<Meaning<L>, B>(shared);
+        let (root, done) = evacuate::evacuate(&mut cells, &mut usage, root);
+        usage.known(); // for the proof
         let draft = Draft {
-            seat,
+            seat: cells.into_joined(),
             usage,
             base,
             root,

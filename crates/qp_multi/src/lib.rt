@@ -21,7 +21,6 @@
 #![tactic(auto)]
 
 mod accounts;
-mod attempt;
 mod change;
 mod close;
 mod commit;
@@ -44,7 +43,6 @@ mod query;
 mod refusal;
 mod snapshot;
 mod transaction;
-mod working;
 
 pub use commit::Receipt;
 pub use index::Index;
@@ -56,6 +54,6 @@ pub use opening::{Blank, OpenRefusal, room_in};
 pub use pass::Pass;
 pub use pin_core::Spent;
 pub use query::Query;
-pub use refusal::{ChangeRefusal, Full, InsertRefusal};
+pub use refusal::{ChangeRefusal, InsertRefusal, OutOfSpace};
 pub use snapshot::Snapshot;
 pub use transaction::{Locked, Transaction, Update, Write};

@@ -4,7 +4,7 @@ ghost use Rattle.std.specs.Borrow.{ftrue};
 ghost use Rattle.qp_multi.specs.declared.meaning.Operation.{Operation};
 ghost use Rattle.qp_multi.specs.Logged.{operations_code};
 
-use crate::change::Change;
+use crate::change::TrieChange;
 use std::marker::Model;
 
 /// Contracts read what it lists.
@@ -27,7 +27,7 @@ impl Log {
     }
 
     /// The log with one operation more.
-    pub(crate) fn then(&self, _change: &Change<'_>) -> Log
+    pub(crate) fn then(&self, _change: &TrieChange<'_>) -> Log
         ensures { result.operations ≡ self.now.operations ++ operation_of _change.now ∷ [] }
     {
         Log {}

@@ -102,7 +102,7 @@ fn fill<L: Law, B: Lent<Version, Operations>>(
     items: &[Item],
 ) -> (
     NewTurnSeat<Version, Operations>,
-    Result<Option<Ref>, chunk_usage::Full>,
+    Result<Option<Ref>, chunk_usage::Shortage>,
 )
     requires table { turn.place.table_id ≡ shared.now.table.shared.table_id }
     requires lent { (turn.place.table_id ≡ B.table) × (turn.place.me.0 ≡ B.view) }

@@ -1,15 +1,16 @@
 //! Why a transaction's call changes nothing.
 
 use crate::kept::Versions;
+use chunk_usage::Shortage;
 use thiserror::Error;
 
 /// There is no room: after a round and a freeing in this call the bump chunk has too few cells left, and no chunk but the reserve
 /// is free.
 #[derive(Clone, Copy, Debug, Error)]
-#[error("{request}")]
-pub struct Full {
+#[error("{shortage}")]
+pub struct OutOfSpace {
     /// The refused request.
-    pub request: chunk_usage::Full,
+    pub shortage: Shortage,
     /// The versions that the round kept.
     pub kept: Versions,
 }
@@ -22,7 +23,7 @@ pub enum InsertRefusal {
     Exists,
     /// There is no room.
     #[error(transparent)]
-    Full(Full),
+    Full(OutOfSpace),
 }
 
 /// Why a name's item isn't changed.
@@ -33,5 +34,5 @@ pub enum ChangeRefusal {
     NotFound,
     /// There is no room.
     #[error(transparent)]
-    Full(Full),
+    Full(OutOfSpace),
 }

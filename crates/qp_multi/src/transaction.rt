@@ -7,7 +7,7 @@ ghost use Rattle.std.specs.Option.{ForSome};
 ghost use Rattle.std.proofs.Props.{props};
 ghost use Rattle.qp_multi.specs.Bounds.{HasRoom, IsCramped, IsCrowded};
 
-use crate::change::Change;
+use crate::change::TrieChange;
 use crate::commit::Receipt;
 use crate::desk::{Desk, Draft};
 use crate::index::{Index, Turn};
@@ -16,13 +16,14 @@ use crate::kind::{Compaction, Heavy, Kind, Light};
 use crate::lock::HeldLock;
 use crate::meaning::{Law, Meaning, Named, Operations, Version};
 use crate::pass::Pass;
-use crate::refusal::{ChangeRefusal, Full, InsertRefusal};
+use crate::refusal::{ChangeRefusal, InsertRefusal, OutOfSpace};
+use chunk_usage::Shortage;
 use pin_core::{LAST_VERSION, Spent};
 use shared_cells::{PassSeat, Shared};
 use shift_key::Key;
 use std::marker::PhantomData;
 use std::sync::Wait;
-use trie_write::Unchanged;
+use trie_write::NotDone;
 
 /// Where a transaction keeps the lock and its working set: a local of the caller, which outlives the transaction. Where the transaction
 /// was forgotten, dropping this rolls it back.
@@ -135,20 +136,20 @@ impl<'i, L: Law, N: Named> Locked<'i, L, N> {
     }
 
     // Does an operation on the working set.
-    fn change(&mut self, change: &Change<'_>) -> Result<(), Unchanged>
+    fn change(&mut self, change: &TrieChange<'_>) -> Result<(), NotDone>
         requires works { IsSomeAnd self.old.draft Works }
         requires leads { LeadsItem change.now }
         ensures place { self.new.place ≡ self.old.place }
-        ensures operates { Between (λ d e. Operates (operation_of change.now) (IsRefused change.now) d e (IsOk result) (result ≡ Err Unchanged.Refused))
+        ensures operates { Between (λ d e. Operates (operation_of change.now) (IsRefused change.now) d e (IsOk result) (result ≡ Err NotDone.Refused))
             self.old.draft self.new.draft }
         ensures spares { Between SparesReserve self.old.draft self.new.draft }
-        ensures full { (f : _) (kept : Kept) → result ≡ Err (Unchanged.Full f) → IfSome self.new.draft (λ d. versions_in kept ≡ kept_versions d.usage)
+        ensures full { (f : _) (kept : Kept) → result ≡ Err (NotDone.Full f) → IfSome self.new.draft (λ d. versions_in kept ≡ kept_versions d.usage)
             → IsSomeAnd self.new.draft (λ d. IsFull d (full_with f kept)) }
-        ensures cause { (f : _) (kept : Kept) → result ≡ Err (Unchanged.Full f) → IfSome self.new.draft (λ d. versions_in kept ≡ kept_versions d.usage)
+        ensures cause { (f : _) (kept : Kept) → result ≡ Err (NotDone.Full f) → IfSome self.new.draft (λ d. versions_in kept ≡ kept_versions d.usage)
             → Between (λ d e. CausedFrom d e (key_of change.now) (written_by change.now) (asked_by change.now) (full_with f kept))
             self.old.draft self.new.draft }
-        ensures cramped { (f : _) → result ≡ Err (Unchanged.Full f) → IsSomeAnd self.old.draft IsCramped }
-        ensures crowded { (f : _) (kept : Kept) → result ≡ Err (Unchanged.Full f) → IfSome self.new.draft (λ d. versions_in kept ≡ kept_versions d.usage)
+        ensures cramped { (f : _) → result ≡ Err (NotDone.Full f) → IsSomeAnd self.old.draft IsCramped }
+        ensures crowded { (f : _) (kept : Kept) → result ≡ Err (NotDone.Full f) → IfSome self.new.draft (λ d. versions_in kept ≡ kept_versions d.usage)
             → IsSomeAnd self.new.draft (λ d. IsCrowded d (key_of change.now) (written_by change.now) (length (versions_in kept))) }
     {
         let Some(draft) = self.draft.take() else {
@@ -173,12 +174,12 @@ impl<'i, L: Law, N: Named> Locked<'i, L, N> {
     }
 
     // Why there is no room, with the versions that are kept.
-    fn full(&self, request: chunk_usage::Full) -> Full
+    fn full(&self, shortage: Shortage) -> OutOfSpace
         requires { IsSome self.now.draft }
-        ensures { (kept : Kept) × IfSome self.now.draft (λ d. versions_in kept ≡ kept_versions d.usage) × (result ≡ full_with request kept) }
+        ensures { (kept : Kept) × IfSome self.now.draft (λ d. versions_in kept ≡ kept_versions d.usage) × (result ≡ full_with shortage kept) }
     {
-        Full {
-            request,
+        OutOfSpace {
+            shortage,
             kept: self.kept(),
         }
     }
@@ -427,10 +428,10 @@ impl<L: Law, N: Named, K> Transaction<'_, '_, L, N, K> {
         ensures crowded { (f : _) → result ≡ Err (InsertRefusal.Full f)
             → IsSomeAnd self.new.locked.now.draft (λ d. IsCrowded d key.now (3 + cells_in item.now) (length (versions_in f.kept))) }
     {
-        match self.locked.change(&Change::Insert(key, item)) {
+        match self.locked.change(&TrieChange::Insert(key, item)) {
             Ok(()) => Ok(()),
-            Err(Unchanged::Refused) => Err(InsertRefusal::Exists),
-            Err(Unchanged::Full(full)) => Err(InsertRefusal::Full(self.locked.full(full))),
+            Err(NotDone::Refused) => Err(InsertRefusal::Exists),
+            Err(NotDone::Full(full)) => Err(InsertRefusal::Full(self.locked.full(full))),
         }
     }
 
@@ -452,10 +453,10 @@ impl<L: Law, N: Named, K> Transaction<'_, '_, L, N, K> {
         ensures crowded { (f : _) → result ≡ Err (ChangeRefusal.Full f)
             → IsSomeAnd self.new.locked.now.draft (λ d. IsCrowded d key.now (3 + cells_in item.now) (length (versions_in f.kept))) }
     {
-        match self.locked.change(&Change::Replace(key, item)) {
+        match self.locked.change(&TrieChange::Replace(key, item)) {
             Ok(()) => Ok(()),
-            Err(Unchanged::Refused) => Err(ChangeRefusal::NotFound),
-            Err(Unchanged::Full(full)) => Err(ChangeRefusal::Full(self.locked.full(full))),
+            Err(NotDone::Refused) => Err(ChangeRefusal::NotFound),
+            Err(NotDone::Full(full)) => Err(ChangeRefusal::Full(self.locked.full(full))),
         }
     }
 
@@ -475,10 +476,10 @@ impl<L: Law, N: Named, K> Transaction<'_, '_, L, N, K> {
         ensures crowded { (f : _) → result ≡ Err (ChangeRefusal.Full f)
             → IsSomeAnd self.new.locked.now.draft (λ d. IsCrowded d key.now 1 (length (versions_in f.kept))) }
     {
-        match self.locked.change(&Change::Delete(key)) {
+        match self.locked.change(&TrieChange::Delete(key)) {
             Ok(()) => Ok(()),
-            Err(Unchanged::Refused) => Err(ChangeRefusal::NotFound),
-            Err(Unchanged::Full(full)) => Err(ChangeRefusal::Full(self.locked.full(full))),
+            Err(NotDone::Refused) => Err(ChangeRefusal::NotFound),
+            Err(NotDone::Full(full)) => Err(ChangeRefusal::Full(self.locked.full(full))),
         }
     }
 }

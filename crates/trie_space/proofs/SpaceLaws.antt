@@ -6,7 +6,7 @@ use Rattle.packed_node.specs.declared.Cell.{Cell}
 use Rattle.trie_model.specs.Extents.{row}
 use Rattle.trie_model.specs.Reach.{in_chunk}
 use Rattle.chunk_cells.specs.Chunks.{IsGiven, IsFree}
-use Rattle.chunk_usage.specs.declared.space.Full.{Full}
+use Rattle.chunk_usage.specs.declared.space.Shortage.{Shortage}
 use Rattle.chunk_usage.specs.Rooms.{Account, Handed, GivesChunk, OpensFree, Grows}
 use Rattle.trie_space.specs.Spaces.{Ready, Frame, Fenced, Refused, MayWrite, Wrote, IsWritable}
 
@@ -192,8 +192,8 @@ module _ {S A : Type 0} {has : S → ℕ → Cell → Type 0} {kept : S → List
   frame_same {s2 = s2} {a} {a2} same = subst (λ s. Frame has kept given account s a s2 a2) same
 
   -- cells were handed out, there was no room for more, and they count no more
-  pub refused_room : {lacks : A → Full → Type 0} {s s1 s2 s3 : S} {a a2 a3 a4 : A} {first n : ℕ} {f : Full} → s1 ≡ s → Frame has kept given account s1 a s2 a2 → Handed (account a) (account a2) first n → Refused has account lacks s2 a2 s3 a3 f →
-      ((k : ℕ) → (account a4).live k + row (in_chunk k) first n ≡ (account a3).live k) → ((f : Full) → lacks a3 f → lacks a4 f) → Refused has account lacks s a s3 a4 f
+  pub refused_room : {lacks : A → Shortage → Type 0} {s s1 s2 s3 : S} {a a2 a3 a4 : A} {first n : ℕ} {f : Shortage} → s1 ≡ s → Frame has kept given account s1 a s2 a2 → Handed (account a) (account a2) first n → Refused has account lacks s2 a2 s3 a3 f →
+      ((k : ℕ) → (account a4).live k + row (in_chunk k) first n ≡ (account a3).live k) → ((f : Shortage) → lacks a3 f → lacks a4 f) → Refused has account lacks s a s3 a4 f
   refused_room {f = f} same frame handed r released lack = record {
     untouched = λ q c u h. r.untouched q c (frame.grows.stays q u) ((frame_same same frame).stays q c u h);
     counts = λ k. let x = handed.counts k in let y = r.counts k in let z = released k in omega arith;
@@ -252,7 +252,7 @@ module _ {S A : Type 0} {has : S → ℕ → Cell → Type 0} {kept : S → List
   fenced_same {s2 = s2} {a} {a2} same = subst (λ s. Fenced has kept given account s a s2 a2) same
 
 module _ {S A : Type 0} {has : S → ℕ → Cell → Type 0} {account : A → Account} where
-  pub refused_same : {lacks : A → Full → Type 0} {s s1 s2 : S} {a a2 : A} {f : Full} → s1 ≡ s → Refused has account lacks s1 a s2 a2 f → Refused has account lacks s a s2 a2 f
+  pub refused_same : {lacks : A → Shortage → Type 0} {s s1 s2 : S} {a a2 : A} {f : Shortage} → s1 ≡ s → Refused has account lacks s1 a s2 a2 f → Refused has account lacks s a s2 a2 f
   refused_same {lacks} {s2 = s2} {a} {a2} {f} same = subst (λ s. Refused has account lacks s a s2 a2 f) same
 
 -- what was handed out can be released

@@ -2,7 +2,7 @@
 use Rattle.std.specs.Prelude.{◌≡◌, ◌⊎◌, ℕ, ◌+◌, ◌/◌, ◌<◌, Bool, true, false, List, Contains}
 use Rattle.packed_node.specs.declared.Cell.{Cell}
 use Rattle.chunk_cells.specs.Chunks.{IsGiven}
-use Rattle.chunk_usage.specs.declared.space.Full.{Full}
+use Rattle.chunk_usage.specs.declared.space.Shortage.{Shortage}
 use Rattle.chunk_usage.specs.Rooms.{Account, OpensFree, Grows}
 
 -- both know the same given chunks; what is kept is in use, and immutable
@@ -43,7 +43,7 @@ pub record Unchanged {S A : Type 0} (has : S → ℕ → Cell → Type 0) (accou
   pub counts : (k : ℕ) → (account a_new).live k ≡ (account a).live k
 
 -- and that found no room. The numbers say why.
-pub record Refused {S A : Type 0} (has : S → ℕ → Cell → Type 0) (account : A → Account) (lacks : A → Full → Type 0) (s : S) (a : A) (s_new : S) (a_new : A) (f : Full) : Type 0 where
+pub record Refused {S A : Type 0} (has : S → ℕ → Cell → Type 0) (account : A → Account) (lacks : A → Shortage → Type 0) (s : S) (a : A) (s_new : S) (a_new : A) (f : Shortage) : Type 0 where
   pub untouched : (q : ℕ) (c : Cell) → (account a).used q ≡ true → has s q c → has s_new q c
   pub counts : (k : ℕ) → (account a_new).live k ≡ (account a).live k
   pub lack : lacks a_new f

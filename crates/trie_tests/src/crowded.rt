@@ -10,7 +10,7 @@ use chunk_usage::Space;
 use std::alloc::Global;
 use std::test::Fail;
 use trie_read::Root;
-use trie_write::{Item, Unchanged};
+use trie_write::{Item, NotDone};
 
 /// Which of the first 64 changes finds no room, counted from 1: one item after another is taken out and put in again.
 fn refused_at<C: CellWrite, U: Space>(
@@ -30,8 +30,8 @@ fn refused_at<C: CellWrite, U: Space>(
         };
         match changed(cells, usage, root, change, items.get(step / 2)?) {
             Ok(new) => root = new,
-            Err(Unchanged::Full(_)) => return Some(step + 1),
-            Err(Unchanged::Refused) => return None,
+            Err(NotDone::Full(_)) => return Some(step + 1),
+            Err(NotDone::Refused) => return None,
         }
     }
     None

@@ -10,7 +10,7 @@ use chunk_usage::Space;
 use dns_name::Name;
 use packed_node::Ref;
 use std::alloc::Global;
-use trie_write::{Item, ItemRefusal, Unchanged};
+use trie_write::{Item, ItemRefusal, NotDone};
 
 /// How long the root's item with so many octets behind the name is, and its key.
 fn item_len(alloc: Global, payload: usize) -> Option<(usize, u16)> {
@@ -40,7 +40,7 @@ fn sizes_with<C: CellWrite, U: Space>(
     usage: &mut U,
     root: Option<Ref>,
     item: &Item,
-) -> Result<(u64, u64), Unchanged>
+) -> Result<(u64, u64), NotDone>
     requires { IsTrie C.has C.kept C.given U.account cells.old usage.old root }
 {
     let root = changed(cells, usage, root, Change::Insert, item)?;
@@ -62,7 +62,7 @@ fn sizes_alone(alloc: Global, name: &[u8], other: &[u8], payload: &[u8]) -> Opti
     Some((sizes, usage.live(0)))
 }
 
-type Sizes = (Result<(u64, u64), Unchanged>, u32);
+type Sizes = (Result<(u64, u64), NotDone>, u32);
 
 // Three nodes; one item has one cell, the other two.
 #[test]
@@ -74,5 +74,5 @@ fn a_name_is_put_beside_another(rt: HostRuntime) {
 #[test]
 fn a_name_is_put_in_once(rt: HostRuntime) {
     let sizes = sizes_alone(rt.alloc(), b"example.", b"example.", b"2");
-    assert!(rt; matches!(sizes, Some((Err(Unchanged::Refused), 2))));
+    assert!(rt; matches!(sizes, Some((Err(NotDone::Refused), 2))));
 }

@@ -8,7 +8,7 @@ use chunk_usage::Space;
 use packed_node::Ref;
 use shift_key::Key;
 use trie_read::{count, get, nodes};
-use trie_write::{Item, Unchanged, build, cells as cells_needed, delete, insert, replace};
+use trie_write::{Item, NotDone, build, cells as cells_needed, delete, insert, replace};
 
 /// Whether a key comes before another.
 pub(crate) fn comes_before(key: &Key, other: &Key) -> bool
@@ -68,7 +68,7 @@ pub(crate) fn changed<C: CellWrite, U: Space>(
     root: Option<Ref>,
     change: Change,
     item: &Item,
-) -> Result<Option<Ref>, Unchanged>
+) -> Result<Option<Ref>, NotDone>
     requires { IsTrie C.has C.kept C.given U.account cells.old usage.old root }
     ensures { IfOk result (IsTrie C.has C.kept C.given U.account cells.new usage.new) }
 {

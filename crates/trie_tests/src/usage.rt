@@ -6,7 +6,7 @@ ghost use Rattle.chunk_usage.specs.Ledger.{frozen_part};
 use crate::room::unused_room;
 use chunk_cells::{CellWrite, PlainCells};
 use chunk_usage::capacity::{least, roomy};
-use chunk_usage::{Full, Grant, Space, Usage};
+use chunk_usage::{Grant, Shortage, Space, Usage};
 use packed_node::Ref;
 use std::alloc::{AllocError, Global};
 use std::test::Fail;
@@ -26,7 +26,7 @@ fn fills(usage: &mut Usage, from: u32, to: u32, reserve: bool) -> bool {
 }
 
 /// So many cells, with or without the reserve.
-fn granted(usage: &mut Usage, n: u32, reserve: bool) -> Result<Grant, Full>
+fn granted(usage: &mut Usage, n: u32, reserve: bool) -> Result<Grant, Shortage>
     requires some { 0 < n }
     requires few { n ≤ 256 }
 {

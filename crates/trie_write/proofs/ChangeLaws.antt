@@ -14,12 +14,12 @@ use Rattle.trie_write.specs.Tops.{IsLeafTop, IsBranchTop}
 use Rattle.trie_model.proofs.MoveLaws.{beneath_kept}
 use Rattle.chunk_usage.specs.Rooms.{Account}
 use Rattle.std.proofs.lemmas.Bool.{cases_lt}
-use Rattle.trie_write.specs.declared.change.Change.{Change}
+use Rattle.trie_write.specs.declared.change.CellChange.{CellChange}
 use Rattle.trie_space.specs.Rooted.{Rooted, no_spare}
 use Rattle.trie_write.specs.Mutable.{IsSlot}
 use Rattle.trie_write.specs.Puts.{taken, left, Makes, IsTaken, PutAsks, IsPut, GivenBack}
 use Rattle.trie_space.proofs.WayLaws.{beneath_met, Follows, low_at, plug_tree, weigh_plug, before, after, entries_plug}
-use Rattle.chunk_usage.specs.declared.space.Full.{Full}
+use Rattle.chunk_usage.specs.declared.space.Shortage.{Shortage}
 use Rattle.trie_space.specs.Spaces.{Frame, Refused}
 use Rattle.trie_space.specs.Standing.{StandsIn}
 use Rattle.trie_space.specs.Ways.{Fork, plug, IsWay}
@@ -29,7 +29,7 @@ use Rattle.trie_space.proofs.WeightLaws.{at_itself, mark_le, mark_grows, mark_te
 
 module _ {S A : Type 0} {has : S → ℕ → Cell → Type 0} {account : A → Account} where
   -- cells are taken for a change beside it
-  pub rooted_taken : {kept : S → List ℕ} {given : S → List Bool} {s s1 : S} {a a1 : A} {r : ℕ} {t : Tree} {c : Change} → Rooted has account s a no_spare r t → Frame has kept given account s a s1 a1 → IsTaken (account a) (account a1) c → Rooted has account s1 a1 (taken c) r t
+  pub rooted_taken : {kept : S → List ℕ} {given : S → List Bool} {s s1 : S} {a a1 : A} {r : ℕ} {t : Tree} {c : CellChange} → Rooted has account s a no_spare r t → Frame has kept given account s a s1 a1 → IsTaken (account a) (account a1) c → Rooted has account s1 a1 (taken c) r t
   rooted_taken {s = s} {s1} {a} {r = r} {t} h f taken_is = record {
     inside = h.inside;
     top = f.stays r (top_cell t) (met_used h r (let i = at_itself r in omega arith)) h.top;
@@ -40,7 +40,7 @@ module _ {S A : Type 0} {has : S → ℕ → Cell → Type 0} {account : A → A
 
 -- ---- at the slot
 
-module _ {S A : Type 0} {has : S → ℕ → Cell → Type 0} {given : S → List Bool} {account : A → Account} {s s1 : S} {a a1 : A} {place r root slot : ℕ} {key : List ℕ} {c : Change} {way : List Fork} {end u : Tree} (asks : PutAsks has account s a place key r c way end u) (opened : IsSlot has given account s a s1 a1 place key (taken c) r way end root slot) where
+module _ {S A : Type 0} {has : S → ℕ → Cell → Type 0} {given : S → List Bool} {account : A → Account} {s s1 : S} {a a1 : A} {place r root slot : ℕ} {key : List ℕ} {c : CellChange} {way : List Fork} {end u : Tree} (asks : PutAsks has account s a place key r c way end u) (opened : IsSlot has given account s a s1 a1 place key (taken c) r way end root slot) where
   -- what the new tree meets is spare, or met by the old one below its top; so it stays while the way is opened
   beneath_opened : Beneath (has s1) u
   beneath_opened = beneath_met (has s) (has s1) u (λ q x m h. elim (cases_lt 0 (weigh_tree (at_place q) end)) [
@@ -70,13 +70,13 @@ module _ {S A : Type 0} {has : S → ℕ → Cell → Type 0} {given : S → Lis
   outside_opened others q x used out h = others q x (opened.apart q used out) (opened.outside q x used out h)
 
 -- the cells that were taken count
-pub taken_counted : {S A : Type 0} {has : S → ℕ → Cell → Type 0} {account : A → Account} {s : S} {a : A} {place r : ℕ} {key : List ℕ} {c : Change} {way : List Fork} {end u : Tree} (a1 : A) → PutAsks has account s a place key r c way end u → ((k : ℕ) → (account a1).live k ≡ (account a).live k) → (k : ℕ) → taken c (in_chunk k) ≤ (account a1).live k
+pub taken_counted : {S A : Type 0} {has : S → ℕ → Cell → Type 0} {account : A → Account} {s : S} {a : A} {place r : ℕ} {key : List ℕ} {c : CellChange} {way : List Fork} {end u : Tree} (a1 : A) → PutAsks has account s a place key r c way end u → ((k : ℕ) → (account a1).live k ≡ (account a).live k) → (k : ℕ) → taken c (in_chunk k) ≤ (account a1).live k
 taken_counted a1 asks same k = let x = asks.slot.rooted.counted k in let y = same k in omega arith
 
 -- ---- a change that is prepared below a root that stands
 
 module _ {S A : Type 0} {has : S → ℕ → Cell → Type 0} {account : A → Account} {s : S} {a : A} {r : ℕ} {t : Tree} {version : List Entry} (stands : StandsIn (has s) (account a).used (account a).live r t version) (way : List Fork) (end : Tree) (is : t ≡ plug way end) where
-  pub put_asks : {kept : S → List ℕ} {given : S → List Bool} {s1 : S} {a1 : A} {place : ℕ} {key : List ℕ} {c : Change} {u : Tree} → IsWay place key way end → Frame has kept given account s a s1 a1 → IsTaken (account a) (account a1) c → Makes has s1 c end u → PutAsks has account s1 a1 place key r c way end u
+  pub put_asks : {kept : S → List ℕ} {given : S → List Bool} {s1 : S} {a1 : A} {place : ℕ} {key : List ℕ} {c : CellChange} {u : Tree} → IsWay place key way end → Frame has kept given account s a s1 a1 → IsTaken (account a) (account a1) c → Makes has s1 c end u → PutAsks has account s1 a1 place key r c way end u
   put_asks {s1 = s1} {a1} {c = c} w f taken_is makes = record {
     slot = record {
       tree = subst (IsTree 0) is stands.trie.shape;
@@ -86,8 +86,8 @@ module _ {S A : Type 0} {has : S → ℕ → Cell → Type 0} {account : A → A
     makes = makes;
   }
 
-module _ {S A : Type 0} {has : S → ℕ → Cell → Type 0} {kept : S → List ℕ} {given : S → List Bool} {account : A → Account} {s s1 s2 : S} {a a1 a2 : A} {c : Change} (f : Frame has kept given account s a s1 a1) (taken_is : IsTaken (account a) (account a1) c) where
-  pub refused_back : {lacks : A → Full → Type 0} {full : Full} → GivenBack has account lacks s1 a1 s2 a2 (taken c) full → Refused has account lacks s a s2 a2 full
+module _ {S A : Type 0} {has : S → ℕ → Cell → Type 0} {kept : S → List ℕ} {given : S → List Bool} {account : A → Account} {s s1 s2 : S} {a a1 a2 : A} {c : CellChange} (f : Frame has kept given account s a s1 a1) (taken_is : IsTaken (account a) (account a1) c) where
+  pub refused_back : {lacks : A → Shortage → Type 0} {full : Shortage} → GivenBack has account lacks s1 a1 s2 a2 (taken c) full → Refused has account lacks s a s2 a2 full
   refused_back b = record {
     untouched = λ q x u h. b.untouched q x (f.grows.stays q u) (f.stays q x u h);
     counts = λ k. let x = b.counts k in let y = taken_is.counts k in omega arith;

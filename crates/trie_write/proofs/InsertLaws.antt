@@ -22,7 +22,7 @@ use Rattle.trie_model.proofs.KeyLaws.{in_left, in_right, in_both}
 use Rattle.trie_model.proofs.MoveLaws.{beneath_kept, tree_weaker}
 use Rattle.chunk_usage.specs.Rooms.{Account, Handed}
 use Rattle.trie_read.specs.Reads.{IsTop, EachTells}
-use Rattle.trie_write.specs.declared.change.Change.{Change}
+use Rattle.trie_write.specs.declared.change.CellChange.{CellChange}
 use Rattle.shift_key.specs.declared.difference.Difference.{Difference}
 use Rattle.trie_space.specs.Rooted.{Rooted, no_spare}
 use Rattle.trie_write.specs.Inserts.{WithAsks, IsWith, LacksKey}
@@ -98,7 +98,7 @@ module _ {S A : Type 0} {has : S → ℕ → Cell → Type 0} {account : A → A
   pub lacks_branches : branches_on_path key t ≡ map twigs_of h.way ++ branches_on_path key h.end
   lacks_branches = on_way first.place key t h.way h.end h.stands.trie.shape h.is h.is_way.along
 
-  pub inserted : {s1 s2 : S} {a2 : A} {c : Change} {item : List ℕ} {root : ℕ} (w : IsWith has s1 c first.place (record { key = key; item = item }) h.end) → IsPut has account s2 a2 first.place key h.way h.end w.new root →
+  pub inserted : {s1 s2 : S} {a2 : A} {c : CellChange} {item : List ℕ} {root : ℕ} (w : IsWith has s1 c first.place (record { key = key; item = item }) h.end) → IsPut has account s2 a2 first.place key h.way h.end w.new root →
       (next : List Entry) × Inserted (record { key = key; item = item }) version next × ((u : Tree) × StandsIn (has s2) (account a2).used (account a2).live root u next)
   inserted {item = item} w p =
       let early = low_early first.place 0 key p.copy (omega arith) p.along in
@@ -178,7 +178,7 @@ module _ {S A : Type 0} (has : S → ℕ → Cell → Type 0) (account : A → A
       let p = f.nearest.apart x (subst (InList x) (sym z.1.trie.holds) i) in p.2 (ap (λ (y : List ℕ). at y p.0) (sym k))
 
 -- the cells of the item and of the twigs are taken
-pub taken_both : {old mid new : Account} {c : Change} (l : Laid) (item : List ℕ) → l.len ≡ length item → HandedItem old mid (length item) (extents_in l) → ((q : ℕ) → old.used q ≡ true → mid.used q ≡ true) → Handed mid new c.new_twigs.at c.new_twigs.n → ((q : ℕ) → mid.used q ≡ true → new.used q ≡ true) → c.new_item ≡ l → IsTaken old new c
+pub taken_both : {old mid new : Account} {c : CellChange} (l : Laid) (item : List ℕ) → l.len ≡ length item → HandedItem old mid (length item) (extents_in l) → ((q : ℕ) → old.used q ≡ true → mid.used q ≡ true) → Handed mid new c.new_twigs.at c.new_twigs.n → ((q : ℕ) → mid.used q ≡ true → new.used q ≡ true) → c.new_item ≡ l → IsTaken old new c
 taken_both {old} {mid} {new} {c} l item len h stays g later new_item =
     let v = λ (w : ℕ → ℕ). ap (λ x. item_span x w) new_item ∙ item_span_is (record { len = len; there = refl }) w in
     record { counts = λ k. let x = h.counts k in let y = g.counts k in let z = v (in_chunk k) in omega arith; fresh = λ q. let x = item_fresh h stays q in let y = handed_fresh g later q in let z = v (at_place q) in omega arith }

@@ -17,7 +17,7 @@ use Rattle.chunk_cells.specs.declared.extents.Extents.{Extents as Laid}
 use Rattle.chunk_usage.specs.Rooms.{Account, Handed}
 use Rattle.trie_write.specs.Laid.{HandedItem, IsItemAt, IsLaid, extent_sizes}
 use Rattle.trie_write.specs.Puts.{item_span}
-use Rattle.chunk_usage.specs.declared.space.Full.{Full}
+use Rattle.chunk_usage.specs.declared.space.Shortage.{Shortage}
 use Rattle.trie_space.specs.Spaces.{Ready, Frame, Refused}
 use Rattle.trie_write.proofs.AskLaws.{first_of as first_of_list, later_of, either_of}
 use Rattle.trie_space.specs.Weights.{at_place, mark}
@@ -118,8 +118,8 @@ module _ {S A : Type 0} {has : S → ℕ → Cell → Type 0} {kept : S → List
   }
 
   -- there was no room for more, and they count no more
-  pub refused_item : {lacks : A → Full → Type 0} {s s1 s2 : S} {a a1 a2 a3 : A} {n : ℕ} {x : Extents} {f : Full} → Frame has kept given account s a s1 a1 → HandedItem (account a) (account a1) n x → Refused has account lacks s1 a1 s2 a2 f →
-      ((k : ℕ) → (account a3).live k + weigh_extents (in_chunk k) n x ≡ (account a2).live k) → ((f : Full) → lacks a2 f → lacks a3 f) → Refused has account lacks s a s2 a3 f
+  pub refused_item : {lacks : A → Shortage → Type 0} {s s1 s2 : S} {a a1 a2 a3 : A} {n : ℕ} {x : Extents} {f : Shortage} → Frame has kept given account s a s1 a1 → HandedItem (account a) (account a1) n x → Refused has account lacks s1 a1 s2 a2 f →
+      ((k : ℕ) → (account a3).live k + weigh_extents (in_chunk k) n x ≡ (account a2).live k) → ((f : Shortage) → lacks a2 f → lacks a3 f) → Refused has account lacks s a s2 a3 f
   refused_item {f = f} frame h r released lack = record {
     untouched = λ q c u there. r.untouched q c (frame.grows.stays q u) (frame.stays q c u there);
     counts = λ k. let x = h.counts k in let y = r.counts k in let z = released k in omega arith;

@@ -18,7 +18,7 @@ use Rattle.trie_model.proofs.DropLaws.{higher}
 use Rattle.trie_model.proofs.KeyLaws.{in_left, in_right, in_both}
 use Rattle.trie_model.proofs.ReachLaws.{live_is}
 use Rattle.chunk_usage.specs.Rooms.{Account}
-use Rattle.trie_write.specs.declared.change.Change.{Change}
+use Rattle.trie_write.specs.declared.change.CellChange.{CellChange}
 use Rattle.trie_write.specs.declared.descend.Descent.{Descent}
 use Rattle.trie_write.specs.Asks.{HasKey}
 use Rattle.trie_write.specs.Deletions.{Deleted, LeafDescent, IsWithout, DropAsks}
@@ -96,7 +96,7 @@ module _ {S A : Type 0} {has : S → ℕ → Cell → Type 0} {account : A → A
       subst (λ (ns : List ℕ). Contains ns (count_ones descent.branch.bitmap)) (sym (branches_plug 65535 0 key d.last.lower key_leaf lower_tree parts_along.1))
       (Contains-append_left (map twigs_of d.last.lower) (branches_on_path key key_leaf) (count_ones descent.branch.bitmap) (here_asked leaf_descent.asks leaf_descent.descent.through (count_ones descent.branch.bitmap) refl))
 
-  pub removed : {s1 s2 : S} {a2 : A} {c : Change} {root : ℕ} (w : IsWithout has s1 c d.there.entry (plug d.last.lower key_leaf)) → IsPut has account s2 a2 descent.branch.offset key d.last.upper (plug d.last.lower key_leaf) w.new root →
+  pub removed : {s1 s2 : S} {a2 : A} {c : CellChange} {root : ℕ} (w : IsWithout has s1 c d.there.entry (plug d.last.lower key_leaf)) → IsPut has account s2 a2 descent.branch.offset key d.last.upper (plug d.last.lower key_leaf) w.new root →
       (next : List Entry) × Deleted key version next × ((u : Tree) × StandsIn (has s2) (account a2).used (account a2).live root u next)
   removed w p =
       let x = w.shrunk (low_at 0 p.copy) (end_tree 0 p.copy (plug d.last.lower key_leaf) p.tree) in (

@@ -16,10 +16,10 @@ use Rattle.trie_model.proofs.DropLaws.{higher}
 use Rattle.chunk_usage.specs.Rooms.{Account}
 use Rattle.trie_write.specs.Asks.{HasKey}
 use Rattle.trie_write.specs.Exchanges.{Exchanged}
-use Rattle.trie_write.specs.declared.change.Change.{Change}
+use Rattle.trie_write.specs.declared.change.CellChange.{CellChange}
 use Rattle.trie_write.specs.declared.change.Span.{Span}
 use Rattle.trie_write.specs.Puts.{span, Makes, IsTaken, IsPut}
-use Rattle.chunk_usage.specs.declared.space.Full.{Full}
+use Rattle.chunk_usage.specs.declared.space.Shortage.{Shortage}
 use Rattle.trie_space.specs.Spaces.{Fenced, Refused}
 use Rattle.zone_model.specs.Keys.{Leads}
 use Rattle.trie_read.specs.Reads.{IsTop, EachTells}
@@ -56,7 +56,7 @@ leaf_way place low key t gone h there same far = let w = way_to place low key t 
 
 -- ---- another leaf for it
 
-pub taken_item : {old new : Account} {c : Change} {n : ℕ} {x : Extents} → HandedItem old new n x → ((q : ℕ) → old.used q ≡ true → new.used q ≡ true) → c.new_twigs ≡ record { at = 0; n = 0 } → IsItemAt c.new_item n x → IsTaken old new c
+pub taken_item : {old new : Account} {c : CellChange} {n : ℕ} {x : Extents} → HandedItem old new n x → ((q : ℕ) → old.used q ≡ true → new.used q ≡ true) → c.new_twigs ≡ record { at = 0; n = 0 } → IsItemAt c.new_item n x → IsTaken old new c
 taken_item {old} {new} {c} {n} {x} h stays no_twigs new_item =
     let w = λ (w : ℕ → ℕ). ap (λ x. span x w) no_twigs in let v = λ (w : ℕ → ℕ). item_span_is new_item w in
     record { counts = λ k. let x = h.counts k in let y = w (in_chunk k) in let z = v (in_chunk k) in omega arith; fresh = λ q. let x = item_fresh h stays q in let y = w (at_place q) in let z = v (at_place q) in omega arith }
@@ -76,7 +76,7 @@ module _ {S A : Type 0} {has : S → ℕ → Cell → Type 0} {account : A → A
   pub key_branches : branches_on_path key t ≡ map twigs_of h.way ++ branches_on_path key (leaf h.entry h.first)
   key_branches = on_way 65535 key t h.way (leaf h.entry h.first) h.stands.trie.shape h.is h.is_way.along
 
-  pub other_makes : {s1 : S} {l : Leaf} {c : Change} (item : List ℕ) → l.len ≡ length item → l.at ≡ place_of (extents_in c.new_item) → AreExtents (length item) (extents_in c.new_item) → ItemLies (has s1) (extents_in c.new_item) item → c.cell ≡ leaf_cell l →
+  pub other_makes : {s1 : S} {l : Leaf} {c : CellChange} (item : List ℕ) → l.len ≡ length item → l.at ≡ place_of (extents_in c.new_item) → AreExtents (length item) (extents_in c.new_item) → ItemLies (has s1) (extents_in c.new_item) item → c.cell ≡ leaf_cell l →
       c.new_twigs ≡ record { at = 0; n = 0 } → c.new_item.len ≡ length item → c.old_twigs ≡ record { at = 0; n = 0 } → IsItemAt c.old_item (length h.entry.item) h.first → Makes has s1 c (leaf h.entry h.first) (leaf (record { key = key; item = item }) (extents_in c.new_item))
   other_makes {s1} {l} {c} item n at_first are lies cell new_twigs new_item old_twigs old_item = record {
     is = cell ∙ laid_top (extents_in c.new_item) key item n at_first;
@@ -138,6 +138,6 @@ module _ {S A : Type 0} {has : S → ℕ → Cell → Type 0} {account : A → A
       (o.0, o.1, subst (λ s. HasKey has account s a r key o.0 o.1) (sym same) (key_of_entry o.2 k), o.4)
 
 -- what is in use stays, and so does what stands
-pub trie_later : {S A : Type 0} {has : S → ℕ → Cell → Type 0} {kept : S → List ℕ} {given : S → List Bool} {account : A → Account} {lacks : A → Full → Type 0} {s s1 s2 : S} {a a2 : A} {f : Full} (version : List Entry) (root : Option ℕ) → s1 ≡ s → Refused has account lacks s1 a s2 a2 f → Fenced has kept given account s1 a s2 a2 →
+pub trie_later : {S A : Type 0} {has : S → ℕ → Cell → Type 0} {kept : S → List ℕ} {given : S → List Bool} {account : A → Account} {lacks : A → Shortage → Type 0} {s s1 s2 : S} {a a2 : A} {f : Shortage} (version : List Entry) (root : Option ℕ) → s1 ≡ s → Refused has account lacks s1 a s2 a2 f → Fenced has kept given account s1 a s2 a2 →
     HasTrie has account s a root version → HasTrie has account s2 a2 root version
 trie_later {has = has} version root same r frame h = standing_later version root h (λ q c u x. r.untouched q c u (subst (λ s. has s q c) (sym same) x)) frame.grows.stays r.counts

@@ -26,7 +26,7 @@ use Rattle.trie_model.proofs.MoveLaws.{beneath_kept, lie_moved, lie_cell, within
 use Rattle.trie_model.proofs.SplitLaws.{Missing, rising_of, lie_join, lie_left, lie_right, within_left, within_right}
 use Rattle.trie_model.proofs.TopLaws.{is_node}
 use Rattle.chunk_usage.specs.Rooms.{Account}
-use Rattle.trie_write.specs.declared.change.Change.{Change}
+use Rattle.trie_write.specs.declared.change.CellChange.{CellChange}
 use Rattle.trie_write.specs.declared.change.Span.{Span}
 use Rattle.shift_key.specs.declared.difference.Difference.{Difference}
 use Rattle.trie_write.specs.Inserts.{WithAsks, IsWith}
@@ -57,7 +57,7 @@ module _ {S A : Type 0} {has : S → ℕ → Cell → Type 0} {account : A → A
   key_apart = x.differs.nearest.other
 
   -- the new cells' count and those of the item are what is taken
-  module _ {s2 : S} {c : Change} (u : Tree) {to m : ℕ} (new_twigs : c.new_twigs ≡ record { at = to; n = m }) (new_item : c.new_item ≡ l) (no_item : IsNoItem c.old_item) where
+  module _ {s2 : S} {c : CellChange} (u : Tree) {to m : ℕ} (new_twigs : c.new_twigs ≡ record { at = to; n = m }) (new_item : c.new_item ≡ l) (no_item : IsNoItem c.old_item) where
     new_makes : {old : Span} → c.old_twigs ≡ old → old.at % 1024 + old.n ≤ 1024 → to % 1024 + m ≤ 1024 → c.cell ≡ top_cell u → Beneath (has s2) u →
         ((w : ℕ → ℕ) → weigh_tree w u + span old w ≡ weigh_tree w end + (row w to m + weigh_extents w (length item) (extents_in l))) → Makes has s2 c end u
     new_makes {old} old_twigs old_together together is beneath weigh = record {
@@ -123,7 +123,7 @@ module _ {S A : Type 0} {has : S → ℕ → Cell → Type 0} {account : A → A
           let e : to + index ≡ suc to = omega arith in let g : to + (1 - index) ≡ to = omega arith in
           (subst (λ (c : Cell). has s2 to c) x.top.is (subst (λ (q : ℕ). has s2 q node) g other), node_stays, (subst (λ (q : ℕ). has s2 q cell_of_leaf) e here, stays_there, tt))
 
-      pub paired : {c : Change} → c.cell ≡ branch_cell (record { offset = first.place; bitmap = 2 ^ at key first.place + 2 ^ first.position; twigs = to }) → c.new_twigs ≡ record { at = to; n = 2 } → c.new_item ≡ l → c.old_twigs ≡ record { at = 0; n = 0 } → IsNoItem c.old_item →
+      pub paired : {c : CellChange} → c.cell ≡ branch_cell (record { offset = first.place; bitmap = 2 ^ at key first.place + 2 ^ first.position; twigs = to }) → c.new_twigs ≡ record { at = to; n = 2 } → c.new_item ≡ l → c.old_twigs ≡ record { at = 0; n = 0 } → IsNoItem c.old_item →
           IsWith has s2 c first.place (record { key = key; item = item }) end
       paired cell new_twigs new_item old_twigs old_item = elim (cases_lt (at key first.place) first.position) [
         | inl m ↦ record { new = low_pair; makes = new_makes low_pair new_twigs new_item old_item old_twigs (omega arith) together.together (cell ∙ low_cell) (low_beneath m) (λ w. omega arith); grown = λ low late tree. low_grown low late m }
@@ -246,7 +246,7 @@ module _ {S A : Type 0} {has : S → ℕ → Cell → Type 0} {account : A → A
         more_lie : Lie (has s2) to more
         more_lie = lie_join (has s2) to missing.left (twig (at key first.place) (leaf (record { key = key; item = item }) (extents_in l)) missing.right) left_lie (leaf_lies, item_stays x.laid f, right_lie)
 
-        pub joined : {c : Change} → c.cell ≡ branch_cell (record { offset = first.place; bitmap = b.bitmap + 2 ^ at key first.place; twigs = to }) → c.new_twigs ≡ record { at = to; n = count_ones b.bitmap + 1 } → c.new_item ≡ l → c.old_twigs ≡ record { at = b.twigs; n = count_ones b.bitmap } → IsNoItem c.old_item →
+        pub joined : {c : CellChange} → c.cell ≡ branch_cell (record { offset = first.place; bitmap = b.bitmap + 2 ^ at key first.place; twigs = to }) → c.new_twigs ≡ record { at = to; n = count_ones b.bitmap + 1 } → c.new_item ≡ l → c.old_twigs ≡ record { at = b.twigs; n = count_ones b.bitmap } → IsNoItem c.old_item →
             IsWith has s2 c first.place (record { key = key; item = item }) end
         joined cell new_twigs new_item old_twigs old_item = record {
           new = branch first.place to more;

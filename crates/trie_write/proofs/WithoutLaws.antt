@@ -21,7 +21,7 @@ use Rattle.chunk_cells.specs.Laying.{extents_in}
 use Rattle.chunk_cells.specs.declared.extents.Extents.{Extents as Laid}
 use Rattle.chunk_usage.specs.Rooms.{Account, Handed}
 use Rattle.trie_read.specs.Reads.{IsTop}
-use Rattle.trie_write.specs.declared.change.Change.{Change}
+use Rattle.trie_write.specs.declared.change.CellChange.{CellChange}
 use Rattle.trie_write.specs.declared.change.Span.{Span}
 use Rattle.trie_write.specs.declared.descend.Descent.{Descent}
 use Rattle.trie_write.specs.Deletions.{LeafDescent, IsWithout}
@@ -116,7 +116,7 @@ module _ {S A : Type 0} {has : S → ℕ → Cell → Type 0} {account : A → A
   pub gone_item : {l m : Laid} → ((e : Entry) (x : Extents) → IsTop (has s) 0 t.next (leaf e x) → l.len ≡ length e.item) → ((e : Entry) (x : Extents) → IsTop (has s) 0 t.next (leaf e x) → extents_in l ≡ x) → m ≡ l → IsItemAt m (length e.item) first
   gone_item {l} {m} len there same = subst (λ (z : Laid). IsItemAt z (length e.item) first) (sym same) (record { len = len e first leaf_top; there = there e first leaf_top })
 
-  spans_of : {c : Change} {new : Span} → c.new_twigs ≡ new → new.at % 1024 + new.n ≤ 1024 → IsNoItem c.new_item → c.old_twigs ≡ record { at = t.branch.twigs; n = count_ones t.branch.bitmap } → IsItemAt c.old_item (length e.item) first → AreSpans c
+  spans_of : {c : CellChange} {new : Span} → c.new_twigs ≡ new → new.at % 1024 + new.n ≤ 1024 → IsNoItem c.new_item → c.old_twigs ≡ record { at = t.branch.twigs; n = count_ones t.branch.bitmap } → IsItemAt c.old_item (length e.item) first → AreSpans c
   spans_of {c} new together new_item old_twigs old_item = record {
     new_twigs = subst (λ (y : Span). y.at % 1024 + y.n ≤ 1024) (sym new) together;
     new_item = item_are new_item none_are;
@@ -124,7 +124,7 @@ module _ {S A : Type 0} {has : S → ℕ → Cell → Type 0} {account : A → A
     old_item = item_are old_item leaf_alone.1;
   }
 
-  pub collapsed : {c : Change} → count_ones t.branch.bitmap ≡ 2 → ((d : Cell) → has s (t.branch.twigs + (1 - t.index)) d → c.cell ≡ d) → c.new_twigs ≡ record { at = 0; n = 0 } → IsNoItem c.new_item → c.old_twigs ≡ record { at = t.branch.twigs; n = count_ones t.branch.bitmap } → IsItemAt c.old_item (length e.item) first →
+  pub collapsed : {c : CellChange} → count_ones t.branch.bitmap ≡ 2 → ((d : Cell) → has s (t.branch.twigs + (1 - t.index)) d → c.cell ≡ d) → c.new_twigs ≡ record { at = 0; n = 0 } → IsNoItem c.new_item → c.old_twigs ≡ record { at = t.branch.twigs; n = count_ones t.branch.bitmap } → IsItemAt c.old_item (length e.item) first →
       IsWithout has s c e (plug lower (leaf e first))
   collapsed {c} two read new_twigs new_item old_twigs old_item = subst (IsWithout has s c e) (sym last_is) (
       let u = one_left {has = has s} last_fork e first t.index c.cell last_known last_beneath (sym last_n ∙ two) x.descent.index_is read in
@@ -165,7 +165,7 @@ module _ {S A : Type 0} {has : S → ℕ → Cell → Type 0} {account : A → A
     pub fewer_branch : IsBranch (record { offset = t.branch.offset; bitmap = bits; twigs = to })
     fewer_branch = subst (λ (b : ℕ). IsBranch (record { offset = t.branch.offset; bitmap = b; twigs = to })) (sym others_bits) (is_node 0 (branch t.branch.offset to others) (others_shrunk 0 last_tree).tree)
 
-    pub dropped : {c : Change} → ((i : ℕ) (d : Cell) → i < t.index → has s (t.branch.twigs + i) d → has s1 (to + i) d) → ((i : ℕ) (d : Cell) → t.index + 1 + i < count_ones t.branch.bitmap → has s (t.branch.twigs + (t.index + 1 + i)) d → has s1 (to + (t.index + 0 + i)) d) →
+    pub dropped : {c : CellChange} → ((i : ℕ) (d : Cell) → i < t.index → has s (t.branch.twigs + i) d → has s1 (to + i) d) → ((i : ℕ) (d : Cell) → t.index + 1 + i < count_ones t.branch.bitmap → has s (t.branch.twigs + (t.index + 1 + i)) d → has s1 (to + (t.index + 0 + i)) d) →
         c.cell ≡ branch_cell (record { offset = t.branch.offset; bitmap = bits; twigs = to }) → c.new_twigs ≡ record { at = to; n = count_ones t.branch.bitmap - 1 } → IsNoItem c.new_item → c.old_twigs ≡ record { at = t.branch.twigs; n = count_ones t.branch.bitmap } → IsItemAt c.old_item (length e.item) first →
         IsWithout has s1 c e (plug lower (leaf e first))
     dropped {c} before after cell new_twigs new_item old_twigs old_item = subst (IsWithout has s1 c e) (sym last_is) (record {
@@ -192,16 +192,16 @@ module _ {S A : Type 0} {has : S → ℕ → Cell → Type 0} {account : A → A
             subst (λ q. has s1 q d) z (after i d (let n = x.descent.index_is in let m = last_n in omega arith) (subst (λ q. has s q d) y h)))
             (within_right (account a).used t.branch.twigs x.descent.through.left (twig x.descent.through.position (leaf e first) x.descent.through.right) last_within).2 (sides_of (has s) last_fork (leaf e first) last_beneath).rights
 
-pub same_without : {S : Type 0} {has : S → ℕ → Cell → Type 0} {s s1 : S} {c : Change} {e : Entry} {old : Tree} → s1 ≡ s → IsWithout has s c e old → IsWithout has s1 c e old
+pub same_without : {S : Type 0} {has : S → ℕ → Cell → Type 0} {s s1 : S} {c : CellChange} {e : Entry} {old : Tree} → s1 ≡ s → IsWithout has s c e old → IsWithout has s1 c e old
 same_without {has = has} {c = c} {e} {old} same = subst (λ s. IsWithout has s c e old) (sym same)
 
 -- twigs alone were taken
-pub taken_twigs : {old new : Account} {c : Change} (to m : ℕ) → Handed old new to m → ((q : ℕ) → old.used q ≡ true → new.used q ≡ true) → c.new_twigs ≡ record { at = to; n = m } → IsNoItem c.new_item → IsTaken old new c
+pub taken_twigs : {old new : Account} {c : CellChange} (to m : ℕ) → Handed old new to m → ((q : ℕ) → old.used q ≡ true → new.used q ≡ true) → c.new_twigs ≡ record { at = to; n = m } → IsNoItem c.new_item → IsTaken old new c
 taken_twigs {old} {new} {c} to m h stays new_twigs no_item =
     let w = λ (w : ℕ → ℕ). ap (λ x. span x w) new_twigs in let v = λ (w : ℕ → ℕ). item_span_is no_item w in
     record { counts = λ k. let x = h.counts k in let y = w (in_chunk k) in let z = v (in_chunk k) in omega arith; fresh = λ q. let x = handed_fresh h stays q in let y = w (at_place q) in let z = v (at_place q) in omega arith }
 
-pub none_taken : {a : Account} {c : Change} → c.new_twigs ≡ record { at = 0; n = 0 } → IsNoItem c.new_item → IsTaken a a c
+pub none_taken : {a : Account} {c : CellChange} → c.new_twigs ≡ record { at = 0; n = 0 } → IsNoItem c.new_item → IsTaken a a c
 none_taken {a} {c} no_twigs no_item =
     let w = λ (w : ℕ → ℕ). ap (λ x. span x w) no_twigs in let v = λ (w : ℕ → ℕ). item_span_is no_item w in
     record { counts = λ k. let y = w (in_chunk k) in let z = v (in_chunk k) in omega arith; fresh = λ q. let y = w (at_place q) in let z = v (at_place q) in omega arith }

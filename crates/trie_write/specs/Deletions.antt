@@ -9,7 +9,7 @@ use Rattle.trie_model.specs.Trees.{Tree, IsTree}
 use Rattle.trie_model.specs.Trees.Tree.{leaf}
 use Rattle.chunk_usage.specs.Rooms.{Account}
 use Rattle.trie_write.specs.declared.descend.Descent.{Descent}
-use Rattle.trie_write.specs.declared.change.Change.{Change}
+use Rattle.trie_write.specs.declared.change.CellChange.{CellChange}
 use Rattle.trie_write.specs.Asks.{HasKey}
 use Rattle.trie_write.specs.Mutable.{WayAsks}
 use Rattle.trie_write.specs.Puts.{Makes}
@@ -35,7 +35,7 @@ pub record LeafTurned {S A : Type 0} (has : S → ℕ → Cell → Type 0) (acco
   pub last : LeafDescent has account s a key t lower entry first
 
 -- the change makes of the branch what it is without the leaf
-pub record IsWithout {S : Type 0} (has : S → ℕ → Cell → Type 0) (s : S) (c : Change) (e : Entry) (old : Tree) : Type 0 where
+pub record IsWithout {S : Type 0} (has : S → ℕ → Cell → Type 0) (s : S) (c : CellChange) (e : Entry) (old : Tree) : Type 0 where
   pub new : Tree
   pub makes : Makes has s c old new
   pub shrunk : (low : ℕ) → IsTree low old → Shrunk e low old new

@@ -9,7 +9,7 @@ use Rattle.trie_model.specs.Reach.{WithinTree}
 use Rattle.trie_model.specs.Trees.{Tree, entries_of, IsTree}
 use Rattle.chunk_usage.specs.Rooms.{Account}
 use Rattle.trie_read.specs.Reads.{IsTop}
-use Rattle.trie_write.specs.declared.change.Change.{Change}
+use Rattle.trie_write.specs.declared.change.CellChange.{CellChange}
 use Rattle.shift_key.specs.declared.difference.Difference.{Difference}
 use Rattle.trie_write.specs.Laid.{IsLaid}
 use Rattle.trie_write.specs.Puts.{Makes}
@@ -53,7 +53,7 @@ pub record JoinAsked {S A : Type 0} (has : S → ℕ → Cell → Type 0) (accou
   pub here : b.offset ≡ first.place
 
 -- the change makes of the tree what it is with the entry
-pub record IsWith {S : Type 0} (has : S → ℕ → Cell → Type 0) (s : S) (c : Change) (place : ℕ) (e : Entry) (old : Tree) : Type 0 where
+pub record IsWith {S : Type 0} (has : S → ℕ → Cell → Type 0) (s : S) (c : CellChange) (place : ℕ) (e : Entry) (old : Tree) : Type 0 where
   pub new : Tree
   pub makes : Makes has s c old new
   pub grown : (low : ℕ) → low ≤ place → IsTree low old → Grown e low old new

@@ -7,10 +7,10 @@ use Rattle.trie_model.specs.Reach.{in_chunk, weigh_tree}
 use Rattle.trie_model.specs.Trees.{Tree, entries_of, IsTree}
 use Rattle.chunk_cells.specs.declared.extents.Extents.{Extents as Laid}
 use Rattle.chunk_cells.specs.Laying.{extents_in}
-use Rattle.chunk_usage.specs.declared.space.Full.{Full}
+use Rattle.chunk_usage.specs.declared.space.Shortage.{Shortage}
 use Rattle.chunk_usage.specs.Rooms.{Account}
 use Rattle.trie_write.specs.declared.change.Span.{Span}
-use Rattle.trie_write.specs.declared.change.Change.{Change}
+use Rattle.trie_write.specs.declared.change.CellChange.{CellChange}
 use Rattle.trie_space.specs.Rooted.{Rooted, no_spare}
 use Rattle.trie_write.specs.Mutable.{SlotAsks}
 use Rattle.trie_space.specs.Ways.{Fork, plug, Along}
@@ -23,14 +23,14 @@ span x w = row w x.at x.n
 abbrev pub item_span : Laid → (ℕ → ℕ) → ℕ
 item_span x w = weigh_extents w x.len (extents_in x)
 
-abbrev pub taken : Change → (ℕ → ℕ) → ℕ
+abbrev pub taken : CellChange → (ℕ → ℕ) → ℕ
 taken c w = span c.new_twigs w + item_span c.new_item w
 
-abbrev pub left : Change → (ℕ → ℕ) → ℕ
+abbrev pub left : CellChange → (ℕ → ℕ) → ℕ
 left c w = span c.old_twigs w + item_span c.old_item w
 
 -- twigs lie in one chunk, and items in extents
-pub record AreSpans (c : Change) : Type 0 where
+pub record AreSpans (c : CellChange) : Type 0 where
   pub new_twigs : c.new_twigs.at % 1024 + c.new_twigs.n ≤ 1024
   pub new_item : AreExtents c.new_item.len (extents_in c.new_item)
   pub old_twigs : c.old_twigs.at % 1024 + c.old_twigs.n ≤ 1024
@@ -38,22 +38,22 @@ pub record AreSpans (c : Change) : Type 0 where
 
 -- The change makes the one tree of the other: its cell is the top of that one, which lies in cells of the old one and in those taken,
 -- and all that it doesn't keep is left.
-pub record Makes {S : Type 0} (has : S → ℕ → Cell → Type 0) (s : S) (c : Change) (end u : Tree) : Type 0 where
+pub record Makes {S : Type 0} (has : S → ℕ → Cell → Type 0) (s : S) (c : CellChange) (end u : Tree) : Type 0 where
   pub is : c.cell ≡ top_cell u
   pub beneath : Beneath (has s) u
   pub weigh : (w : ℕ → ℕ) → weigh_tree w u + left c w ≡ weigh_tree w end + taken c w
   pub spans : AreSpans c
 
 -- the cells taken for a change count, and weren't in use before
-pub record IsTaken (old new : Account) (c : Change) : Type 0 where
+pub record IsTaken (old new : Account) (c : CellChange) : Type 0 where
   pub counts : (k : ℕ) → new.live k ≡ old.live k + taken c (in_chunk k)
   pub fresh : (q : ℕ) → taken c (at_place q) + mark old.used q ≤ mark new.used q
 
-pub record PutAsks {S A : Type 0} (has : S → ℕ → Cell → Type 0) (account : A → Account) (s : S) (a : A) (place : ℕ) (key : List ℕ) (r : ℕ) (c : Change) (way : List Fork) (end u : Tree) : Type 0 where
+pub record PutAsks {S A : Type 0} (has : S → ℕ → Cell → Type 0) (account : A → Account) (s : S) (a : A) (place : ℕ) (key : List ℕ) (r : ℕ) (c : CellChange) (way : List Fork) (end u : Tree) : Type 0 where
   pub slot : SlotAsks has account s a place key (taken c) r way end
   pub makes : Makes has s c end u
 
-pub record PutAsked {S A : Type 0} (has : S → ℕ → Cell → Type 0) (account : A → Account) (s : S) (a : A) (place : ℕ) (key : List ℕ) (r : ℕ) (c : Change) : Type 0 where
+pub record PutAsked {S A : Type 0} (has : S → ℕ → Cell → Type 0) (account : A → Account) (s : S) (a : A) (place : ℕ) (key : List ℕ) (r : ℕ) (c : CellChange) : Type 0 where
   pub way : List Fork
   pub end : Tree
   pub u : Tree
@@ -68,7 +68,7 @@ pub record IsPut {S A : Type 0} (has : S → ℕ → Cell → Type 0) (account :
   pub rooted : Rooted has account s_new a_new no_spare root (plug copy u)
 
 -- no room was found, and these cells count no more
-pub record GivenBack {S A : Type 0} (has : S → ℕ → Cell → Type 0) (account : A → Account) (lacks : A → Full → Type 0) (s : S) (a : A) (s_new : S) (a_new : A) (spare : (ℕ → ℕ) → ℕ) (f : Full) : Type 0 where
+pub record GivenBack {S A : Type 0} (has : S → ℕ → Cell → Type 0) (account : A → Account) (lacks : A → Shortage → Type 0) (s : S) (a : A) (s_new : S) (a_new : A) (spare : (ℕ → ℕ) → ℕ) (f : Shortage) : Type 0 where
   pub untouched : (q : ℕ) (c : Cell) → (account a).used q ≡ true → has s q c → has s_new q c
   pub counts : (k : ℕ) → (account a_new).live k + spare (in_chunk k) ≡ (account a).live k
   pub lack : lacks a_new f

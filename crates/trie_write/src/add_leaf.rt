@@ -5,10 +5,10 @@ ghost use Rattle.trie_write.specs.Prelude.{Cell, IsBranch, branch_cell, Deep, Tr
 ghost use Rattle.trie_write.specs.Prelude.{IsWith, IsNoItem, twigs_on_path, branches_on_path, Ready, Frame, Refused, IsBranchTop};
 
 use super::alloc::{copy_apart, room_for};
-use super::change::{Change, NO_CELLS, NO_ITEM, Span};
+use super::change::{CellChange, NO_CELLS, NO_ITEM, Span};
 use super::node_top::branch_at;
 use chunk_cells::{CellWrite, Extents};
-use chunk_usage::{Full, Space};
+use chunk_usage::{Shortage, Space};
 use packed_node::{Branch, Cell, Node, bitmap};
 use shift_key::{Difference, Key};
 
@@ -25,7 +25,7 @@ fn place_of_two(position: u8, other: u8) -> u32
 }
 
 /// The change to a branch, whose twigs and leaf are new.
-fn leaf_added(branch: Branch, twigs: u32, item: &Extents, old_twigs: Span) -> Change
+fn leaf_added(branch: Branch, twigs: u32, item: &Extents, old_twigs: Span) -> CellChange
     requires { IsBranch branch }
     ensures cell { result.cell ≡ branch_cell branch }
     ensures new_twigs { result.new_twigs ≡ record { at = branch.twigs; n = twigs } }
@@ -33,7 +33,7 @@ fn leaf_added(branch: Branch, twigs: u32, item: &Extents, old_twigs: Span) -> Ch
     ensures old_twigs { result.old_twigs ≡ old_twigs }
     ensures old_item { IsNoItem result.old_item }
 {
-    Change {
+    CellChange {
         cell: Node::Branch(branch).pack(),
         new_twigs: Span {
             at: branch.twigs,
@@ -53,7 +53,7 @@ fn pair_with<C: CellWrite, U: Space>(
     first: Difference,
     node: Cell,
     item: &Extents,
-) -> Result<Change, Full>
+) -> Result<CellChange, Shortage>
     requires asks { PairAsked C.has U.account cells.old usage.old key.now first node item.now }
     requires ready { Ready C.kept C.given U.account cells.old usage.old }
     ensures with { IfOk result (λ change. (octets : List ℕ) (end : Tree) → WithAsks C.has U.account cells.old usage.old key.now octets first node item.now end
@@ -88,7 +88,7 @@ fn join_twigs<C: CellWrite, U: Space>(
     first: Difference,
     branch: Branch,
     item: &Extents,
-) -> Result<Change, Full>
+) -> Result<CellChange, Shortage>
     requires asks { JoinAsked C.has U.account cells.old usage.old key.now first branch item.now }
     requires ready { Ready C.kept C.given U.account cells.old usage.old }
     ensures with { IfOk result (λ change. (node : Cell) (octets : List ℕ) (end : Tree)
@@ -126,7 +126,7 @@ pub fn with_leaf<C: CellWrite, U: Space>(
     first: Difference,
     node: Cell,
     item: &Extents,
-) -> Result<Change, Full>
+) -> Result<CellChange, Shortage>
     requires asks { WithAsked C.has U.account cells.old usage.old key.now first node item.now }
     requires ready { Ready C.kept C.given U.account cells.old usage.old }
     ensures with { IfOk result (λ change. (octets : List ℕ) (end : Tree) → WithAsks C.has U.account cells.old usage.old key.now octets first node item.now end

@@ -5,12 +5,16 @@ ghost use Rattle.trie_write.specs.Prelude.{Cell, IsRow, row_of, in_chunk, Handed
 
 use super::change::Span;
 use chunk_cells::CellWrite;
-use chunk_usage::{Full, Space};
+use chunk_usage::{Shortage, Space};
 use packed_node::{Cell, Ref};
 use trie_space::copy_twigs;
 
 /// Room for n cells side by side, in a chunk that the cells know as given.
-pub fn room_for<C: CellWrite, U: Space>(cells: &mut C, usage: &mut U, n: u32) -> Result<Ref, Full>
+pub fn room_for<C: CellWrite, U: Space>(
+    cells: &mut C,
+    usage: &mut U,
+    n: u32,
+) -> Result<Ref, Shortage>
     requires some { 0 < n }
     requires few { n ≤ 256 }
     requires ready { Ready C.kept C.given U.account cells.old usage.old }
@@ -48,7 +52,7 @@ pub fn lay_row<C: CellWrite, U: Space>(
     cells: &mut C,
     usage: &mut U,
     row: &[Cell],
-) -> Result<Ref, Full>
+) -> Result<Ref, Shortage>
     requires some { 0 < length row.now }
     requires few { length row.now ≤ 256 }
     requires ready { Ready C.kept C.given U.account cells.old usage.old }
@@ -73,7 +77,7 @@ pub fn copy_apart<C: CellWrite, U: Space>(
     index: u32,
     skip: u32,
     gap: u32,
-) -> Result<Ref, Full>
+) -> Result<Ref, Shortage>
     requires index { index + skip ≤ from.n }
     requires some { 0 < from.n - skip + gap }
     requires few { from.n - skip + gap ≤ 256 }

@@ -13,7 +13,7 @@ use super::branch_points::{BranchPoint, from_offset, point_ahead};
 use super::laying::lay_item;
 use super::row::Row;
 use chunk_cells::CellWrite;
-use chunk_usage::{Full, Space};
+use chunk_usage::{Shortage, Space};
 use packed_node::{Branch, Cell, Node, Ref, bitmap};
 use trie_read::Root;
 
@@ -32,7 +32,7 @@ pub fn build<C: CellWrite, U: Space>(
     cells: &mut C,
     usage: &mut U,
     items: &[Item],
-) -> Result<Root, Full>
+) -> Result<Root, Shortage>
     requires rising { Rises (entries_of_items items.now) }
     requires uncounted { (k : ℕ) → (U.account usage.old).live k ≡ 0 }
     requires ready { Ready C.kept C.given U.account cells.old usage.old }
@@ -60,7 +60,7 @@ fn build_root<C: CellWrite, U: Space>(
     cells: &mut C,
     usage: &mut U,
     items: &[Item],
-) -> Result<Ref, Full>
+) -> Result<Ref, Shortage>
     requires some { 0 < length items.now }
     requires rising { Rises (entries_of_items items.now) }
     requires uncounted { (k : ℕ) → (U.account usage.old).live k ≡ 0 }
@@ -81,7 +81,7 @@ fn build_leaf<C: CellWrite, U: Space>(
     cells: &mut C,
     usage: &mut U,
     item: &Item,
-) -> Result<Cell, Full>
+) -> Result<Cell, Shortage>
     requires { Ready C.kept C.given U.account cells.old usage.old }
     ensures built { IfOk result (λ cell. (at : Extents) × IsTree 0 (leaf (entry_of item.now) at)
         × Built (C.has cells.new) (U.account usage.old) (U.account usage.new) (leaf (entry_of item.now) at) cell) }
@@ -101,7 +101,7 @@ fn build_front<'a, C: CellWrite, U: Space>(
     usage: &mut U,
     items: &'a [Item],
     low: u16,
-) -> Result<Part<'a>, Full>
+) -> Result<Part<'a>, Shortage>
     requires some { 0 < length items.now }
     requires rising { Rises (entries_of_items items.now) }
     requires low { low ≤ 504 }
@@ -131,7 +131,7 @@ fn build_branch<'a, C: CellWrite, U: Space>(
     usage: &mut U,
     first: Part<'a>,
     point: BranchPoint,
-) -> Result<Part<'a>, Full>
+) -> Result<Part<'a>, Shortage>
     requires first { (base : Account) × (es : List Entry) × BuiltTwig (C.has cells.old) base (U.account usage.old) point es first }
     requires point { first.next ≡ Some point }
     requires ready { Ready C.kept C.given U.account cells.old usage.old }

@@ -9,7 +9,7 @@ use super::mutable::make_mutable;
 use super::node_top::top_of;
 use chunk_cells::extents::extents_of;
 use chunk_cells::{CellRead, CellWrite, Extents};
-use chunk_usage::{Full, Path, Space};
+use chunk_usage::{Path, Shortage, Space};
 use packed_node::{Cell, Ref};
 use shift_key::Key;
 
@@ -31,7 +31,7 @@ pub const NO_ITEM: Extents = Extents {
 
 /// What is put at a place, in which cells, and in place of which.
 #[derive(Clone, Copy)]
-pub struct Change {
+pub struct CellChange {
     /// What the place's cell says then.
     pub cell: Cell,
     /// The cells that were taken for it, and written.
@@ -63,9 +63,9 @@ pub fn put_change<C: CellWrite, U: Space>(
     root: Ref,
     key: &Key,
     place: u16,
-    change: Change,
+    change: CellChange,
     path: Path,
-) -> Result<Ref, Full>
+) -> Result<Ref, Shortage>
     requires asks { PutAsked C.has U.account cells.old usage.old place key.now root change }
     requires ready { Ready C.kept C.given U.account cells.old usage.old }
     ensures put { IfOk result (λ new. (way : List Fork) (end u : Tree) → PutAsks C.has U.account cells.old usage.old place key.now root change way end u

@@ -9,10 +9,10 @@ use super::change::{Span, item_below, let_go, put_change};
 use super::descend::{Descent, last_descent};
 use super::has_key::root_with;
 use super::paths::Trace;
-use super::refusal::Unchanged;
+use super::refusal::NotDone;
 use super::remove_leaf::without_leaf;
 use chunk_cells::CellWrite;
-use chunk_usage::{Full, Path, Space};
+use chunk_usage::{Path, Shortage, Space};
 use packed_node::Ref;
 use shift_key::Key;
 use trie_read::Root;
@@ -25,7 +25,7 @@ fn drop_leaf<C: CellWrite, U: Space>(
     key: &Key,
     descent: Descent,
     path: Path,
-) -> Result<Ref, Full>
+) -> Result<Ref, Shortage>
     requires there { DropAsked C.has U.account cells.old usage.old root key.now descent }
     requires ready { Ready C.kept C.given U.account cells.old usage.old }
     ensures stands { IfOk result (λ new. (t : Tree) (version : List Entry) → DropAsks C.has U.account cells.old usage.old root key.now descent t version
@@ -52,7 +52,7 @@ fn delete_item<C: CellWrite, U: Space>(
     usage: &mut U,
     root: Ref,
     key: &Key,
-) -> Result<Root, Full>
+) -> Result<Root, Shortage>
     requires there { KeyIsThere C.has U.account cells.old usage.old root key.now }
     requires ready { Ready C.kept C.given U.account cells.old usage.old }
     ensures stands { IfOk result (λ new. (t : Tree) (version : List Entry) → HasKey C.has U.account cells.old usage.old root key.now t version
@@ -93,20 +93,20 @@ pub fn delete<C: CellWrite, U: Space>(
     usage: &mut U,
     root: Root,
     key: &Key,
-) -> Result<Root, Unchanged>
+) -> Result<Root, NotDone>
     requires stands { (version : List Entry) × HasTrie C.has U.account cells.old usage.old root version × EachTells Leads version }
     requires ready { Ready C.kept C.given U.account cells.old usage.old }
     ensures deleted { IfOk result (λ new. (version : List Entry) → HasTrie C.has U.account cells.old usage.old root version → EachTells Leads version
         → (next : List Entry) × Deleted key.now version next × HasTrie C.has U.account cells.new usage.new new next) }
     ensures absent { (version : List Entry) → HasTrie C.has U.account cells.old usage.old root version → EachTells Leads version
-        → (result ≡ Err Unchanged.Refused) ↔ ((x : Entry) → InList x version → x.key ≡ key.now → ⊥) }
+        → (result ≡ Err NotDone.Refused) ↔ ((x : Entry) → InList x version → x.key ≡ key.now → ⊥) }
     ensures refused { IfErr result (λ _. (version : List Entry) → HasTrie C.has U.account cells.old usage.old root version
         → HasTrie C.has U.account cells.new usage.new root version) }
     ensures unchanged { IfErr result (λ _. Same C.has U.account cells.old usage.old cells.new usage.new) }
     ensures outside { (q : ℕ) (c : Cell) → Beyond C.has U.account cells.old usage.old root q → C.has cells.old q c → C.has cells.new q c }
-    ensures denied { result ≡ Err Unchanged.Refused → usage.new ≡ usage.old }
-    ensures full { (f : _) → result ≡ Err (Unchanged.Full f) → U.lacks usage.new f }
-    ensures asked { (f : _) → result ≡ Err (Unchanged.Full f) → (branches : List ℕ)
+    ensures denied { result ≡ Err NotDone.Refused → usage.new ≡ usage.old }
+    ensures full { (f : _) → result ≡ Err (NotDone.Full f) → U.lacks usage.new f }
+    ensures asked { (f : _) → result ≡ Err (NotDone.Full f) → (branches : List ℕ)
         → BranchesOnPath C.has U.account cells.old usage.old root key.now branches → Contains (delete_asks branches) f.needed }
     ensures consumes { (n : ℕ) → TwigsOnPath C.has U.account cells.old usage.old root key.now n
         → (U.account usage.new).consumed ≤ (U.account usage.old).consumed + (1 + n) }
@@ -116,7 +116,7 @@ pub fn delete<C: CellWrite, U: Space>(
     ensures ready { Ready C.kept C.given U.account cells.new usage.new }
 {
     match root_with(cells, root, key) {
-        None => Err(Unchanged::Refused),
+        None => Err(NotDone::Refused),
         Some(at) => Ok(delete_item(cells, usage, at, key)?),
     }
 }

@@ -7,14 +7,14 @@ ghost use Rattle.trie_write.specs.Prelude.{TwigsOnPath, BranchesOnPath, ToCopy, 
 
 use super::add_leaf::with_leaf;
 use super::alloc::room_for;
-use super::change::{Change, put_change};
+use super::change::{CellChange, put_change};
 use super::descend::end_node;
 use super::laying::{lay_item, release_item};
 use super::nearest::compare;
 use super::paths::Trace;
-use super::refusal::Unchanged;
+use super::refusal::NotDone;
 use chunk_cells::CellWrite;
-use chunk_usage::{Full, Space};
+use chunk_usage::{Shortage, Space};
 use packed_node::{Node, Ref};
 use shift_key::{Difference, Key};
 use trie_read::Root;
@@ -24,7 +24,7 @@ fn insert_first<C: CellWrite, U: Space>(
     cells: &mut C,
     usage: &mut U,
     item: &[u8],
-) -> Result<Ref, Full>
+) -> Result<Ref, Shortage>
     requires some { 0 < length item.now }
     requires short { length item.now ≤ most_item_octets }
     requires uncounted { (k : ℕ) → (U.account usage.old).live k ≡ 0 }
@@ -58,7 +58,7 @@ fn new_leaf<C: CellWrite, U: Space>(
     first: Difference,
     item: &[u8],
     trace: &mut Trace,
-) -> Result<Change, Full>
+) -> Result<CellChange, Shortage>
     requires leads { Leads key.now item.now }
     requires missing { KeyIsMissing C.has U.account cells.old usage.old root key.now first }
     requires ready { Ready C.kept C.given U.account cells.old usage.old }
@@ -94,7 +94,7 @@ fn insert_further<C: CellWrite, U: Space>(
     key: &Key,
     first: Difference,
     item: &[u8],
-) -> Result<Ref, Full>
+) -> Result<Ref, Shortage>
     requires leads { Leads key.now item.now }
     requires missing { KeyIsMissing C.has U.account cells.old usage.old root key.now first }
     requires ready { Ready C.kept C.given U.account cells.old usage.old }
@@ -127,21 +127,21 @@ pub fn insert<C: CellWrite, U: Space>(
     root: Root,
     key: &Key,
     item: &[u8],
-) -> Result<Root, Unchanged>
+) -> Result<Root, NotDone>
     requires stands { (version : List Entry) × HasTrie C.has U.account cells.old usage.old root version × EachTells Leads version }
     requires leads { Leads key.now item.now }
     requires ready { Ready C.kept C.given U.account cells.old usage.old }
     ensures inserted { IfOk result (λ new. (version : List Entry) → HasTrie C.has U.account cells.old usage.old root version → EachTells Leads version
         → (next : List Entry) × Inserted (record { key = key.now; item = item.now }) version next × HasTrie C.has U.account cells.new usage.new new next) }
     ensures exists { (version : List Entry) → HasTrie C.has U.account cells.old usage.old root version → EachTells Leads version
-        → (result ≡ Err Unchanged.Refused) ↔ ((x : Entry) × InList x version × (x.key ≡ key.now)) }
+        → (result ≡ Err NotDone.Refused) ↔ ((x : Entry) × InList x version × (x.key ≡ key.now)) }
     ensures refused { IfErr result (λ _. (version : List Entry) → HasTrie C.has U.account cells.old usage.old root version
         → HasTrie C.has U.account cells.new usage.new root version) }
     ensures unchanged { IfErr result (λ _. Same C.has U.account cells.old usage.old cells.new usage.new) }
     ensures outside { (q : ℕ) (c : Cell) → Beyond C.has U.account cells.old usage.old root q → C.has cells.old q c → C.has cells.new q c }
-    ensures denied { result ≡ Err Unchanged.Refused → usage.new ≡ usage.old }
-    ensures full { (f : _) → result ≡ Err (Unchanged.Full f) → U.lacks usage.new f }
-    ensures asked { (f : _) → result ≡ Err (Unchanged.Full f) → (branches : List ℕ)
+    ensures denied { result ≡ Err NotDone.Refused → usage.new ≡ usage.old }
+    ensures full { (f : _) → result ≡ Err (NotDone.Full f) → U.lacks usage.new f }
+    ensures asked { (f : _) → result ≡ Err (NotDone.Full f) → (branches : List ℕ)
         → BranchesOnPath C.has U.account cells.old usage.old root key.now branches → Contains (insert_asks item.now branches) f.needed }
     ensures consumes { (n : ℕ) → TwigsOnPath C.has U.account cells.old usage.old root key.now n
         → (U.account usage.new).consumed ≤ (U.account usage.old).consumed + (3 + cells_in item.now + n) }
@@ -155,7 +155,7 @@ pub fn insert<C: CellWrite, U: Space>(
     };
     let node = cells.cell(at);
     match compare(cells, node, key) {
-        None => Err(Unchanged::Refused),
+        None => Err(NotDone::Refused),
         Some(first) => Ok(Some(insert_further(cells, usage, at, key, first, item)?)),
     }
 }

@@ -7,7 +7,7 @@ ghost use Rattle.trie_write.specs.Prelude.{extents_at, extents_in, HandedItem, e
 use super::alloc::room_for;
 use chunk_cells::extents::{LAST_OCTETS, LINKED_OCTETS, content_cells_for, linked_extent};
 use chunk_cells::{CellWrite, Extents, write_item};
-use chunk_usage::{Full, Space};
+use chunk_usage::{Shortage, Space};
 use packed_node::Ref;
 
 /// Writes an item into new cells.
@@ -15,7 +15,7 @@ pub fn lay_item<C: CellWrite, U: Space>(
     cells: &mut C,
     usage: &mut U,
     item: &[u8],
-) -> Result<Extents, Full>
+) -> Result<Extents, Shortage>
     requires some { 0 < length item.now }
     requires short { length item.now ≤ 65535 }
     requires ready { Ready C.kept C.given U.account cells.old usage.old }
@@ -42,7 +42,7 @@ fn room_for_extents<C: CellWrite, U: Space>(
     usage: &mut U,
     len: u16,
     out: &mut [Ref],
-) -> Result<(), Full>
+) -> Result<(), Shortage>
     requires some { 0 < len }
     requires enough { links len < length out.old }
     requires ready { Ready C.kept C.given U.account cells.old usage.old }

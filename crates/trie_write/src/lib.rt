@@ -26,6 +26,6 @@ pub use bulk::build;
 pub use deletion::delete;
 pub use insertion::insert;
 pub use item::{Item, ItemRefusal};
-pub use refusal::Unchanged;
+pub use refusal::NotDone;
 pub use replacement::replace;
 pub use size::{cells, cells_beyond};

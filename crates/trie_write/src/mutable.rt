@@ -8,7 +8,7 @@ ghost use Rattle.trie_write.specs.Prelude.{copied_along, WayAsks, WayAsked, IsCo
 use super::alloc::room_for;
 use super::descend::{Descent, next_descent};
 use chunk_cells::{CellRead, CellWrite};
-use chunk_usage::{Full, Space};
+use chunk_usage::{Shortage, Space};
 use packed_node::{Branch, Cell, Node, Ref};
 use shift_key::Key;
 use trie_space::copy_twigs;
@@ -97,7 +97,7 @@ fn copy_way<C: CellWrite, U: Space>(
     place: u16,
     low: u16,
     from: Spot,
-) -> Result<Copied, Full>
+) -> Result<Copied, Shortage>
     requires asks { WayAsked C.has U.account cells.old usage.old place low key.now from.node }
     requires ready { Ready C.kept C.given U.account cells.old usage.old }
     ensures copied { IfOk result (λ copied. (way : List Fork) (end : Tree) → WayAsks C.has U.account cells.old usage.old place low key.now from.node way end
@@ -171,7 +171,7 @@ fn open_below<C: CellWrite, U: Space>(
     key: &Key,
     place: u16,
     top: Spot,
-) -> Result<Slot, Full>
+) -> Result<Slot, Shortage>
     requires asks { SlotAsked C.has U.account cells.old usage.old place key.now top.at }
     requires node { (c : Cell) → C.has cells.old top.at c → top.node ≡ c }
     requires writable { IsWritable C.given U.account cells.old usage.old top.at }
@@ -202,7 +202,7 @@ fn open_anew<C: CellWrite, U: Space>(
     key: &Key,
     place: u16,
     top: Spot,
-) -> Result<Slot, Full>
+) -> Result<Slot, Shortage>
     requires asks { SlotAsked C.has U.account cells.old usage.old place key.now top.at }
     requires node { (c : Cell) → C.has cells.old top.at c → top.node ≡ c }
     requires immutable { (U.account usage.old).mutable top.at ≡ false }
@@ -244,7 +244,7 @@ pub fn make_mutable<C: CellWrite, U: Space>(
     root: Ref,
     key: &Key,
     place: u16,
-) -> Result<Slot, Full>
+) -> Result<Slot, Shortage>
     requires asks { SlotAsked C.has U.account cells.old usage.old place key.now root }
     requires ready { Ready C.kept C.given U.account cells.old usage.old }
     ensures slot { IfOk result (λ slot. (spare : _) (way : _) (end : _) → SlotAsks C.has U.account cells.old usage.old place key.now spare root way end

@@ -5,22 +5,22 @@ ghost use Rattle.trie_write.specs.Prelude.{Entry, Tree, leaf, LeafDescent, LeafT
 ghost use Rattle.trie_write.specs.Prelude.{IsNoItem, IsTaken, Ready, Frame, Refused, Fork, plug};
 
 use super::alloc::copy_apart;
-use super::change::{Change, NO_CELLS, NO_ITEM, Span, item_below};
+use super::change::{CellChange, NO_CELLS, NO_ITEM, Span, item_below};
 use super::descend::Descent;
 use chunk_cells::{CellWrite, Extents};
-use chunk_usage::{Full, Space};
+use chunk_usage::{Shortage, Space};
 use packed_node::{Branch, Cell, Node, bitmap};
 use shift_key::Key;
 
 /// The change to what is left of a branch, in these cells.
-fn leaf_gone(cell: Cell, new_twigs: Span, old_twigs: Span, old_item: Extents) -> Change
+fn leaf_gone(cell: Cell, new_twigs: Span, old_twigs: Span, old_item: Extents) -> CellChange
     ensures cell { result.cell ≡ cell }
     ensures new_twigs { result.new_twigs ≡ new_twigs }
     ensures new_item { IsNoItem result.new_item }
     ensures old_twigs { result.old_twigs ≡ old_twigs }
     ensures old_item { result.old_item ≡ old_item }
 {
-    Change {
+    CellChange {
         cell,
         new_twigs,
         new_item: NO_ITEM,
@@ -35,7 +35,7 @@ pub fn without_leaf<C: CellWrite, U: Space>(
     usage: &mut U,
     key: &Key,
     descent: Descent,
-) -> Result<Change, Full>
+) -> Result<CellChange, Shortage>
     requires last { LeafTurned C.has U.account cells.old usage.old key.now descent }
     requires ready { Ready C.kept C.given U.account cells.old usage.old }
     ensures without { IfOk result (λ change. (lower : List Fork) (e : Entry) (x : _)

@@ -5,14 +5,14 @@ ghost use Rattle.trie_write.specs.Prelude.{Cell, Leads, AreExtents, cells_in, ex
 ghost use Rattle.trie_write.specs.Prelude.{HasKey, KeyIsThere, Exchanged, branches_on_path, replace_asks, to_copy, Makes, IsTaken};
 ghost use Rattle.trie_write.specs.Prelude.{TwigsOnPath, BranchesOnPath, ToCopy, IsOutside, Beyond, Ready, Frame, Fenced, Same, Refused, HasTrie};
 
-use super::change::{Change, NO_CELLS, item_below, put_change};
+use super::change::{CellChange, NO_CELLS, item_below, put_change};
 use super::descend::end_node;
 use super::has_key::root_with;
 use super::laying::lay_item;
 use super::paths::Trace;
-use super::refusal::Unchanged;
+use super::refusal::NotDone;
 use chunk_cells::CellWrite;
-use chunk_usage::{Full, Space};
+use chunk_usage::{Shortage, Space};
 use packed_node::{Node, Ref};
 use shift_key::Key;
 use trie_read::Root;
@@ -25,7 +25,7 @@ fn other_leaf<C: CellWrite, U: Space>(
     key: &Key,
     item: &[u8],
     trace: &mut Trace,
-) -> Result<Change, Full>
+) -> Result<CellChange, Shortage>
     requires leads { Leads key.now item.now }
     requires there { KeyIsThere C.has U.account cells.old usage.old root key.now }
     requires ready { Ready C.kept C.given U.account cells.old usage.old }
@@ -43,7 +43,7 @@ fn other_leaf<C: CellWrite, U: Space>(
     let old = end_node(cells, key, u16::MAX, 0, node, trace);
     let old_item = item_below(cells, old);
     let new_item = lay_item(cells, usage, item)?;
-    Ok(Change {
+    Ok(CellChange {
         cell: Node::Leaf(new_item.leaf()).pack(),
         new_twigs: NO_CELLS,
         new_item,
@@ -59,7 +59,7 @@ fn replace_item<C: CellWrite, U: Space>(
     root: Ref,
     key: &Key,
     item: &[u8],
-) -> Result<Ref, Full>
+) -> Result<Ref, Shortage>
     requires leads { Leads key.now item.now }
     requires there { KeyIsThere C.has U.account cells.old usage.old root key.now }
     requires ready { Ready C.kept C.given U.account cells.old usage.old }
@@ -90,21 +90,21 @@ pub fn replace<C: CellWrite, U: Space>(
     root: Root,
     key: &Key,
     item: &[u8],
-) -> Result<Root, Unchanged>
+) -> Result<Root, NotDone>
     requires stands { (version : List Entry) × HasTrie C.has U.account cells.old usage.old root version × EachTells Leads version }
     requires leads { Leads key.now item.now }
     requires ready { Ready C.kept C.given U.account cells.old usage.old }
     ensures replaced { IfOk result (λ new. (version : List Entry) → HasTrie C.has U.account cells.old usage.old root version → EachTells Leads version
         → (next : List Entry) × Exchanged (record { key = key.now; item = item.now }) version next × HasTrie C.has U.account cells.new usage.new new next) }
     ensures absent { (version : List Entry) → HasTrie C.has U.account cells.old usage.old root version → EachTells Leads version
-        → (result ≡ Err Unchanged.Refused) ↔ ((x : Entry) → InList x version → x.key ≡ key.now → ⊥) }
+        → (result ≡ Err NotDone.Refused) ↔ ((x : Entry) → InList x version → x.key ≡ key.now → ⊥) }
     ensures refused { IfErr result (λ _. (version : List Entry) → HasTrie C.has U.account cells.old usage.old root version
         → HasTrie C.has U.account cells.new usage.new root version) }
     ensures unchanged { IfErr result (λ _. Same C.has U.account cells.old usage.old cells.new usage.new) }
     ensures outside { (q : ℕ) (c : Cell) → Beyond C.has U.account cells.old usage.old root q → C.has cells.old q c → C.has cells.new q c }
-    ensures denied { result ≡ Err Unchanged.Refused → usage.new ≡ usage.old }
-    ensures full { (f : _) → result ≡ Err (Unchanged.Full f) → U.lacks usage.new f }
-    ensures asked { (f : _) → result ≡ Err (Unchanged.Full f) → (branches : List ℕ)
+    ensures denied { result ≡ Err NotDone.Refused → usage.new ≡ usage.old }
+    ensures full { (f : _) → result ≡ Err (NotDone.Full f) → U.lacks usage.new f }
+    ensures asked { (f : _) → result ≡ Err (NotDone.Full f) → (branches : List ℕ)
         → BranchesOnPath C.has U.account cells.old usage.old root key.now branches → Contains (replace_asks item.now branches) f.needed }
     ensures consumes { (n : ℕ) → TwigsOnPath C.has U.account cells.old usage.old root key.now n
         → (U.account usage.new).consumed ≤ (U.account usage.old).consumed + (3 + cells_in item.now + n) }
@@ -114,7 +114,7 @@ pub fn replace<C: CellWrite, U: Space>(
     ensures ready { Ready C.kept C.given U.account cells.new usage.new }
 {
     match root_with(cells, root, key) {
-        None => Err(Unchanged::Refused),
+        None => Err(NotDone::Refused),
         Some(at) => Ok(Some(replace_item(cells, usage, at, key, item)?)),
     }
 }

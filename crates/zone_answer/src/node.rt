@@ -40,6 +40,7 @@ fn existing<V: Reading>(
 /// What answers for a name that owns nothing, whose key has its positions before a place in common with the nearest name's: no records where names under it
 /// are there, else those of the wildcard under the last name above it that is read by then; `None` where there is no such wildcard. The walker has the
 /// name's key.
+#[inline(always)]
 pub fn absent_node<V: Reading>(
     version: &mut V,
     walker: &mut Walker,

@@ -11,7 +11,7 @@ use Rattle.trie_model.specs.Keys.{InList}
 use Rattle.zone_answer.specs.Standing.{IsVersion, trie_entry}
 use Rattle.job_model.specs.Sizes.{cell_count, cells_asked, item_cells, trie_entries}
 use Rattle.qp_multi.specs.declared.desk.Draft.{Draft}
-use Rattle.qp_multi.specs.declared.refusal.Full.{Full}
+use Rattle.qp_multi.specs.declared.refusal.OutOfSpace.{OutOfSpace}
 use Rattle.qp_multi.specs.declared.meaning.Operation.{Operation}
 use Rattle.qp_multi.specs.declared.meaning.Operation.TheVariants as operation
 use Rattle.qp_multi.specs.Operations.{operated, applied, with_entry, without}
@@ -191,7 +191,7 @@ crowded_by e key written kept asked version on within c most small some bounds =
     omega (arith, bound, less)
 
 -- of kept versions there are no more than passes and one
-few_kept : (d : Draft) (f : Full) → IsFull d f → length (versions_in f.kept) ≤ d.seat.passes + 1
+few_kept : (d : Draft) (f : OutOfSpace) → IsFull d f → length (versions_in f.kept) ≤ d.seat.passes + 1
 few_kept d f full =
     let same = ap length full.kept in
     let numbers = length-map d.usage.rows (λ (r : Row). r.version) in
@@ -228,7 +228,7 @@ module _ (o : Operation) (denied : List trie.Entry → Type 0) (A B : Type 0) (n
   abbrev Cramped : Draft → Draft → Type 0
   Cramped d e = Operates o denied d e A B × IsCramped e
 
-  abbrev Filled : Full → List ℕ → ℕ → Draft → Draft → Type 0
+  abbrev Filled : OutOfSpace → List ℕ → ℕ → Draft → Draft → Type 0
   Filled f key written d e = Operates o denied d e A B × IsFull e f × IsCramped e × IsCrowded e key written (length (versions_in f.kept))
 
   pub stored : A → ((version : Version) (d e : Draft) → Operates o denied d e A B → WorksOn d version → before ≡ owned name version → WorksOn e (put name entry version)) → Called → Edits 1 (Stores name before entry (Ok tt)) old new
@@ -241,11 +241,11 @@ module _ (o : Operation) (denied : List trie.Entry → Type 0) (A B : Type 0) (n
   }) call
 
   -- there was no room
-  pub no_room : (f : Full) (key : List ℕ) (written : ℕ) (asks : List ℕ → List ℕ) → (A → ⊥) → ((version : Version) → IsVersion version → before ≡ owned name version → put name entry version ≡ version → ⊥)
+  pub no_room : (f : OutOfSpace) (key : List ℕ) (written : ℕ) (asks : List ℕ → List ℕ) → (A → ⊥) → ((version : Version) → IsVersion version → before ≡ owned name version → put name entry version ≡ version → ⊥)
       → ((version : Version) → IsVersion version → written ≤ 3 + item_cells name (put name entry version)) → Called → IsSomeAnd new (λ d. IsFull d f)
-      → Between (λ d e. CausedFrom d e key written asks f) old new → Between SparesReserve old new → IsSomeAnd old IsCramped → IsSomeAnd new (λ d. IsCrowded d key written (length (versions_in f.kept))) → Edits 0 (Stores name before entry (Err f.request)) old new
+      → Between (λ d e. CausedFrom d e key written asks f) old new → Between SparesReserve old new → IsSomeAnd old IsCramped → IsSomeAnd new (λ d. IsCrowded d key written (length (versions_in f.kept))) → Edits 0 (Stores name before entry (Err f.shortage)) old new
   no_room f key written asks undone changes within call full cause spares cramped crowded =
-      between_both (λ d e. CausedFrom d e key written asks f) (Filled f key written) (EditsOne 0 (Stores name before entry (Err f.request))) old new
+      between_both (λ d e. CausedFrom d e key written asks f) (Filled f key written) (EditsOne 0 (Stores name before entry (Err f.shortage))) old new
       (λ d e cause both. record {
         known = both.0.known;
         passes = both.0.passes;

@@ -21,4 +21,4 @@ pub executed : (origin : Name) (asked : Transaction) (result : Result (Unit {0})
 executed origin asked (Ok u) version new met a = (a.0, whole_met origin asked version met ∙ a.1, a.2)
 executed origin asked (Err refusals.Memory) version new met a = (met, a)
 executed origin asked (Err (refusals.Refused refusal)) version new met a = whole_met origin asked version met ∙ a
-executed origin asked (Err (refusals.Full operation request)) version new met a = (met, a)
+executed origin asked (Err (refusals.Full operation shortage)) version new met a = (met, a)

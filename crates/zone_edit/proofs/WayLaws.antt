@@ -7,7 +7,7 @@ use Rattle.zone_model.specs.Names.{Name}
 use Rattle.zone_model.specs.Versions.{Version, Operation, all_applied}
 use Rattle.trie_model.specs.Keys as trie
 use Rattle.shared_cells.specs.History.{StartsWith}
-use Rattle.chunk_usage.specs.declared.space.Full.{Full}
+use Rattle.chunk_usage.specs.declared.space.Shortage.{Shortage}
 use Rattle.qp_multi.specs.declared.meaning.Operation.{Operation as Done}
 use Rattle.qp_multi.specs.declared.desk.Draft.{Draft}
 use Rattle.qp_multi.specs.Operations.{applied}
@@ -134,7 +134,7 @@ still_in_order origin done all A B C a b c more h = between_then (EditsInOrder o
 })
 
 -- those in front of one were done, and that one is refused
-pub refused_in_order : (origin : Name) (front back all : List Operation) (one : Operation) (number : ℕ) (refusal : EditRefusal) (a b c : Option Draft) → all ≡ front ++ one ∷ back → number ≡ length front + 1 → ((at : ℕ) (request : Full) → refusal ≡ refusals.Full at request → at ≡ number)
+pub refused_in_order : (origin : Name) (front back all : List Operation) (one : Operation) (number : ℕ) (refusal : EditRefusal) (a b c : Option Draft) → all ≡ front ++ one ∷ back → number ≡ length front + 1 → ((at : ℕ) (shortage : Shortage) → refusal ≡ refusals.Full at shortage → at ≡ number)
     → EditedInOrder origin front (Ok tt) a b → EditedOnce origin one (Err refusal) b c → EditedInOrder origin all (Err refusal) a c
 refused_in_order origin front back all one number refusals.Memory a b c is place told =
     still_in_order origin front all (AppliesAll origin front (Ok tt)) (Applies origin one (Err refusals.Memory)) (AppliesAll origin all (Err refusals.Memory)) a b c (one ∷ back, is)
@@ -142,9 +142,9 @@ refused_in_order origin front back all one number refusals.Memory a b c is place
 refused_in_order origin front back all one number (refusals.Refused refusal) a b c is place told =
     still_in_order origin front all (AppliesAll origin front (Ok tt)) (Applies origin one (Err (refusals.Refused refusal))) (AppliesAll origin all (Err (refusals.Refused refusal))) a b c (one ∷ back, is)
     (λ version e f x. (x.0, x.2, λ step. ap (λ (l : List Operation). all_applied origin l version) is ∙ refused_applied origin front back one version x.0 refusal x.1 step))
-refused_in_order origin front back all one number (refusals.Full at request) a b c is place told =
-    let here = told at request refl ∙ place in
-    still_in_order origin front (take (at - 1) all) (AppliesAll origin front (Ok tt)) (Applies origin one (Err (refusals.Full at request))) (AppliesAll origin all (Err (refusals.Full at request))) a b c
+refused_in_order origin front back all one number (refusals.Full at shortage) a b c is place told =
+    let here = told at shortage refl ∙ place in
+    still_in_order origin front (take (at - 1) all) (AppliesAll origin front (Ok tt)) (Applies origin one (Err (refusals.Full at shortage))) (AppliesAll origin all (Err (refusals.Full at shortage))) a b c
     ([], taken front one back all at is here ∙ sym (append-nil front))
     (λ version e f x. (
       x.0,

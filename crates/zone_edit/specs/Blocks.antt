@@ -7,7 +7,7 @@ use Rattle.job_model.specs.Sizes.{cells_asked}
 use Rattle.qp_multi.specs.declared.desk.Draft.{Draft}
 use Rattle.qp_multi.specs.Operations.{applied}
 use Rattle.qp_multi.specs.Drafts.{Between, base_of}
-use Rattle.chunk_usage.specs.declared.space.Full.{Full}
+use Rattle.chunk_usage.specs.declared.space.Shortage.{Shortage}
 use Rattle.chunk_usage.specs.Handing.{Lacks}
 use Rattle.chunk_usage.specs.Keeping.{kept_versions}
 use Rattle.zone_edit.specs.Ways.{MadeOnTheWay}
@@ -21,11 +21,11 @@ abbrev pub Applies : Name → Operation → Result (Unit {0}) EditRefusal → Ve
 Applies origin operation (Ok u) version new = (next : Version) × (apply origin operation version ≡ Ok next) × WorksOn new next
 Applies origin operation (Err refusals.Memory) version new = (next : Version) × (apply origin operation version ≡ Ok next) × WorksOn new version
 Applies origin operation (Err (refusals.Refused refusal)) version new = apply origin operation version ≡ Err refusal
-Applies origin operation (Err (refusals.Full number request)) version new =
-    (next : Version) × (apply origin operation version ≡ Ok next) × (next ≡ version → ⊥) × IsFullOn new version (cells_asked (owner_of operation) version next) (kept_versions new.usage) × Lacks new.usage request
+Applies origin operation (Err (refusals.Full number shortage)) version new =
+    (next : Version) × (apply origin operation version ≡ Ok next) × (next ≡ version → ⊥) × IsFullOn new version (cells_asked (owner_of operation) version next) (kept_versions new.usage) × Lacks new.usage shortage
 
 -- There is no room for an operation that is accepted and changes what the ones before it made: the index refuses this request.
-pub record IsFullAt (new : Draft) (origin : Name) (operations : List Operation) (version : Version) (operation : ℕ) (request : Full) (kept : List ℕ) : Type 0 where
+pub record IsFullAt (new : Draft) (origin : Name) (operations : List Operation) (version : Version) (operation : ℕ) (shortage : Shortage) (kept : List ℕ) : Type 0 where
   pub front : List Operation
   pub refused : Operation
   pub back : List Operation
@@ -37,7 +37,7 @@ pub record IsFullAt (new : Draft) (origin : Name) (operations : List Operation) 
   pub accepted : apply origin refused working ≡ Ok next
   pub changes : next ≡ working → ⊥
   pub full : IsFullOn new working (cells_asked (owner_of refused) working next) kept
-  pub lacks : Lacks new.usage request
+  pub lacks : Lacks new.usage shortage
 
 -- Memory was wanting for an operation that is accepted, and the working set is what the ones before it made.
 pub record IsWanting (new : Draft) (origin : Name) (operations : List Operation) (version : Version) : Type 0 where
@@ -56,14 +56,14 @@ abbrev pub AppliesAll : Name → List Operation → Result (Unit {0}) EditRefusa
 AppliesAll origin operations (Ok u) version new = (next : Version) × (all_applied origin operations version ≡ Ok next) × WorksOn new next
 AppliesAll origin operations (Err refusals.Memory) version new = IsWanting new origin operations version
 AppliesAll origin operations (Err (refusals.Refused refusal)) version new = all_applied origin operations version ≡ Err refusal
-AppliesAll origin operations (Err (refusals.Full operation request)) version new = IsFullAt new origin operations version operation request (kept_versions new.usage)
+AppliesAll origin operations (Err (refusals.Full operation shortage)) version new = IsFullAt new origin operations version operation shortage (kept_versions new.usage)
 
 -- The operations that are done at most: all, and where there is no room for one, those in front of it.
 abbrev pub done_of : List Operation → Result (Unit {0}) EditRefusal → List Operation
 done_of operations (Ok u) = operations
 done_of operations (Err refusals.Memory) = operations
 done_of operations (Err (refusals.Refused refusal)) = operations
-done_of operations (Err (refusals.Full operation request)) = take (operation - 1) operations
+done_of operations (Err (refusals.Full operation shortage)) = take (operation - 1) operations
 
 -- A draft became another one by operations in order. The index has done no more than these, since an operation that changes nothing
 -- isn't written; and whatever it had made when it had done some of them, some first ones of these make too.
@@ -90,8 +90,8 @@ abbrev pub Executes : Name → Transaction → Result (Unit {0}) EditRefusal →
 Executes origin asked (Ok u) version new = (next : Version) × (whole origin asked version ≡ Ok next) × WorksOn new next
 Executes origin asked (Err refusals.Memory) version new = (all_met version asked.needs ≡ true) × IsWanting new origin asked.operations version
 Executes origin asked (Err (refusals.Refused refusal)) version new = whole origin asked version ≡ Err refusal
-Executes origin asked (Err (refusals.Full operation request)) version new =
-    (all_met version asked.needs ≡ true) × IsFullAt new origin asked.operations version operation request (kept_versions new.usage)
+Executes origin asked (Err (refusals.Full operation shortage)) version new =
+    (all_met version asked.needs ≡ true) × IsFullAt new origin asked.operations version operation shortage (kept_versions new.usage)
 
 -- so did it by a transaction
 abbrev pub Edited : Name → Transaction → Result (Unit {0}) EditRefusal → Option Draft → Option Draft → Type 0

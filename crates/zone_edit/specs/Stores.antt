@@ -5,7 +5,7 @@ use Rattle.zone_model.specs.Records.{Entry}
 use Rattle.zone_model.specs.Versions.{Version, owned, put}
 use Rattle.chunk_usage.specs.Ledger.{reserve_of}
 use Rattle.chunk_usage.specs.Keeping.{kept_versions}
-use Rattle.chunk_usage.specs.declared.space.Full.{Full}
+use Rattle.chunk_usage.specs.declared.space.Shortage.{Shortage}
 use Rattle.chunk_usage.specs.Handing.{Lacks}
 use Rattle.zone_answer.specs.Parts.{IsRead}
 use Rattle.zone_answer.specs.Standing.{IsVersion}
@@ -84,10 +84,10 @@ pub record IsFullOn (d : Draft) (version : Version) (asked : ℕ) (kept : List �
 
 -- An entry was put under a name that owned this one; or there was no room for it while what is kept is kept, since the index refuses this request, though it
 -- would have changed the version, and the working set is as before.
-abbrev pub Stored : Name → Entry → Result (Unit {0}) Full → Version → Draft → Type 0
+abbrev pub Stored : Name → Entry → Result (Unit {0}) Shortage → Version → Draft → Type 0
 Stored name entry (Ok u) version new = WorksOn new (put name entry version)
-Stored name entry (Err request) version new =
-    WorksOn new version × IsFullOn new version (cells_asked name version (put name entry version)) (kept_versions new.usage) × (put name entry version ≡ version → ⊥) × Lacks new.usage request
+Stored name entry (Err shortage) version new =
+    WorksOn new version × IsFullOn new version (cells_asked name version (put name entry version)) (kept_versions new.usage) × (put name entry version ≡ version → ⊥) × Lacks new.usage shortage
 
-abbrev pub Stores : Name → Entry → Entry → Result (Unit {0}) Full → Version → Draft → Type 0
+abbrev pub Stores : Name → Entry → Entry → Result (Unit {0}) Shortage → Version → Draft → Type 0
 Stores name before entry result version new = before ≡ owned name version → Stored name entry result version new

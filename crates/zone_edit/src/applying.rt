@@ -1,20 +1,136 @@
-//! Operations on a transaction's working set.
+//! A transaction's changes: its prerequisites, then its operations in order, each tested and then stored.
 
-ghost use Rattle.std.specs.Prelude.{◌≡◌, ◌≤◌, length, IfOk, IsSomeAnd, Err, map};
-ghost use Rattle.zone_edit.specs.Prelude.{Records, item_limit, SaysEntry, operation_view, candidate, Between};
-ghost use Rattle.zone_edit.specs.Prelude.{IsSame, IsOfTheSame, WorksOnSome, EditedOnce, EditedInOrder};
+ghost use Rattle.std.specs.Prelude.{◌≡◌, ◌<◌, ◌≤◌, [], length, IfOk, IsSomeAnd, Err, map};
+ghost use Rattle.zone_edit.specs.Prelude.{Records, key_of, item, item_limit, IsItem, SaysEntry, operation_view, prerequisite_view};
+ghost use Rattle.zone_edit.specs.Prelude.{candidate, Between, Edits, IsSame, IsOfTheSame, Owns, Stores, done_by, WorksOnSome};
+ghost use Rattle.zone_edit.specs.Prelude.{Edited, EditedOnce, EditedInOrder};
 
 use crate::buffers::ItemBuffers;
+use crate::prerequisites::meets_all;
 use crate::reading::read_owned;
 use crate::refusal::EditRefusal;
-use crate::storing::store;
+use chunk_usage::Shortage;
 use dns_name::Name;
-use qp_multi::{Law, Named, Transaction};
+use qp_multi::{ChangeRefusal, InsertRefusal, Law, Named, Transaction};
 use rr_data::Entry;
 use shift_key::Key;
 use std::alloc::{AllocError, Global};
 use zone_answer::entry_of;
-use zone_change::{Operation, changed, refusal};
+use zone_change::{Operation, Prerequisite, changed, refusal};
+use zone_model::Refusal;
+
+/// A name that owns something loses it.
+fn take_out<L: Law, N: Named, K>(
+    transaction: &mut Transaction<'_, '_, L, N, K>,
+    name: &Name,
+    key: &Key,
+    before: &Entry,
+) -> Result<(), Shortage>
+    requires key { key.now ≡ key_of name.now }
+    requires owns { IsSomeAnd transaction.old.locked.now.draft (Owns name.now before.now) }
+    requires some { 0 < length before.now }
+    ensures same_reference { IsOfTheSame transaction.old transaction.new }
+    ensures place { transaction.new.locked.now.place ≡ transaction.old.locked.now.place }
+    ensures stores { Edits (done_by result) (Stores name.now before.now [] result) transaction.old.locked.now.draft transaction.new.locked.now.draft }
+{
+    let _wire = name.wire(); // for the proof
+    match transaction.delete(key) {
+        Ok(()) => Ok(()),
+        // The name owns something, so it is there.
+        Err(ChangeRefusal::NotFound) => unreachable!(),
+        Err(ChangeRefusal::Full(full)) => Err(full.shortage),
+    }
+}
+
+/// A name that owns nothing gets an entry, of which this is the item.
+fn put_in<L: Law, N: Named, K>(
+    transaction: &mut Transaction<'_, '_, L, N, K>,
+    name: &Name,
+    key: &Key,
+    entry: &Entry,
+    item: &[u8],
+) -> Result<(), Shortage>
+    requires key { key.now ≡ key_of name.now }
+    requires owns { IsSomeAnd transaction.old.locked.now.draft (Owns name.now []) }
+    requires item { IsItem item.now name.now entry.now }
+    ensures same_reference { IsOfTheSame transaction.old transaction.new }
+    ensures place { transaction.new.locked.now.place ≡ transaction.old.locked.now.place }
+    ensures stores { Edits (done_by result) (Stores name.now [] entry.now result) transaction.old.locked.now.draft transaction.new.locked.now.draft }
+{
+    let _wire = name.wire(); // for the proof
+    match transaction.insert(key, item) {
+        Ok(()) => Ok(()),
+        // The name owns nothing, so it isn't there.
+        Err(InsertRefusal::Exists) => unreachable!(),
+        Err(InsertRefusal::Full(full)) => Err(full.shortage),
+    }
+}
+
+/// A name that owns something gets another entry, of which this is the item.
+fn exchange<L: Law, N: Named, K>(
+    transaction: &mut Transaction<'_, '_, L, N, K>,
+    name: &Name,
+    key: &Key,
+    before: &Entry,
+    entry: &Entry,
+    item: &[u8],
+) -> Result<(), Shortage>
+    requires key { key.now ≡ key_of name.now }
+    requires owns { IsSomeAnd transaction.old.locked.now.draft (Owns name.now before.now) }
+    requires some { 0 < length before.now }
+    requires item { IsItem item.now name.now entry.now }
+    requires other { entry.now ≡ before.now → ⊥ }
+    ensures same_reference { IsOfTheSame transaction.old transaction.new }
+    ensures place { transaction.new.locked.now.place ≡ transaction.old.locked.now.place }
+    ensures stores { Edits (done_by result) (Stores name.now before.now entry.now result) transaction.old.locked.now.draft transaction.new.locked.now.draft }
+{
+    let _wire = name.wire(); // for the proof
+    match transaction.replace(key, item) {
+        Ok(()) => Ok(()),
+        // The name owns something, so it is there.
+        Err(ChangeRefusal::NotFound) => unreachable!(),
+        Err(ChangeRefusal::Full(full)) => Err(full.shortage),
+    }
+}
+
+/// Puts an entry under a name, where octets say what it owned before; one that owns nothing isn't in the version. What is as it was
+/// isn't written. The entry's item is laid down in a buffer.
+fn store<L: Law, N: Named, K>(
+    transaction: &mut Transaction<'_, '_, L, N, K>,
+    name: &Name,
+    key: &Key,
+    octets: &[u8],
+    before: &Entry,
+    entry: &Entry,
+    out: &mut [u8],
+) -> Result<(), Shortage>
+    requires key { key.now ≡ key_of name.now }
+    requires says { SaysEntry name.now octets.now before.now }
+    requires owns { IsSomeAnd transaction.old.locked.now.draft (Owns name.now before.now) }
+    requires short { 0 < length entry.now → length (item name.now entry.now) ≤ item_limit }
+    requires room { item_limit ≤ length out.old }
+    ensures same_reference { IsOfTheSame transaction.old transaction.new }
+    ensures place { transaction.new.locked.now.place ≡ transaction.old.locked.now.place }
+    ensures stores { Edits (done_by result) (Stores name.now before.now entry.now result) transaction.old.locked.now.draft transaction.new.locked.now.draft }
+{
+    if entry.is_empty() {
+        if before.is_empty() {
+            return Ok(());
+        }
+        return take_out(transaction, name, key, before);
+    }
+    let Some(len) = entry.encode(name, out) else {
+        // Changes that leave a longer item were refused.
+        unreachable!();
+    };
+    if before.is_empty() {
+        return put_in(transaction, name, key, entry, &out[..len]);
+    }
+    if &out[..len] == octets {
+        return Ok(());
+    }
+    exchange(transaction, name, key, before, entry, &out[..len])
+}
 
 // The entry that octets say, and what an operation makes of it.
 fn both_entries(
@@ -48,7 +164,7 @@ fn apply<L: Law, N: Named, K>(
     ensures same_reference { IsOfTheSame transaction.old transaction.new }
     ensures place { transaction.new.locked.now.place ≡ transaction.old.locked.now.place }
     ensures applies { EditedOnce origin.now (operation_view operation.now) result transaction.old.locked.now.draft transaction.new.locked.now.draft }
-    ensures number { (at : _) (request : _) → result ≡ Err (EditRefusal.Full at request) → at ≡ number }
+    ensures number { (at : _) (shortage : _) → result ≡ Err (EditRefusal.Full at shortage) → at ≡ number }
     // Memory is wanted for entries alone, before anything is tried.
     ensures untried { result ≡ Err EditRefusal.Memory → Between IsSame transaction.old.locked.now.draft transaction.new.locked.now.draft }
 {
@@ -72,15 +188,15 @@ fn apply<L: Law, N: Named, K>(
         item_after,
     ) {
         Ok(()) => Ok(()),
-        Err(request) => Err(EditRefusal::Full {
+        Err(shortage) => Err(EditRefusal::Full {
             operation: number,
-            request,
+            shortage,
         }),
     }
 }
 
 /// Makes the changes of operations in the working set, in order, up to the first that is refused, by way of buffers for items.
-pub(crate) fn apply_all<L: Law, N: Named, K>(
+fn apply_all<L: Law, N: Named, K>(
     alloc: Global,
     origin: &Name,
     transaction: &mut Transaction<'_, '_, L, N, K>,
@@ -100,4 +216,26 @@ pub(crate) fn apply_all<L: Law, N: Named, K>(
         }
     }
     Ok(())
+}
+
+/// Makes a transaction's changes in the working set: none where that doesn't meet the prerequisites, and else those of the operations
+/// in order, up to the first that is refused, by way of buffers for items.
+pub fn execute<L: Law, N: Named, K>(
+    alloc: Global,
+    origin: &Name,
+    transaction: &mut Transaction<'_, '_, L, N, K>,
+    prerequisites: &[Prerequisite],
+    operations: &[Operation],
+    buffers: &mut ItemBuffers,
+) -> Result<(), EditRefusal>
+    requires { IsSomeAnd transaction.old.locked.now.draft WorksOnSome }
+    ensures same_reference { IsOfTheSame transaction.old transaction.new }
+    ensures place { transaction.new.locked.now.place ≡ transaction.old.locked.now.place }
+    ensures executes { Edited origin.now (record { needs = map prerequisite_view prerequisites.now; operations = map operation_view operations.now }) result
+        transaction.old.locked.now.draft transaction.new.locked.now.draft }
+{
+    if !meets_all(transaction, prerequisites, &mut buffers.before) {
+        return Err(EditRefusal::Refused(Refusal::Prereq));
+    }
+    apply_all(alloc, origin, transaction, operations, buffers)
 }

@@ -3,12 +3,10 @@
 
 mod applying;
 mod buffers;
-mod executing;
 mod prerequisites;
 mod reading;
 mod refusal;
-mod storing;
 
+pub use applying::execute;
 pub use buffers::ItemBuffers;
-pub use executing::execute;
 pub use refusal::EditRefusal;

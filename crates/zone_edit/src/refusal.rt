@@ -1,5 +1,6 @@
 //! Why changes of a working set aren't made.
 
+use chunk_usage::Shortage;
 use thiserror::Error;
 use zone_model::Refusal;
 
@@ -11,10 +12,7 @@ pub enum EditRefusal {
     Refused(Refusal),
     /// No room for an operation, by its number from 1: the index refuses a request, while what the transaction's `kept` tells is kept.
     #[error("no room for operation {operation}")]
-    Full {
-        operation: u64,
-        request: chunk_usage::Full,
-    },
+    Full { operation: u64, shortage: Shortage },
     /// Want of memory for an operation that no rule refuses.
     #[error("out of memory")]
     Memory,

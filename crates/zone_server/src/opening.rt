@@ -89,8 +89,8 @@ pub trait Service {
     // It serves these zones.
     ghost serves: { Self → List Served → Type 0 } = { λ service zones. Unit {0} };
 
-    /// Serves, with all passes that there are, which have seen version 0 of the table and of each zone. What it leaves of the server
-    /// ends when it returns.
+    /// Serves, by the passes that the server was opened for. No clause says how many they are, or that none has seen more than
+    /// version 0. What it leaves of the server ends when it returns.
     fn run<H: Home + Send + Sync>(
         self,
         server: &Server<H>,

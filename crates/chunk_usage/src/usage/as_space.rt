@@ -1,7 +1,7 @@
 //! A usage as what hands out cells.
 
 use super::Usage;
-use crate::space::{Full, Grant, Space};
+use crate::space::{Grant, Shortage, Space};
 use chunk_hints::Path;
 use packed_node::Ref;
 
@@ -13,7 +13,7 @@ impl Space for Usage {
 
     ghost lacks = { Lacks };
 
-    fn alloc(&mut self, n: u32) -> Result<Grant, Full> {
+    fn alloc(&mut self, n: u32) -> Result<Grant, Shortage> {
         self.known(); // for the proof
         Usage::alloc(self, n)
     }

@@ -1,47 +1,53 @@
 //! Cells that are handed out, and released.
 
 ghost use Rattle.std.specs.Prelude.{◌≡◌, ◌<◌, ◌≤◌, ◌-◌, ◌+◌, ◌*◌, ◌/◌, ◌%◌, ◌↔◌, ◌&&◌, ℕ, false, true, nat_le, IfSome, None, Some, IsErr, slice_index, slice_index_or};
-ghost use Rattle.chunk_usage.specs.Prelude.{free_count, filled, is_bump, is_used, is_mutable, is_unmixed, IsShort, all_released};
+ghost use Rattle.chunk_usage.specs.Prelude.{free_count, reserve_of, filled, is_bump, is_used, is_mutable, is_unmixed, IsShort, all_released};
 ghost use Rattle.chunk_usage.specs.Prelude.{allocated, grant_of, lowest_free, next_cell, released, roomy, shortage, taken, with_bump};
-ghost use Rattle.chunk_usage.specs.Prelude.{IsSpent, new_grant, newly_taken, reserve_allocated, reserve_grant_of, closed, Grows};
+ghost use Rattle.chunk_usage.specs.Prelude.{new_grant, newly_taken, closed, Grows};
 
 use super::Usage;
 use crate::bump::{Bump, chunk_of};
-use crate::space::{Full, Grant};
+use crate::space::{Grant, Shortage};
 use packed_node::{CHUNK_CELLS, Ref};
 
 impl Usage {
-    /// Hands out n cells: of the bump chunk where it has n left, else of the lowest free chunk, which becomes the bump chunk.
-    pub fn alloc(&mut self, n: u32) -> Result<Grant, Full>
+    /// Hands out n cells: of the bump chunk where it has n left, else of the lowest free chunk, which becomes the bump chunk. The
+    /// reserve is kept free.
+    pub fn alloc(&mut self, n: u32) -> Result<Grant, Shortage>
         requires some { 0 < n }
         requires few { n ≤ 256 }
-        ensures grant { result ≡ grant_of self.old n }
-        ensures after { self.new ≡ allocated self.old n }
-        ensures full { IsErr result ↔ IsShort self.old n }
+        ensures grant { result ≡ grant_of (reserve_of self.old) self.old n }
+        ensures after { self.new ≡ allocated (reserve_of self.old) self.old n }
+        ensures short { IsErr result ↔ IsShort (reserve_of self.old) self.old n }
     {
-        if let Some(bump) = self.roomy_bump(n) {
-            let at = self.take(bump, n);
-            return Ok(Grant { at, given: None });
-        }
-        if self.free() <= self.reserve() {
-            return Err(self.shortage(n));
-        }
-        Ok(self.take_new(n))
+        self.alloc_beside(self.reserve(), n)
     }
 
     /// The same where the reserve is handed out too.
-    pub fn alloc_reserve(&mut self, n: u32) -> Result<Grant, Full>
+    pub fn alloc_reserve(&mut self, n: u32) -> Result<Grant, Shortage>
         requires some { 0 < n }
         requires few { n ≤ 256 }
-        ensures grant { result ≡ reserve_grant_of self.old n }
-        ensures after { self.new ≡ reserve_allocated self.old n }
-        ensures full { IsErr result ↔ IsSpent self.old n }
+        ensures grant { result ≡ grant_of 0 self.old n }
+        ensures after { self.new ≡ allocated 0 self.old n }
+        ensures short { IsErr result ↔ IsShort 0 self.old n }
+    {
+        self.alloc_beside(0, n)
+    }
+
+    // Hands out n cells, and keeps so many chunks free.
+    #[inline(always)]
+    fn alloc_beside(&mut self, kept_free: u32, n: u32) -> Result<Grant, Shortage>
+        requires some { 0 < n }
+        requires few { n ≤ 256 }
+        ensures grant { result ≡ grant_of kept_free self.old n }
+        ensures after { self.new ≡ allocated kept_free self.old n }
+        ensures short { IsErr result ↔ IsShort kept_free self.old n }
     {
         if let Some(bump) = self.roomy_bump(n) {
             let at = self.take(bump, n);
             return Ok(Grant { at, given: None });
         }
-        if self.free() == 0 {
+        if self.free() <= kept_free {
             return Err(self.shortage(n));
         }
         Ok(self.take_new(n))
@@ -51,7 +57,7 @@ impl Usage {
     pub fn is_mutable(&self, at: Ref) -> bool
         ensures { result ≡ is_mutable self.now at }
     {
-        self.state.recent.contains(at / CHUNK_CELLS) || was_left(self.state.fender, at)
+        self.state.since.contains(at / CHUNK_CELLS) || was_left(self.state.fender, at)
     }
 
     /// These cells, of one chunk, don't count any more.
@@ -61,7 +67,7 @@ impl Usage {
         ensures { self.new ≡ released self.old at n }
     {
         let chunk = at / CHUNK_CELLS;
-        if chunk < self.state.allocated.chunks() {
+        if chunk < self.state.given.chunks() {
             let live = self.state.counts.of(chunk);
             self.state.counts.set(chunk, live - n);
         }
@@ -99,7 +105,7 @@ impl Usage {
     fn is_unmixed(&self, bump: Bump) -> bool
         ensures { result ≡ (slice_index_or self.now.since bump.chunk false && nat_le bump.filled (slice_index self.now.live bump.chunk)) }
     {
-        self.state.recent.contains(bump.chunk) && bump.filled <= self.state.counts.of(bump.chunk)
+        self.state.since.contains(bump.chunk) && bump.filled <= self.state.counts.of(bump.chunk)
     }
 
     // The bump chunk, where it has n cells left.
@@ -120,9 +126,9 @@ impl Usage {
         ensures after { self.new ≡ with_bump self.old (lowest_free self.old) }
     {
         let state = &mut *self.state;
-        let chunk = state.allocated.first_absent();
-        state.allocated.insert(chunk);
-        state.recent.insert(chunk);
+        let chunk = state.given.first_absent();
+        state.given.insert(chunk);
+        state.since.insert(chunk);
         state.ages.give(chunk);
         state.hints.begin(chunk, chunk_of(state.bump));
         state.free -= 1;
@@ -163,14 +169,14 @@ impl Usage {
     }
 
     // Why n cells can't be handed out.
-    fn shortage(&self, n: u32) -> Full
+    fn shortage(&self, n: u32) -> Shortage
         ensures { result ≡ shortage self.now n }
     {
         let left = match self.state.bump {
             Some(bump) => CHUNK_CELLS - bump.filled,
             None => 0,
         };
-        Full {
+        Shortage {
             needed: n,
             left,
             free: self.free(),

@@ -8,7 +8,7 @@ use chunk_hints::{Listed, Path};
 
 impl Usage {
     /// A key was put in or taken out, whose path this is.
-    pub fn note_change(&mut self, path: Path)
+    pub(crate) fn note_change(&mut self, path: Path)
         ensures { self.new ≡ self.old }
     {
         let state = &mut *self.state;

@@ -28,11 +28,11 @@ impl Usage {
         }
         let state = &mut *self.state;
         let found = &mut state.unreached;
-        found.set_difference(&state.allocated, state.counts.counted());
+        found.set_difference(&state.given, state.counts.counted());
         leave_out_kept(found, &state.slots[..state.kept]);
         leave_out(found, state.bump);
         leave_out(found, state.fender);
-        let count = free_all(&state.unreached, &mut state.allocated, cells);
+        let count = free_all(&state.unreached, &mut state.given, cells);
         state.free += count;
         count
     }
@@ -42,7 +42,7 @@ impl Usage {
         ensures { result ≡ true → (k : ℕ) → is_unreached self.now k ≡ false }
     {
         let state = &*self.state;
-        state.counts.used() + state.free == state.allocated.chunks()
+        state.counts.used() + state.free == state.given.chunks()
     }
 }
 
@@ -67,21 +67,21 @@ fn leave_out(found: &mut ChunkSet, bump: Option<Bump>)
 }
 
 /// Frees each chunk of a set. Tells how many.
-fn free_all<C: CellWrite>(chunks: &ChunkSet, allocated: &mut ChunkSet, cells: &mut C) -> u32
+fn free_all<C: CellWrite>(chunks: &ChunkSet, given: &mut ChunkSet, cells: &mut C) -> u32
     requires few { length chunks.now ≤ 4096 }
-    requires same { C.given cells.old ≡ allocated.old }
-    requires given { (k : ℕ) → has chunks.now k ≡ true → has allocated.old k ≡ true }
+    requires same { C.given cells.old ≡ given.old }
+    requires given { (k : ℕ) → has chunks.now k ≡ true → has given.old k ≡ true }
     requires unkept { (q : ℕ) → Contains (C.kept cells.old) q → has chunks.now (q / 1024) ≡ false }
-    ensures left { Without allocated.old allocated.new (has chunks.now) }
-    ensures count { count_by not allocated.new ≡ count_by not allocated.old + result }
-    ensures given { C.given cells.new ≡ allocated.new }
+    ensures left { Without given.old given.new (has chunks.now) }
+    ensures count { count_by not given.new ≡ count_by not given.old + result }
+    ensures given { C.given cells.new ≡ given.new }
     ensures others { (q : ℕ) (c : Cell) → has chunks.now (q / 1024) ≡ false → C.has cells.old q c → C.has cells.new q c }
     ensures kept { C.kept cells.new ≡ C.kept cells.old }
 {
     let mut count = 0;
     let mut from = 0;
     while let Some(chunk) = chunks.first_from(from) {
-        allocated.remove(chunk);
+        given.remove(chunk);
         cells.free(chunk);
         count += 1;
         from = chunk + 1;

@@ -12,7 +12,7 @@ impl Usage {
     pub fn is_sparse(&self, chunk: u32) -> bool
         ensures { result ≡ is_sparse self.now chunk }
     {
-        self.state.allocated.contains(chunk)
+        self.state.given.contains(chunk)
             && self.state.counts.of(chunk) <= SPARSE_CELLS
             && !is_chunk_of(self.state.bump, chunk)
     }

@@ -28,8 +28,8 @@ impl Usage {
         let slot = &mut state.slots[state.kept];
         slot.set(version, state.counts.counted());
         state.kept += 1;
-        state.ages.settle(&state.recent, chunk_of(state.fender));
-        state.recent.clear();
+        state.ages.settle(&state.since, chunk_of(state.fender));
+        state.since.clear();
         state.counts.keep();
         state.fender = state.bump;
     }

@@ -1,8 +1,10 @@
 use Rattle.std.proofs.Common.{◌≡◌, ◌⊎◌, ℕ, ◌<◌, slice_index, List, Bool, true, slice_set, Some, refl, ◌∙◌, sym, ap, subst}
 use Rattle.chunk_cells.specs.Chunks.{IsFree, IsGiven}
-use Rattle.chunk_usage.specs.Rooms.{GivesChunk, OpensFree}
-use Rattle.chunk_usage.specs.Ledger.{is_bump}
-use Rattle.trie_space.proofs.SpaceLaws.{handed_open, frame_given, ready_grows}
+use Rattle.chunk_usage.specs.Rooms.{GivesChunk, OpensFree, reserve_account_of}
+use Rattle.chunk_usage.specs.Ledger.{Ledger, is_bump}
+use Rattle.chunk_usage.proofs.SpaceLaws.{handed}
+use Rattle.trie_space.specs.Spaces.{Frame}
+use Rattle.trie_space.proofs.SpaceLaws.{handed_open, frame_given, frame_refl, ready_grows}
 use Rattle.evacuate.proofs.ReserveLaws.{reserve_handing}
 use Rattle.evacuate.proofs.FillingLaws.{Granted, granted, moves_handed}
 use Rattle.evacuate.proofs.room.room_for.Goals as goal
@@ -43,8 +45,8 @@ returns-in-Some-clause-moves g c given fills = moves_handed ((grant g c).fills g
 pub returns-in-Some-clause-frame : goal.returns-in-Some-clause-frame
 returns-in-Some-clause-frame g c =
     frame_given (Some c.in-Some.chunk) (free g c, c.give.ensures.given) c.give.ensures.cells c.give.ensures.kept
-    (subst (λ (flags : List Bool). OpensFree flags (is_bump c.args.usage.now.bump) (is_bump c.alloc_reserve.new.self.bump)) (sym c.requires.ready.same) (grant g c).opens) (grant g c).hands.grows refl (grant g c).frozen
-    (subst (λ (flags : List Bool). (k : ℕ) → 0 < slice_index c.alloc_reserve.new.self.live k → (0 < slice_index c.args.usage.now.live k) ⊎ ((is_bump c.args.usage.now.bump k ≡ true) ⊎ (IsGiven flags k → ⊥))) (sym c.requires.ready.same) (grant g c).meets)
+    (subst (λ (flags : List Bool). OpensFree flags (is_bump c.args.usage.now.bump) (is_bump c.alloc_reserve.new.self.bump)) (sym c.requires.ready.same) (grant g c).hands.opens) (grant g c).hands.grows refl (grant g c).hands.frozen
+    (subst (λ (flags : List Bool). (k : ℕ) → 0 < slice_index c.alloc_reserve.new.self.live k → (0 < slice_index c.args.usage.now.live k) ⊎ ((is_bump c.args.usage.now.bump k ≡ true) ⊎ (IsGiven flags k → ⊥))) (sym c.requires.ready.same) (grant g c).hands.meets)
 
 pub returns-clause-handed : goal.returns-clause-handed
 returns-clause-handed g c = reserve_handing _ _ (granted c.known.ensures c.requires.some c.requires.few c.in_ok-grant.ensures.after c.in_ok-grant.ensures.grant).hands.handed
@@ -71,5 +73,10 @@ pub returns-clause-frame : goal.returns-clause-frame
 returns-clause-frame g c =
     let h = granted c.known.ensures c.requires.some c.requires.few c.in_ok-grant.ensures.after c.in_ok-grant.ensures.grant in
     let gives = subst (GivesChunk c.args.usage.now.given c.alloc_reserve.new.self.given) c.in_default.is h.hands.gives in
-    let opens = subst (λ (flags : List Bool). OpensFree flags (is_bump c.args.usage.now.bump) (is_bump c.alloc_reserve.new.self.bump)) (sym c.requires.ready.same) h.opens in
-    record { stays = λ q x u k. k; frozen = λ q x m k. k; keeps = refl; given_stays = λ k x. x; opens = opens; grows = h.hands.grows; spares = refl; last = h.frozen; meets = (subst (λ (flags : List Bool). (k : ℕ) → 0 < slice_index c.alloc_reserve.new.self.live k → (0 < slice_index c.args.usage.now.live k) ⊎ ((is_bump c.args.usage.now.bump k ≡ true) ⊎ (IsGiven flags k → ⊥))) (sym c.requires.ready.same) h.meets) }
+    let opens = subst (λ (flags : List Bool). OpensFree flags (is_bump c.args.usage.now.bump) (is_bump c.alloc_reserve.new.self.bump)) (sym c.requires.ready.same) h.hands.opens in
+    record { stays = λ q x u k. k; frozen = λ q x m k. k; keeps = refl; given_stays = λ k x. x; opens = opens; grows = h.hands.grows; spares = refl; last = h.hands.frozen; meets = (subst (λ (flags : List Bool). (k : ℕ) → 0 < slice_index c.alloc_reserve.new.self.live k → (0 < slice_index c.args.usage.now.live k) ⊎ ((is_bump c.args.usage.now.bump k ≡ true) ⊎ (IsGiven flags k → ⊥))) (sym c.requires.ready.same) h.hands.meets) }
+
+pub returns-in_err-grant-clause-frame : goal.returns-in_err-grant-clause-frame
+returns-in_err-grant-clause-frame g c =
+    let h = handed 0 c.args.usage.now c.known.ensures c.args.n c.requires.some c.requires.few c.alloc_reserve.new.self _ c.in_err-grant.ensures.after c.in_err-grant.ensures.grant in
+    subst (λ (u : Ledger). Frame g.C.CellRead.has g.C.CellWrite.kept g.C.CellWrite.given reserve_account_of c.args.cells.now c.args.usage.now c.args.cells.now u) (sym h.stays) (frame_refl c.args.cells.now c.args.usage.now)

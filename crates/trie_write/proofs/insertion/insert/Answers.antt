@@ -1,6 +1,6 @@
 use Rattle.std.proofs.Common.{◌≡◌, w8, ℕ, List, [], ◌∷◌, Contains, Option, Some, None, refl, sym, ◌∙◌, subst, arith}
 use Rattle.std.proofs.Math.Facts.{Fits-lt-pow}
-use Rattle.chunk_usage.specs.declared.space.Full.{Full}
+use Rattle.chunk_usage.specs.declared.space.Shortage.{Shortage}
 use Rattle.trie_write.specs.Paths.{insert_asks}
 use Rattle.trie_write.specs.Roots.{BranchesOnPath}
 use Rattle.trie_space.specs.Standing.{HasTrie}
@@ -59,12 +59,12 @@ returns-in_err-insert_further-in-Some-compare-clause-consumes g c n on =
 pub returns-in_err-insert_first-clause-asked : goal.returns-in_err-insert_first-clause-asked
 returns-in_err-insert_first-clause-asked g c f e branches on =
     let none : branches ≡ [] = subst (λ (o : Option ℕ). BranchesOnPath g.C.CellRead.has g.U.Space.account c.args.cells.now c.args.usage.now o c.args.key.now branches) (is_none c.args.root c.in_default.not-Some) on in
-    asked_full (λ (x : Full). Contains (insert_asks c.args.item.now branches) x.needed) _ c.from_residual.result c.from_residual.ensures.1 (insert_begins c.args.item.now branches _ none c.in_err-insert_first.ensures.asked) f e
+    asked_full (λ (x : Shortage). Contains (insert_asks c.args.item.now branches) x.needed) _ c.from_residual.result c.from_residual.ensures.1 (insert_begins c.args.item.now branches _ none c.in_err-insert_first.ensures.asked) f e
 
 pub returns-in_err-insert_further-in-Some-compare-clause-asked : goal.returns-in_err-insert_further-in-Some-compare-clause-asked
 returns-in_err-insert_further-in-Some-compare-clause-asked g c f e branches on =
     let o = missing_branches g.C.CellRead.has g.U.Space.account c.args.usage.now c.in-Some.is c.cell-node.ensures.value c.cell-node.ensures.same c.compare.ensures.same c.compare.ensures.value c.in-Some-compare.is branches on in
-    asked_full (λ (x : Full). Contains (insert_asks c.args.item.now branches) x.needed) _ c.from_residual-in_err-insert_further-in-Some-compare.result c.from_residual-in_err-insert_further-in-Some-compare.ensures.1 (subst (λ (ns : List ℕ). Contains (insert_asks c.args.item.now ns) c.in_err-insert_further-in-Some-compare.field-0.0.needed) (sym o.3) (c.in_err-insert_further-in-Some-compare.ensures.asked o.0 o.1 o.2)) f e
+    asked_full (λ (x : Shortage). Contains (insert_asks c.args.item.now branches) x.needed) _ c.from_residual-in_err-insert_further-in-Some-compare.result c.from_residual-in_err-insert_further-in-Some-compare.ensures.1 (subst (λ (ns : List ℕ). Contains (insert_asks c.args.item.now ns) c.in_err-insert_further-in-Some-compare.field-0.0.needed) (sym o.3) (c.in_err-insert_further-in-Some-compare.ensures.asked o.0 o.1 o.2)) f e
 
 pub returns-in_ok-insert_further-in-Some-compare-clause-copies : goal.returns-in_ok-insert_further-in-Some-compare-clause-copies
 returns-in_ok-insert_further-in-Some-compare-clause-copies g c n on =

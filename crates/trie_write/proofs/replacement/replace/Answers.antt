@@ -1,5 +1,5 @@
 use Rattle.std.proofs.Common.{ℕ, List, Contains, sym, subst, arith}
-use Rattle.chunk_usage.specs.declared.space.Full.{Full}
+use Rattle.chunk_usage.specs.declared.space.Shortage.{Shortage}
 use Rattle.trie_write.specs.Paths.{replace_asks}
 use Rattle.trie_write.proofs.PathLaws.{to_copy_few}
 use Rattle.trie_write.proofs.RefusalLaws.{asked_full, not_refused}
@@ -45,7 +45,7 @@ returns-in_err-replace_item-in-Some-clause-consumes g c n on =
 pub returns-in_err-replace_item-in-Some-clause-asked : goal.returns-in_err-replace_item-in-Some-clause-asked
 returns-in_err-replace_item-in-Some-clause-asked g c f e branches on =
     let o = on_branches c.in-Some.ensures.same c.in-Some.ensures.root branches on c.in-Some.ensures.there in
-    asked_full (λ (x : Full). Contains (replace_asks c.args.item.now branches) x.needed) _ c.from_residual.result c.from_residual.ensures.1 (subst (λ (ns : List ℕ). Contains (replace_asks c.args.item.now ns) c.in_err-replace_item-in-Some.field-0.0.needed) (sym o.3) (c.in_err-replace_item-in-Some.ensures.asked o.0 o.1 o.2)) f e
+    asked_full (λ (x : Shortage). Contains (replace_asks c.args.item.now branches) x.needed) _ c.from_residual.result c.from_residual.ensures.1 (subst (λ (ns : List ℕ). Contains (replace_asks c.args.item.now ns) c.in_err-replace_item-in-Some.field-0.0.needed) (sym o.3) (c.in_err-replace_item-in-Some.ensures.asked o.0 o.1 o.2)) f e
 
 pub returns-in_ok-replace_item-in-Some-clause-copies : goal.returns-in_ok-replace_item-in-Some-clause-copies
 returns-in_ok-replace_item-in-Some-clause-copies g c n on =

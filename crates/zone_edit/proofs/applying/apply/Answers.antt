@@ -51,7 +51,7 @@ returns-clause-applies g c =
     let operation = operation_view c.args.operation.now in
     let owner = c.owner-owner.result.now in
     let octets = take c.read_owned-len.result c.read_owned-len.new.item in
-    edits_on 0 0 0 (Reads owner c.read_owned-len.new.item c.read_owned-len.result) (Stores owner c.in-Ok.before c.in-Ok.entry (Err c.in-Err.request)) (Applies c.args.origin.now operation (Err (refusals.Full c.args.number c.in-Err.request)))
+    edits_on 0 0 0 (Reads owner c.read_owned-len.new.item c.read_owned-len.result) (Stores owner c.in-Ok.before c.in-Ok.entry (Err c.in-Err.shortage)) (Applies c.args.origin.now operation (Err (refusals.Full c.args.number c.in-Err.shortage)))
     c.args.transaction.now.locked.now.draft c.read_owned-len.new.transaction.locked.now.draft c.store.new.transaction.locked.now.draft (omega arith)
     (λ version e f r. let both = c.in-Ok.ensures (owned owner version) r.read.says in
     let made = made_by c.args.origin.now operation owner octets c.in-Ok.before c.in-Ok.entry version c.owner-owner.ensures c.in_default.ensures r.read.says both.0 both.1 in

@@ -17,7 +17,7 @@ overflow_add-result c =
     let f = known.whole.ledger.few in
     let n = known.whole.ledger.counted in
     let u = count_by-le-length (nat_lt 0) s.counts.live in
-    let v = count_by-le-length not s.allocated in
+    let v = count_by-le-length not s.given in
     omega arith
 
 pub returns : goal.returns
@@ -25,5 +25,5 @@ returns c t =
     let known = known c.deref-state.result.now c.self.inside.state.value c.args.self.now c.deref-state.ensures c.self.invariant c.self.view_is in
     let s = c.deref-state.result.now in
     let e = known.whole.free in
-    let all : count_by (nat_lt 0) s.counts.live + free_count (ledger_of s) ≡ length s.allocated = (let q = eqb-true _ _ t in omega arith) in
+    let all : count_by (nat_lt 0) s.counts.live + free_count (ledger_of s) ≡ length s.given = (let q = eqb-true _ _ t in omega arith) in
     subst (λ (l : Ledger). (k : ℕ) → is_unreached l k ≡ false) known.view_is (none_unreached (ledger_of s) known.whole.ledger all)

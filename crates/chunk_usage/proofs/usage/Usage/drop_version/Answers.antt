@@ -21,6 +21,6 @@ invariant_of-self c =
       free = known.whole.free;
       slots = ap length new ∙ c.forget.ensures.length ∙ ap length old ∙ known.whole.slots;
       within = let w = known.whole.within in omega arith;
-      wide = subst (All (λ (r : Row). length r.chunks ≡ length s.allocated)) (sym new) (c.forget.ensures.wide (length s.allocated) (subst (All (λ (r : Row). length r.chunks ≡ length s.allocated)) (sym old) known.whole.wide));
+      wide = subst (All (λ (r : Row). length r.chunks ≡ length s.given)) (sym new) (c.forget.ensures.wide (length s.given) (subst (All (λ (r : Row). length r.chunks ≡ length s.given)) (sym old) known.whole.wide));
       unreached = known.whole.unreached;
     }

@@ -18,25 +18,25 @@ returns-then-all_used-clause-by_chunk g c = each_stays c.args.self.now (c.all_us
 pub free_all-count-requires-clause-unkept : goal.free_all-count-requires-clause-unkept
 free_all-count-requires-clause-unkept g c q kept =
     let known = known c.deref_mut-state.result.now c.self.inside.state.value c.args.self.now c.deref_mut-state.ensures.value c.self.invariant c.self.view_is in
-    found_is (ledger_of c.deref_mut-state.result.now) c.deref_mut-state.result.now.allocated c.counted.result.now c.set_difference.new.self c.leave_out_kept.new.found c.leave_out.new.found c.leave_out-2.new.found _
+    found_is (ledger_of c.deref_mut-state.result.now) c.deref_mut-state.result.now.given c.counted.result.now c.set_difference.new.self c.leave_out_kept.new.found c.leave_out.new.found c.leave_out-2.new.found _
     refl c.counted.ensures (ap (take c.deref_mut-state.result.now.kept) c.deref.ensures.value) c.set_difference.ensures.left c.leave_out_kept.ensures.left c.leave_out.ensures.left c.leave_out-2.ensures.left (q / 1024)
     ∙ ap (λ (l : Ledger). is_unreached l (q / 1024)) known.view_is ∙ kept_stays c.args.self.now (q / 1024) (c.requires.in_rows q kept)
 
 -- the set that was found has just the chunks that nothing needs
 found : (g : Over) (c : goal.After-self-1 g) (k : ℕ) → has c.leave_out-2.new.found k ≡ is_unreached (ledger_of c.deref_mut-state.result.now) k
-found g c = found_is (ledger_of c.deref_mut-state.result.now) c.deref_mut-state.result.now.allocated c.counted.result.now c.set_difference.new.self c.leave_out_kept.new.found c.leave_out.new.found c.leave_out-2.new.found _
+found g c = found_is (ledger_of c.deref_mut-state.result.now) c.deref_mut-state.result.now.given c.counted.result.now c.set_difference.new.self c.leave_out_kept.new.found c.leave_out.new.found c.leave_out-2.new.found _
     refl c.counted.ensures (ap (take c.deref_mut-state.result.now.kept) c.deref.ensures.value) c.set_difference.ensures.left c.leave_out_kept.ensures.left c.leave_out.ensures.left c.leave_out-2.ensures.left
 
 -- the chunks that something needs are left
-left : (g : Over) (c : goal.After-self-1 g) (k : ℕ) → has c.free_all-count.new.allocated k ≡ (is_given (ledger_of c.deref_mut-state.result.now) k && is_needed (ledger_of c.deref_mut-state.result.now) k)
-left g c = left_needed (ledger_of c.deref_mut-state.result.now) c.leave_out-2.new.found c.free_all-count.new.allocated (found g c) c.free_all-count.ensures.left.left
+left : (g : Over) (c : goal.After-self-1 g) (k : ℕ) → has c.free_all-count.new.given k ≡ (is_given (ledger_of c.deref_mut-state.result.now) k && is_needed (ledger_of c.deref_mut-state.result.now) k)
+left g c = left_needed (ledger_of c.deref_mut-state.result.now) c.leave_out-2.new.found c.free_all-count.new.given (found g c) c.free_all-count.ensures.left.left
 
 pub invariant_of-self : goal.invariant_of-self
 invariant_of-self g c =
     let known = known c.deref_mut-state.result.now c.self.inside.state.value c.args.self.now c.deref_mut-state.ensures.value c.self.invariant c.self.view_is in
-    let n : length c.free_all-count.new.allocated ≡ length c.deref_mut-state.result.now.allocated = c.free_all-count.ensures.left.len in
+    let n : length c.free_all-count.new.given ≡ length c.deref_mut-state.result.now.given = c.free_all-count.ensures.left.len in
     record {
-      ledger = freed_ledger (ledger_of c.deref_mut-state.result.now) known.whole.ledger c.free_all-count.new.allocated n (left g c);
+      ledger = freed_ledger (ledger_of c.deref_mut-state.result.now) known.whole.ledger c.free_all-count.new.given n (left g c);
       free = let e = known.whole.free in let m = c.free_all-count.ensures.count in omega arith;
       slots = known.whole.slots;
       within = known.whole.within;
@@ -47,7 +47,7 @@ invariant_of-self g c =
 pub returns-clause-after : goal.returns-clause-after
 returns-clause-after g c =
     let known = known c.deref_mut-state.result.now c.self.inside.state.value c.args.self.now c.deref_mut-state.ensures.value c.self.invariant c.self.view_is in
-    freed_is (ledger_of c.deref_mut-state.result.now) known.whole.ledger c.free_all-count.new.allocated c.free_all-count.ensures.left.len (left g c) ∙ ap freed known.view_is
+    freed_is (ledger_of c.deref_mut-state.result.now) known.whole.ledger c.free_all-count.new.given c.free_all-count.ensures.left.len (left g c) ∙ ap freed known.view_is
 
 pub returns-clause-by_chunk : goal.returns-clause-by_chunk
 returns-clause-by_chunk g c k =

@@ -23,6 +23,6 @@ invariant_of-self c =
       free = known.whole.free;
       slots = length-set s.slots.items s.kept c.set.new.self ∙ known.whole.slots;
       within = let e = known.whole.slots in omega arith;
-      wide = All-set (λ (r : Row). length r.chunks ≡ length s.allocated) s.slots.items s.kept c.set.new.self (ap (λ (r : Row). length r.chunks) row ∙ length-map s.counts.live (nat_lt 0) ∙ known.whole.ledger.counted) known.whole.wide;
+      wide = All-set (λ (r : Row). length r.chunks ≡ length s.given) s.slots.items s.kept c.set.new.self (ap (λ (r : Row). length r.chunks) row ∙ length-map s.counts.live (nat_lt 0) ∙ known.whole.ledger.counted) known.whole.wide;
       unreached = known.whole.unreached;
     }

@@ -22,6 +22,6 @@ invariant_of-self c =
       free = known.whole.free;
       slots = ap length new ∙ gather.length ∙ ap length old ∙ known.whole.slots;
       within = let w = known.whole.within in let v = gather.within in omega arith;
-      wide = subst (All (λ (r : Row). length r.chunks ≡ length s.allocated)) (sym new) (gather.wide (length s.allocated) (subst (All (λ (r : Row). length r.chunks ≡ length s.allocated)) (sym old) known.whole.wide));
+      wide = subst (All (λ (r : Row). length r.chunks ≡ length s.given)) (sym new) (gather.wide (length s.given) (subst (All (λ (r : Row). length r.chunks ≡ length s.given)) (sym old) known.whole.wide));
       unreached = known.whole.unreached;
     }

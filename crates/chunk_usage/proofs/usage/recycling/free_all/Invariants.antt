@@ -6,12 +6,12 @@ use Rattle.chunk_usage.proofs.usage.recycling.free_all.Given as goal
 
 abbrev pub invariant-loop-chunk : goal.invariant-loop-chunk
 invariant-loop-chunk g l = record {
-  same : length l.allocated ≡ length l.fn.allocated;
-  done : (k : ℕ) → k < l.from → has l.allocated k ≡ (has l.fn.allocated k && not (has l.chunks k));
-  left : (k : ℕ) → l.from ≤ k → has l.allocated k ≡ has l.fn.allocated k;
-  count : count_by not l.allocated ≡ count_by not l.fn.allocated + l.count;
+  same : length l.given ≡ length l.fn.given;
+  done : (k : ℕ) → k < l.from → has l.given k ≡ (has l.fn.given k && not (has l.chunks k));
+  left : (k : ℕ) → l.from ≤ k → has l.given k ≡ has l.fn.given k;
+  count : count_by not l.given ≡ count_by not l.fn.given + l.count;
   bound : (l.count ≤ l.from) × (l.from ≤ length l.chunks);
-  given : g.C.CellWrite.given l.cells ≡ l.allocated;
+  given : g.C.CellWrite.given l.cells ≡ l.given;
   others : (q : ℕ) (c : Cell) → has l.chunks (q / 1024) ≡ false → g.C.CellRead.has l.fn.cells q c → g.C.CellRead.has l.cells q c;
   kept : g.C.CellWrite.kept l.cells ≡ g.C.CellWrite.kept l.fn.cells;
 }

@@ -1,4 +1,4 @@
 use Rattle.qp_multi.proofs.desk.Draft.attempt.Given as goal
 
-abbrev pub ghosts-attempt : goal.ghosts-attempt
-ghosts-attempt g a = record { table = a.seat.place.table_id; view = a.seat.place.me.0 }
+abbrev pub ghosts-try_once : goal.ghosts-try_once
+ghosts-try_once g a = record { table = a.self.seat.place.table_id; view = a.self.seat.place.me.0 }

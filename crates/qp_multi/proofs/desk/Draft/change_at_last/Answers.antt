@@ -3,7 +3,7 @@ use Rattle.std.proofs.lemmas.Bool.{true≢false}
 use Rattle.std.specs.Prelude.{IsOk}
 use Rattle.chunk_usage.specs.Ledger.{Frozen, Row}
 use Rattle.chunk_usage.specs.Keeping.{kept_versions}
-use Rattle.trie_write.specs.declared.refusal.Unchanged.TheVariants as unchanged
+use Rattle.trie_write.specs.declared.refusal.NotDone.TheVariants as not_done
 use Rattle.qp_multi.specs.Changes.{operation_of, IsRefused}
 use Rattle.qp_multi.specs.Fulls.{full_with}
 use Rattle.qp_multi.specs.Rooms.{Fails, MakesRoom}
@@ -51,7 +51,7 @@ returns-clause-operates g c =
     let left = c.make_room-left.ensures in
     let tried = c.attempt in
     let change = c.args.change.now in
-    operates_after (operation_of change) (IsRefused change) c.args.self c.make_room-left.result tried.result.0 (IsOk tried.result.1) (tried.result.1 ≡ Err unchanged.Refused)
+    operates_after (operation_of change) (IsRefused change) c.args.self c.make_room-left.result tried.result.0 (IsOk tried.result.1) (tried.result.1 ≡ Err not_done.Refused)
     (goes_further (goes_further room.frees.goes_on dense.goes_on) left.frees.goes_on) (makes g c).log (left.numbers.1 ∙ dense.numbers.1 ∙ room.numbers.1) tried.ensures.operates
 
 pub returns-clause-room : goal.returns-clause-room

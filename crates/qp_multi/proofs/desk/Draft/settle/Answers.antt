@@ -31,13 +31,13 @@ returns-in-Stopped-clause-settles g c =
     settles_many false (let n = c.sparse.ensures in let many = c.if-sparse-most.false in omega arith) e.goes_on e.seen e.works e.log (subst (Evacuates c.args.self.usage c.evacuate-draft.result.0.usage) c.in-Stopped.is e.evacuates)
 
 pub returns-in-Stopped-clause-stopped : goal.returns-in-Stopped-clause-stopped
-returns-in-Stopped-clause-stopped g c e = (c.evacuate-draft.ensures.evacuates.stopped c.in-Stopped.is).0.consumed.none_free
+returns-in-Stopped-clause-stopped g c e = let none = (c.evacuate-draft.ensures.evacuates.stopped c.in-Stopped.is).0.short.none_free in omega arith
 
 pub returns-in-Stopped-clause-roomy : goal.returns-in-Stopped-clause-roomy
 returns-in-Stopped-clause-roomy g c room =
     let e = c.evacuate-draft.ensures in
     let asks = subst (λ (done : Done). free_count c.args.self.usage + refused done ≤ free_count c.evacuate-draft.result.0.usage + (cells (working_set c.args.self) / 769 + 1)) c.in-Stopped.is e.asks in
-    whole_where c.args.self c.evacuate-draft.result.0 _ room (e.evacuates.stopped c.in-Stopped.is).0.consumed.none_free asks
+    whole_where c.args.self c.evacuate-draft.result.0 _ room (let none = (e.evacuates.stopped c.in-Stopped.is).0.short.none_free in omega arith) asks
 
 pub returns-then-sparse-most-clause-small : goal.returns-then-sparse-most-clause-small
 returns-then-sparse-most-clause-small g c room =
@@ -62,4 +62,4 @@ returns-in-Stopped-clause-small g c room =
     let moved = subst (Evacuates c.args.self.usage c.evacuate-draft.result.0.usage) c.in-Stopped.is e.evacuates in
     let asks = subst (λ (done : Done). free_count c.args.self.usage + refused done ≤ free_count c.evacuate-draft.result.0.usage + (cells (working_set c.args.self) / 769 + 1)) c.in-Stopped.is e.asks in
     ready_where c.args.most c.args.self c.evacuate-draft.result.0 false c.requires.few e.evacuates.ledger (settles_many false (omega arith) e.goes_on e.seen e.works e.log moved)
-    (λ h. absurd (true≢false (sym h))) (λ h. ((e.evacuates.stopped c.in-Stopped.is).0.consumed.none_free, asks)) room
+    (λ h. absurd (true≢false (sym h))) (λ h. (let none = (e.evacuates.stopped c.in-Stopped.is).0.short.none_free in omega arith, asks)) room

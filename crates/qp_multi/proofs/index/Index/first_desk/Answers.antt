@@ -1,7 +1,7 @@
 use Rattle.std.proofs.Common.{◌≡◌, ◌∙◌, ◌+◌, ◌*◌, ◌∷◌, [], ℕ, length, Option, Result, sym, ap, subst}
 use Rattle.std.specs.Prelude.{IfOk}
 use Rattle.pin_core.specs.declared.kept.Kept.{Kept}
-use Rattle.chunk_usage.specs.declared.space.Full.{Full}
+use Rattle.chunk_usage.specs.declared.space.Shortage.{Shortage}
 use Rattle.chunk_usage.specs.Ledger.{Ledger, Frozen}
 use Rattle.trie_write.specs.Entries.{entries_of_items}
 use Rattle.shared_cells.specs.Views.{kept_in, kept_of, words_of}
@@ -21,7 +21,7 @@ open_turn-seat-requires-clause-can g c =
     let u = c.fill-turn.new.usage in
     let es = entries_of_items c.args.items.now in
     let fill = c.fill-turn.ensures in
-    let works : StandsFor v u c.in-Ok.root es = subst (λ (r : Result (Option ℕ) Full). IfOk r (λ root. StandsFor v u root es)) c.in-Ok.is fill.stands in
+    let works : StandsFor v u c.in-Ok.root es = subst (λ (r : Result (Option ℕ) Shortage). IfOk r (λ root. StandsFor v u root es)) c.in-Ok.is fill.stands in
     let turn = turn_there v.turn c.fill-turn.result.0.turn in
     can_open v u c.known.ensures fill.given c.in-Ok.root es works g.L.Law.lawful c.args.shared.now.table.shared.key turn.0 turn.1 (c.requires.size ∙ sym fill.size) c.requires.lawful
 
@@ -34,7 +34,7 @@ invariant_of-result g c =
     let root = c.in-Ok.root in
     let es = entries_of_items c.args.items.now in
     let fill = c.fill-turn.ensures in
-    let works : StandsFor v u root es = subst (λ (r : Result (Option ℕ) Full). IfOk r (λ root. StandsFor v u root es)) c.in-Ok.is fill.stands in
+    let works : StandsFor v u root es = subst (λ (r : Result (Option ℕ) Shortage). IfOk r (λ root. StandsFor v u root es)) c.in-Ok.is fill.stands in
     let opened = c.open_turn-seat.ensures.opened in
     let is_first : opened.1 ≡ es = cc in
     let first : Kept = kept_of 0 root (image_at (words_of v.turn) root) in

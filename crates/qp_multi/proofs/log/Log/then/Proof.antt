@@ -27,7 +27,7 @@ use denote.Triple.Table.{entered}
 use denote.Triple.Walked.{says, Stays, stay_dropped, walk_of, ends_at, walk_Meets, Goes-dropped}
 use Rattle.qp_multi.proofs.Walks.{none, none_made}
 use Rattle.qp_multi.specs.contracts.log.Log as Log
-use Rattle.qp_multi.specs.contracts.change.Change as Note
+use Rattle.qp_multi.specs.contracts.change.TrieChange as Note
 use Rattle.qp_multi.specs.Changes.{operation_of}
 use Rattle.qp_multi.specs.contracts.log.Log.then as F
 use Rattle.qp_multi.specs.contracts.log.Log.then.Key.{name as #self}

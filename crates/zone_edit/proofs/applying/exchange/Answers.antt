@@ -8,7 +8,7 @@ use Rattle.qp_multi.specs.declared.refusal.ChangeRefusal.TheVariants.{NotFound}
 use Rattle.zone_edit.proofs.StoreLaws.{written_few, somebody, put_changes, record_of}
 use Rattle.zone_edit.proofs.SetLaws.{owner_in}
 use Rattle.zone_edit.proofs.EditLaws.{stored, no_room, refused_set, put_over}
-use Rattle.zone_edit.proofs.storing.exchange.Goals as goal
+use Rattle.zone_edit.proofs.applying.exchange.Goals as goal
 
 abbrev Absent : List ℕ → List trie.Entry → Type 0
 Absent key es = (x : trie.Entry) → InList x es → x.key ≡ key → ⊥

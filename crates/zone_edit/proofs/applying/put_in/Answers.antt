@@ -6,7 +6,7 @@ use Rattle.qp_multi.specs.declared.meaning.Operation.TheVariants as operation
 use Rattle.qp_multi.specs.declared.refusal.InsertRefusal.TheVariants.{Exists}
 use Rattle.zone_edit.proofs.StoreLaws.{written_few, nobody, put_changes, nothing_some, record_of}
 use Rattle.zone_edit.proofs.EditLaws.{stored, no_room, refused_set, put_new}
-use Rattle.zone_edit.proofs.storing.put_in.Goals as goal
+use Rattle.zone_edit.proofs.applying.put_in.Goals as goal
 
 abbrev There : List ℕ → List trie.Entry → Type 0
 There key es = (x : trie.Entry) × InList x es × (x.key ≡ key)

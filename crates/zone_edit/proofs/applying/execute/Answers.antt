@@ -6,7 +6,7 @@ use Rattle.zone_edit.specs.Blocks.{AppliesAll, MeetsAll, Executes, done_of}
 use Rattle.zone_edit.specs.declared.refusal.EditRefusal.TheVariants as refusals
 use Rattle.zone_edit.proofs.MeetLaws.{executed, whole_unmet}
 use Rattle.zone_edit.proofs.WayLaws.{none_in_order, looked_in_order}
-use Rattle.zone_edit.proofs.executing.execute.Goals as goal
+use Rattle.zone_edit.proofs.applying.execute.Goals as goal
 
 pub returns-then-not-meets_all-clause-executes : goal.returns-then-not-meets_all-clause-executes
 returns-then-not-meets_all-clause-executes g c =

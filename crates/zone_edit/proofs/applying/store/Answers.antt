@@ -4,7 +4,7 @@ use Rattle.zone_model.specs.Versions.{put}
 use Rattle.zone_edit.proofs.StoreLaws.{unchanged_gone, unchanged_put, one_entry, said_item}
 use Rattle.zone_edit.specs.Stores.{Owns, WorksOn, Stores}
 use Rattle.zone_edit.proofs.EditLaws.{edits_same}
-use Rattle.zone_edit.proofs.storing.store.Goals as goal
+use Rattle.zone_edit.proofs.applying.store.Goals as goal
 
 pub returns-then-is_empty-2-clause-stores : goal.returns-then-is_empty-2-clause-stores
 returns-then-is_empty-2-clause-stores g c =
