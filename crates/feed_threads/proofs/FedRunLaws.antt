@@ -8,10 +8,10 @@ use Rattle.job_model.specs.Commands.{Command, Compact}
 use Rattle.job_model.specs.Outcomes.{Lawful, Pair, all_pairs, version_at}
 use Rattle.job_model.specs.Feeds.{Fed, all_numbers, by_worker, pairs_by, passes_fed}
 use Rattle.job_model.proofs.FeedLaws.{IsAmong, workers_fed}
-use Rattle.job_script.specs.Feeds.{FedTell, fed_pairs}
-use Rattle.job_script.specs.Outcomes.{outcome_view, pairs_of, job_pairs, Tells, EachTells, AllTell}
-use Rattle.job_script.specs.declared.outcomes.FedOutcome.{FedOutcome}
-use Rattle.job_script.specs.declared.outcomes.Outcome.{Outcome}
+use Rattle.job_report.specs.Feeds.{FedTell, fed_pairs}
+use Rattle.job_report.specs.Outcomes.{outcome_view, pairs_of, job_pairs, Tells, EachTells, AllTell}
+use Rattle.job_report.specs.declared.outcomes.FedOutcome.{FedOutcome}
+use Rattle.job_report.specs.declared.outcomes.Outcome.{Outcome}
 use Rattle.job_commands.specs.Runs.{IsRun}
 use Rattle.feed_threads.specs.Feeds.{AreInOrder, ArePlaced, IsBy, IsFedRun, command_at, commands_at, commands_served, outcomes_served, served_by}
 use Rattle.feed_threads.specs.declared.ordering.Served.{Served}

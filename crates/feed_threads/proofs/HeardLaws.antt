@@ -2,8 +2,8 @@
 use Rattle.std.proofs.Common.{◌≡◌, ⊎_elim, ℕ, ◌+◌, ◌<◌, ◌≤◌, Bool, true, false, cond, eqb, List, [], ◌∷◌, length, map, Some, refl, sym, subst, arith, eq-eqb}
 use Rattle.std.proofs.Math.Nat.{eq-or-lt_of_le}
 use Rattle.std.specs.List.{AllByRecursion, zip}
-use Rattle.job_script.specs.declared.outcomes.FedOutcome.{FedOutcome}
-use Rattle.job_script.specs.declared.outcomes.Outcome.{Outcome}
+use Rattle.job_report.specs.declared.outcomes.FedOutcome.{FedOutcome}
+use Rattle.job_report.specs.declared.outcomes.Outcome.{Outcome}
 use Rattle.job_commands.specs.Calls.{Call, IsHeard, next_number}
 use Rattle.feed_threads.specs.Feeds.{AllFedHeard, AreInOrder, ArePlaced, EachHeard, FedHeard, IsBy, numbered, served_by}
 use Rattle.feed_threads.specs.declared.ordering.Served.{Served}

@@ -8,8 +8,8 @@ use Rattle.std.specs.List.{All, AllByRecursion, zip}
 use Rattle.std.specs.Global.{Global}
 use Rattle.std.proofs.lemmas.List.{length-map}
 use Rattle.std.specs.List.Sorted.{IsStrictlyIncreasing}
-use Rattle.job_script.specs.declared.outcomes.FedOutcome.{FedOutcome}
-use Rattle.job_script.specs.declared.outcomes.Outcome.{Outcome}
+use Rattle.job_report.specs.declared.outcomes.FedOutcome.{FedOutcome}
+use Rattle.job_report.specs.declared.outcomes.Outcome.{Outcome}
 use Rattle.feed_core.specs.Feeds.{list_at}
 use Rattle.feed_core.specs.Rule.{times}
 use Rattle.feed_threads.specs.declared.ordering.Served.{Served}

@@ -6,7 +6,7 @@ use Rattle.std.proofs.lemmas.List.Folds.{Any-from_list_any}
 use Rattle.job_model.specs.Commands.{Command, Compact, NeedsNoSnapshot}
 use Rattle.job_script.specs.Views.{command_view}
 use Rattle.job_script.specs.declared.commands.Command.{Command as Said}
-use Rattle.job_script.specs.declared.outcomes.Outcome.{Outcome}
+use Rattle.job_report.specs.declared.outcomes.Outcome.{Outcome}
 use Rattle.feed_core.specs.Feeds.{Handout, Takings, lists_of}
 use Rattle.shared_cells.specs.Views.{is_told}
 use Rattle.qp_multi.specs.Passes.{Known, Learnt, known_at}

@@ -7,10 +7,10 @@ use Rattle.zone_model.specs.Versions.{Version}
 use Rattle.job_model.specs.Commands.{Command, Compact}
 use Rattle.job_model.specs.Outcomes.{Lawful, all_pairs, version_at}
 use Rattle.job_model.specs.Feeds.{Fed, all_numbers, by_worker, passes_fed}
-use Rattle.job_script.specs.Feeds.{FedTell, fed_pairs}
-use Rattle.job_script.specs.declared.outcomes.FedOutcome.{FedOutcome}
-use Rattle.job_script.specs.declared.outcomes.Outcome.{Outcome}
-use Rattle.job_script.specs.declared.outcomes.Outcomes.{Outcomes}
+use Rattle.job_report.specs.Feeds.{FedTell, fed_pairs}
+use Rattle.job_report.specs.declared.outcomes.FedOutcome.{FedOutcome}
+use Rattle.job_report.specs.declared.outcomes.Outcome.{Outcome}
+use Rattle.job_report.specs.declared.outcomes.Outcomes.{Outcomes}
 use Rattle.feed_core.specs.Feeds.{Handout, Takings, StandsOnce}
 use Rattle.job_commands.specs.Calls.{Call, IsHeard, next_number}
 use Rattle.feed_threads.specs.declared.ordering.Served.{Served}

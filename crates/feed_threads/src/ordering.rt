@@ -3,7 +3,7 @@ ghost use Rattle.std.specs.Prelude.{◌≡◌, ◌≢◌, ◌<◌, ◌≤◌, �
 ghost use Rattle.feed_threads.specs.Prelude.{AllByRecursion, IsStrictlyIncreasing, AreInOrder, AreTaken};
 ghost use Rattle.feed_threads.specs.Prelude.{IsBy, IsFree, IsServed, numbered, numbers_served, served_by};
 
-use job_script::{FedOutcome, Outcomes};
+use job_report::{FedOutcome, Outcomes};
 use std::alloc::{AllocError, Global};
 use std::collections::VecDeque;
 

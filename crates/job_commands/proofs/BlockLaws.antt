@@ -11,8 +11,8 @@ use Rattle.zone_model.specs.Transactions.{Transaction}
 use Rattle.job_model.specs.declared.Ending.{Ending}
 use Rattle.job_model.specs.declared.Ending.TheVariants as ending
 use Rattle.job_model.specs.Outcomes.{Rule, Full, Spent, Ended, Committed, RolledBack, Refused, last_version}
-use Rattle.job_script.specs.Outcomes.{ended_view}
-use Rattle.job_script.specs.declared.outcomes.Outcome.{Outcome}
+use Rattle.job_report.specs.Outcomes.{ended_view}
+use Rattle.job_report.specs.declared.outcomes.Outcome.{Outcome}
 use Rattle.report_laws.specs.Changes.{AllSaid}
 use Rattle.shared_cells.specs.declared.pass.PassSeat.{PassSeat}
 use Rattle.shared_cells.specs.Views.{is_told, pass_of}

@@ -6,8 +6,8 @@ use Rattle.pin_core.specs.declared.version.Spent.{Spent as NoNumber}
 use Rattle.zone_model.specs.Transactions.{no_changes}
 use Rattle.job_model.specs.declared.Ending.TheVariants as ending
 use Rattle.job_model.specs.Outcomes.{Committed, Refused, Spent, last_version}
-use Rattle.job_script.specs.declared.outcomes.Outcome.{Outcome}
-use Rattle.job_script.specs.Outcomes.{ended_view}
+use Rattle.job_report.specs.declared.outcomes.Outcome.{Outcome}
+use Rattle.job_report.specs.Outcomes.{ended_view}
 use Rattle.shared_cells.specs.declared.pass.PassSeat.{PassSeat}
 use Rattle.shared_cells.specs.Views.{is_told}
 use Rattle.trie_model.specs.Keys.{Entry}

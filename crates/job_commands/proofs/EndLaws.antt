@@ -8,7 +8,7 @@ use Rattle.pin_core.proofs.Lists.{contains_cases}
 use Rattle.zone_model.specs.Versions.{Version}
 use Rattle.trie_model.specs.Shape.{nodes, keys_of}
 use Rattle.job_model.specs.Commands.{Command}
-use Rattle.job_script.specs.declared.outcomes.Outcomes.{Outcomes}
+use Rattle.job_report.specs.declared.outcomes.Outcomes.{Outcomes}
 use Rattle.shared_cells.specs.declared.view.PassView.{PassView}
 use Rattle.shared_cells.specs.declared.view.Progress.TheVariants as progress
 use Rattle.shared_cells.specs.History.{StartsWith, version_after}

@@ -11,7 +11,7 @@ use Rattle.zone_answer.specs.Standing.{trie_entry}
 use Rattle.trie_model.specs.Shape.{nodes, keys_of}
 use Rattle.job_model.specs.Sizes.{node_count}
 use Rattle.job_model.specs.Outcomes.{Pair, is_committed, made, asked_by, asked_at, accepted_or, times_made, version_at, AllAlong, all_pairs, shown_in}
-use Rattle.job_script.specs.Outcomes.{pairs_of, job_pairs, versions_made, AllTell}
+use Rattle.job_report.specs.Outcomes.{pairs_of, job_pairs, versions_made, AllTell}
 use Rattle.shared_cells.specs.declared.view.Naming.{Naming}
 use Rattle.shared_cells.specs.History.{StartsWith, entries_by, version_after}
 use Rattle.shared_cells.specs.Views.{number_of}

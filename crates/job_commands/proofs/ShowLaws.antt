@@ -7,8 +7,8 @@ use Rattle.pin_core.specs.declared.kept.CellAt.{CellAt}
 use Rattle.zone_answer.specs.Standing.{Shows, ShowsSome}
 use Rattle.job_model.specs.declared.Question.{Question}
 use Rattle.job_model.specs.Replies.{reply_of}
-use Rattle.job_script.specs.Outcomes.{Replies, ended_view}
-use Rattle.job_script.specs.declared.outcomes.Outcome.{Outcome}
+use Rattle.job_report.specs.Outcomes.{Replies, ended_view}
+use Rattle.job_report.specs.declared.outcomes.Outcome.{Outcome}
 use Rattle.shared_cells.specs.declared.view.PassView.{PassView}
 use Rattle.shared_cells.specs.declared.view.Progress.TheVariants as progress
 use Rattle.shared_cells.specs.Views.{number_of, is_told, with_pinned, with_progress}

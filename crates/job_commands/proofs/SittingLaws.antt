@@ -11,8 +11,8 @@ use Rattle.trie_model.specs.Shape.{nodes, keys_of}
 use Rattle.job_model.specs.Commands.{Command, MayCome}
 use Rattle.job_model.specs.Sizes.{node_count}
 use Rattle.job_model.specs.Outcomes.{Pair, AllAlong, all_pairs, asked_at, shown_in, times_made}
-use Rattle.job_script.specs.Outcomes.{pairs_of}
-use Rattle.job_script.specs.declared.outcomes.Outcome.{Outcome}
+use Rattle.job_report.specs.Outcomes.{pairs_of}
+use Rattle.job_report.specs.declared.outcomes.Outcome.{Outcome}
 use Rattle.shared_cells.specs.declared.view.Naming.{Naming}
 use Rattle.shared_cells.specs.History.{StartsWith, IsPartOf, entries_by, version_after}
 use Rattle.shared_cells.specs.Steps.{Accounts}

@@ -7,11 +7,11 @@ use Rattle.job_model.specs.declared.Ending.TheVariants.{Commit}
 use Rattle.job_model.specs.declared.Weight.{Weight}
 use Rattle.job_model.specs.declared.Question.{Question}
 use Rattle.job_model.specs.Commands.{Ask, Block, Compact}
-use Rattle.job_script.specs.Outcomes.{EndsBlock, EndsCompaction}
+use Rattle.job_report.specs.Outcomes.{EndsBlock, EndsCompaction}
 use Rattle.job_script.specs.Views.{command_view}
 use Rattle.job_script.specs.declared.commands.Command.{Command as Said}
-use Rattle.job_script.specs.declared.outcomes.Told.TheVariants.{Compacted}
-use Rattle.job_script.specs.declared.outcomes.Outcome.{Outcome}
+use Rattle.job_report.specs.declared.outcomes.Told.TheVariants.{Compacted}
+use Rattle.job_report.specs.declared.outcomes.Outcome.{Outcome}
 use Rattle.shared_cells.specs.Views.{is_told}
 use Rattle.qp_multi.specs.Passes.{known_at, first_version}
 use Rattle.job_commands.specs.Histories.{Setup}

@@ -13,10 +13,10 @@ use Rattle.job_model.specs.declared.Question.{Question}
 use Rattle.job_model.specs.Commands.{Command, Ask, Block, Compact, held_after}
 use Rattle.job_model.specs.Replies.{reply_of}
 use Rattle.job_model.specs.Outcomes.{Ended, Shown, Committed, RolledBack, Refused, is_committed, Sight, Shows, Causes, BlockEnds, EndsLawfully, shown_by, sight_after}
-use Rattle.job_script.specs.Outcomes.{ended_view, Replies, Tells, EndsBlock, EndsCompaction}
-use Rattle.job_script.specs.declared.outcomes.Told.{Told}
-use Rattle.job_script.specs.declared.outcomes.Told.TheVariants.{Compacted}
-use Rattle.job_script.specs.declared.outcomes.Outcome.{Outcome}
+use Rattle.job_report.specs.Outcomes.{ended_view, Replies, Tells, EndsBlock, EndsCompaction}
+use Rattle.job_report.specs.declared.outcomes.Told.{Told}
+use Rattle.job_report.specs.declared.outcomes.Told.TheVariants.{Compacted}
+use Rattle.job_report.specs.declared.outcomes.Outcome.{Outcome}
 use Rattle.shared_cells.specs.declared.view.PassView.{PassView}
 use Rattle.shared_cells.specs.History.{StartsWith, IsPartOf, version_after}
 use Rattle.shared_cells.specs.Views.{is_told, with_pinned}

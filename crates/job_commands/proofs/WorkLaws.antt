@@ -9,8 +9,8 @@ use Rattle.zone_model.specs.Names.{Name}
 use Rattle.zone_model.specs.Versions.{Version}
 use Rattle.job_model.specs.Commands.{Command, Ask, Hold, AskHeld, Release, Block, Compact, InTurn, MayCome, NeedsNoSnapshot}
 use Rattle.job_model.specs.Outcomes.{Setting, Pair, is_committed, made, asked_by, times_made, Sight, at_first, sight_after, EndsLawfully, Along, shown_by, shown_in}
-use Rattle.job_script.specs.Outcomes.{ended_view, outcome_view, pairs_of, Tells, EachTells}
-use Rattle.job_script.specs.declared.outcomes.Outcome.{Outcome as Told_outcome}
+use Rattle.job_report.specs.Outcomes.{ended_view, outcome_view, pairs_of, Tells, EachTells}
+use Rattle.job_report.specs.declared.outcomes.Outcome.{Outcome as Told_outcome}
 use Rattle.shared_cells.specs.declared.view.PassView.{PassView}
 use Rattle.shared_cells.specs.History.{StartsWith, entries_by, entry_of, version_after}
 use Rattle.shared_cells.specs.Views.{is_told}

@@ -2,7 +2,7 @@
 use Rattle.std.specs.Prelude.{◌≡◌, ◌≢◌, ◌⊎◌, ℕ, ◌+◌, Bool, true, false, List, [], ◌∷◌, ◌++◌, length, map, Some, Contains}
 use Rattle.std.specs.List.{AllByRecursion}
 use Rattle.job_model.specs.Commands.{Command}
-use Rattle.job_script.specs.declared.outcomes.Outcomes.{Outcomes}
+use Rattle.job_report.specs.declared.outcomes.Outcomes.{Outcomes}
 use Rattle.shared_cells.specs.declared.view.Naming.{Naming}
 use Rattle.shared_cells.specs.declared.view.PassView.{PassView}
 use Rattle.shared_cells.specs.History.{StartsWith, entries_by}

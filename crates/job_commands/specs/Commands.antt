@@ -11,8 +11,8 @@ use Rattle.job_model.specs.declared.Ending.TheVariants.{Commit, Rollback}
 use Rattle.job_model.specs.declared.Question.{Question}
 use Rattle.job_model.specs.Replies.{reply_of}
 use Rattle.job_model.specs.Outcomes.{Rule, Full, Causes, Ended, Shown, Committed, RolledBack, Refused}
-use Rattle.job_script.specs.Outcomes.{ended_view, Replies}
-use Rattle.job_script.specs.declared.outcomes.Outcome.{Outcome}
+use Rattle.job_report.specs.Outcomes.{ended_view, Replies}
+use Rattle.job_report.specs.declared.outcomes.Outcome.{Outcome}
 use Rattle.shared_cells.specs.declared.view.TableSize.{TableSize}
 use Rattle.shared_cells.specs.declared.view.PassView.{PassView}
 use Rattle.shared_cells.specs.declared.pass.PassSeat.{PassSeat}

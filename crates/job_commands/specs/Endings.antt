@@ -2,7 +2,7 @@
 use Rattle.std.specs.Prelude.{◌≡◌, ℕ, List, length}
 use Rattle.zone_model.specs.Versions.{Version}
 use Rattle.job_model.specs.Commands.{Command}
-use Rattle.job_script.specs.declared.outcomes.Outcomes.{Outcomes}
+use Rattle.job_report.specs.declared.outcomes.Outcomes.{Outcomes}
 use Rattle.shared_cells.specs.History.{IsPartOf}
 use Rattle.shared_cells.specs.Views.{with_pinned}
 use Rattle.trie_model.specs.Shape.{nodes, keys_of}

@@ -6,8 +6,9 @@ pub use Rattle.zone_answer.specs.Responses.{respond}
 pub use Rattle.job_model.specs.Outcomes.{Committed, Refused, Spent as NoNumber}
 pub use Rattle.job_model.specs.Replies.{found_text, reply_of, reply_text, response_text, size_text}
 pub use Rattle.job_model.specs.Sizes.{node_count}
-pub use Rattle.job_script.specs.Outcomes.{EndsBlock, EndsCompaction}
-pub use Rattle.job_script.specs.Prelude.{NeedsNoSnapshot, command_view, ended_view, rows_text}
+pub use Rattle.job_report.specs.Outcomes.{EndsBlock, EndsCompaction}
+pub use Rattle.job_report.specs.Prelude.{ended_view, rows_text}
+pub use Rattle.job_script.specs.Prelude.{NeedsNoSnapshot, command_view}
 pub use Rattle.job_script.specs.Views.{asked_view}
 pub use Rattle.report_laws.specs.Prelude.{AllAsked, AllSaid}
 pub use Rattle.trie_write.specs.Entries.{entries_of_items}

@@ -5,8 +5,8 @@ use Rattle.zone_model.specs.Versions.{Version}
 use Rattle.job_model.specs.Commands.{Command}
 use Rattle.job_model.specs.Sizes.{node_count}
 use Rattle.job_model.specs.Outcomes.{Lawful}
-use Rattle.job_script.specs.Outcomes.{job_pairs, versions_made, AllTell}
-use Rattle.job_script.specs.declared.outcomes.Outcomes.{Outcomes}
+use Rattle.job_report.specs.Outcomes.{job_pairs, versions_made, AllTell}
+use Rattle.job_report.specs.declared.outcomes.Outcomes.{Outcomes}
 
 -- The outcomes of a job, on an index of so many chunks and passes, are lawful and all that its report takes.
 pub record IsRun (chunks passes : ℕ) (origin : Name) (zone : Version) (workers : List (List Command)) (os : List Outcomes) (version names nodes : ℕ) : Type 0 where

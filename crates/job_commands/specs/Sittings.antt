@@ -4,8 +4,8 @@ use Rattle.zone_model.specs.Versions.{Version}
 use Rattle.job_model.specs.Commands.{Command}
 use Rattle.job_model.specs.Sizes.{node_count}
 use Rattle.job_model.specs.Outcomes.{Lawful, Pair, Sight, all_pairs, at_first, sight_after, version_at}
-use Rattle.job_script.specs.Outcomes.{EachTells, pairs_of}
-use Rattle.job_script.specs.declared.outcomes.Outcome.{Outcome}
+use Rattle.job_report.specs.Outcomes.{EachTells, pairs_of}
+use Rattle.job_report.specs.declared.outcomes.Outcome.{Outcome}
 use Rattle.job_commands.specs.declared.closing.Last.{Last}
 use Rattle.job_commands.specs.Histories.{Setup}
 use Rattle.job_commands.specs.Steps.{IsSight, IsUnder, Station}

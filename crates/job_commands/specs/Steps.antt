@@ -4,9 +4,9 @@ use Rattle.zone_model.specs.Versions.{Version}
 use Rattle.zone_model.specs.Transactions.{whole}
 use Rattle.job_model.specs.Commands.{Command, held_after}
 use Rattle.job_model.specs.Outcomes.{Sight, sight_after, is_committed, asked_by, shown_by, EndsLawfully}
-use Rattle.job_script.specs.Outcomes.{ended_view, Tells}
-use Rattle.job_script.specs.declared.outcomes.Told.TheVariants as told
-use Rattle.job_script.specs.declared.outcomes.Outcome.{Outcome}
+use Rattle.job_report.specs.Outcomes.{ended_view, Tells}
+use Rattle.job_report.specs.declared.outcomes.Told.TheVariants as told
+use Rattle.job_report.specs.declared.outcomes.Outcome.{Outcome}
 use Rattle.atomic_table.specs.Seated.{TableId}
 use Rattle.shared_cells.specs.declared.view.PassView.{PassView}
 use Rattle.shared_cells.specs.History.{StartsWith, IsPartOf, entries_by, entry_of, version_after}

@@ -3,8 +3,8 @@ use Rattle.std.specs.Prelude.{◌≡◌, ℕ, Bool, true, false}
 use Rattle.job_model.specs.declared.Weight.{Weight}
 use Rattle.job_model.specs.declared.Weight.TheVariants.{Light, Heavy}
 use Rattle.job_model.specs.Outcomes.{Committed}
-use Rattle.job_script.specs.Outcomes.{ended_view}
-use Rattle.job_script.specs.declared.outcomes.Outcome.{Outcome}
+use Rattle.job_report.specs.Outcomes.{ended_view}
+use Rattle.job_report.specs.declared.outcomes.Outcome.{Outcome}
 use Rattle.qp_multi.specs.declared.commit.Receipt.{Receipt}
 use Rattle.qp_multi.specs.declared.desk.Draft.{Draft}
 use Rattle.qp_multi.specs.Drafts.{Begins}

@@ -5,8 +5,8 @@ use Rattle.zone_model.specs.Versions.{Version}
 use Rattle.zone_model.specs.Transactions.{whole}
 use Rattle.job_model.specs.Commands.{Command}
 use Rattle.job_model.specs.Outcomes.{Pair, is_committed, asked_by, times_made, at_first, Along, shown_in}
-use Rattle.job_script.specs.Outcomes.{pairs_of, EachTells}
-use Rattle.job_script.specs.declared.outcomes.Outcome.{Outcome}
+use Rattle.job_report.specs.Outcomes.{pairs_of, EachTells}
+use Rattle.job_report.specs.declared.outcomes.Outcome.{Outcome}
 use Rattle.shared_cells.specs.declared.view.PassView.{PassView}
 use Rattle.shared_cells.specs.History.{StartsWith, entries_by}
 use Rattle.qp_multi.specs.declared.meaning.Operation.{Operation}

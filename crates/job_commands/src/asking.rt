@@ -7,7 +7,7 @@ use crate::replying::reply_text;
 use crate::room::Room;
 use dns_name::Name;
 use job_model::Question;
-use job_script::{Outcome, Told};
+use job_report::{Outcome, Told};
 use qp_multi::{Index, Named, Pass};
 use std::alloc::{AllocError, Global};
 use trie_read::Reading;

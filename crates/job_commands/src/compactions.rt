@@ -4,7 +4,7 @@ ghost use Rattle.job_commands.specs.Prelude.{Committed, Refused, NoNumber, ended
 ghost use Rattle.job_commands.specs.Prelude.{CompactionRan, MovedAt, known_at};
 
 use crate::law::ZoneLaw;
-use job_script::{Cause, Outcome, Told};
+use job_report::{Cause, Outcome, Told};
 use qp_multi::{Index, Named, Pass, Receipt, Spent};
 use std::sync::Wait;
 

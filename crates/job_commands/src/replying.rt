@@ -6,7 +6,7 @@ ghost use Rattle.job_commands.specs.Prelude.{found_text, reply_of, reply_text, r
 use crate::room::Room;
 use dns_name::Name;
 use job_model::Question;
-use job_script::{
+use job_report::{
     PrintedRows, push_answer, push_found, push_list, push_response, push_rows, push_size,
 };
 use std::alloc::{AllocError, Global};

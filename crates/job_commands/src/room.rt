@@ -1,6 +1,6 @@
 //! What a worker needs beside its passes.
 
-use job_script::PrintedRows;
+use job_report::PrintedRows;
 use std::alloc::{AllocError, Global};
 use zone_answer::{Scratch, Sections};
 use zone_edit::ItemBuffers;

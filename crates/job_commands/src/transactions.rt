@@ -6,7 +6,8 @@ ghost use Rattle.job_commands.specs.Prelude.{Edited, IsOfTheSame, WorksOnSome, S
 use crate::law::ZoneLaw;
 use dns_name::Name;
 use job_model::{Ending, Weight};
-use job_script::{Block, Cause, Outcome, Told};
+use job_report::{Cause, Outcome, Told};
+use job_script::Block;
 use qp_multi::{
     Heavy, Index, Kind, Light, Locked, Named, Pass, Receipt, Spent, Transaction, Versions,
 };

@@ -2,12 +2,14 @@
 ghost use Rattle.std.specs.Prelude.{◌≡◌, ◌+◌, ◌++◌, OnOk, IfOk, length};
 ghost use Rattle.job_model.specs.Reports.{end_text, report};
 ghost use Rattle.job_report.specs.Pieces.{pieces_text};
-ghost use Rattle.job_script.specs.Outcomes.{told_text, outcome_text, outcomes_text, all_text, AllTell, job_pairs, versions_made};
-ghost use Rattle.job_script.specs.Feeds.{fed_outcomes_text};
+ghost use Rattle.job_report.specs.Outcomes.{told_text, outcome_text, outcomes_text, all_text, AllTell, job_pairs, versions_made};
+ghost use Rattle.job_report.specs.Feeds.{fed_outcomes_text};
 ghost use Rattle.job_script.specs.Views.{job_view};
 
+use crate::lines::{push_end, push_head, push_told};
+use crate::outcomes::{FedOutcome, Outcome, Outcomes, Told};
 use crate::pieces::Pieces;
-use job_script::{FedOutcome, Job, Outcome, Outcomes, Told, push_end, push_head, push_told};
+use job_script::Job;
 use master_file::Zone;
 use std::alloc::{AllocError, Global};
 

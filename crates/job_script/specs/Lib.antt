@@ -3,9 +3,5 @@ pub mod Phrases
 pub mod Views
 pub mod Parts
 pub mod Scripts
-pub mod Outcomes
-pub mod Feeds
 pub mod Spelled
-pub mod Summaries
-pub mod Printed
 pub mod Prelude

@@ -1,6 +1,6 @@
 //! Four workers that put in the same names, each only where nobody has.
 use crate::runs::outcomes_of;
-use job_script::{Cause, Outcomes, Told};
+use job_report::{Cause, Outcomes, Told};
 use std::alloc::{AllocError, Global};
 use std::test::Fail;
 use zone_model::Refusal;

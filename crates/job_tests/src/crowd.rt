@@ -1,6 +1,6 @@
 //! Sixteen workers beside each other on a table that is too small for all that they write.
 use crate::runs::outcomes_of;
-use job_script::{Cause, Outcome, Told};
+use job_report::{Cause, Outcome, Told};
 use std::alloc::{AllocError, Global};
 use std::process::Abort;
 use std::test::Fail;

@@ -4,8 +4,8 @@ use Rattle.trie_model.specs.Keys as trie
 use Rattle.job_model.specs.declared.Question.{Question}
 use Rattle.job_model.specs.Commands.{Hold, AskHeld, Release}
 use Rattle.job_model.specs.Outcomes.{Shown, is_committed, Sight}
-use Rattle.job_script.specs.Outcomes.{ended_view}
-use Rattle.job_script.specs.declared.outcomes.Outcome.{Outcome}
+use Rattle.job_report.specs.Outcomes.{ended_view}
+use Rattle.job_report.specs.declared.outcomes.Outcome.{Outcome}
 use Rattle.shared_cells.specs.declared.pinned.PinnedSeat.{PinnedSeat}
 use Rattle.shared_cells.specs.History.{StartsWith, IsPartOf}
 use Rattle.shared_cells.specs.Views.{is_told, pinned_image, pinned_version, pinned_root}

@@ -4,7 +4,7 @@ use Rattle.std.specs.Prelude.{IsSome}
 use Rattle.std.specs.Option.{option_map}
 use Rattle.job_model.specs.declared.Question.{Question}
 use Rattle.job_model.specs.Commands.{Hold, AskHeld, Release}
-use Rattle.job_script.specs.declared.outcomes.Outcome.{Outcome}
+use Rattle.job_report.specs.declared.outcomes.Outcome.{Outcome}
 use Rattle.qp_multi.specs.Passes.{known_at, first_version}
 use Rattle.job_commands.specs.Histories.{Setup}
 use Rattle.job_commands.specs.Commands.{Seat}

@@ -6,9 +6,9 @@ use Rattle.trie_model.specs.Keys as trie
 use Rattle.job_model.specs.declared.Question.{Question}
 use Rattle.job_model.specs.Replies.{reply_of}
 use Rattle.job_model.specs.Outcomes.{Shown}
-use Rattle.job_script.specs.Outcomes.{ended_view, Replies}
-use Rattle.job_script.specs.declared.outcomes.Told.TheVariants as told
-use Rattle.job_script.specs.declared.outcomes.Outcome.{Outcome}
+use Rattle.job_report.specs.Outcomes.{ended_view, Replies}
+use Rattle.job_report.specs.declared.outcomes.Told.TheVariants as told
+use Rattle.job_report.specs.declared.outcomes.Outcome.{Outcome}
 use Rattle.shared_cells.specs.declared.view.Progress.TheVariants as progress
 use Rattle.shared_cells.specs.declared.pinned.PinnedSeat.{PinnedSeat}
 use Rattle.shared_cells.specs.History.{IsPartOf}

@@ -5,7 +5,7 @@ ghost use Rattle.job_threads.specs.Prelude.{known_at, IsHeld, Held, AskedHeld, R
 use dns_name::Name;
 use job_commands::{Room, ZoneLaw, reply_text};
 use job_model::Question;
-use job_script::{Outcome, Told};
+use job_report::{Outcome, Told};
 use qp_multi::{Index, Named, Pass, Snapshot};
 use std::alloc::{AllocError, Global};
 use trie_read::Reading;

@@ -7,7 +7,7 @@ use crate::holding::{ask_held, hold, release};
 use dns_name::Name;
 use job_commands::{Room, ZoneLaw};
 use job_model::Question;
-use job_script::Outcome;
+use job_report::Outcome;
 use qp_multi::{Index, Named, Pass, Snapshot};
 use std::alloc::{AllocError, Global};
 

@@ -8,7 +8,8 @@ use crate::passes::{Passes, ask_snapshot, give_back, second_pass, take_snapshot}
 use crew::Turnstile;
 use dns_name::Name;
 use job_commands::{Gate, Room, ZoneLaw, run_alone};
-use job_script::{Command, Outcome, Outcomes};
+use job_report::{Outcome, Outcomes};
+use job_script::Command;
 use qp_multi::{Index, Named, Pass};
 use std::alloc::{AllocError, Global};
 use std::sync::Wait;

@@ -5,8 +5,8 @@ use Rattle.zone_model.specs.Names.{Name}
 use Rattle.job_model.specs.Commands.{Command}
 use Rattle.job_model.specs.Feeds.{passes_fed}
 use Rattle.job_model.specs.Outcomes.{Lawful, Pair, all_pairs, version_at}
-use Rattle.job_script.specs.Outcomes.{EachTells, pairs_of}
-use Rattle.job_script.specs.declared.outcomes.Outcome.{Outcome}
+use Rattle.job_report.specs.Outcomes.{EachTells, pairs_of}
+use Rattle.job_report.specs.declared.outcomes.Outcome.{Outcome}
 use Rattle.shared_cells.specs.declared.view.TableSize.{TableSize}
 use Rattle.job_commands.specs.Commands.{IsIndex}
 use Rattle.job_commands.specs.Histories.{Setup}

@@ -5,7 +5,7 @@ use Rattle.zone_model.specs.Names.{Name}
 use Rattle.zone_answer.specs.Standing.{trie_entry}
 use Rattle.job_model.specs.Commands.{Command}
 use Rattle.job_model.specs.Sizes.{cell_count}
-use Rattle.job_script.specs.declared.outcomes.Outcome.{Outcome}
+use Rattle.job_report.specs.declared.outcomes.Outcome.{Outcome}
 use Rattle.job_commands.specs.Histories.{Entries, StandsAs}
 use Rattle.outer_io.specs.Bytes.{Held}
 use Rattle.qp_multi.specs.Openings.{room_in}

@@ -2,7 +2,8 @@
 
 use dns_name::Name;
 use job_commands::{Room, ZoneLaw};
-use job_script::{Command, Outcome};
+use job_report::Outcome;
+use job_script::Command;
 use job_threads::{Passes, measure_last, run_next, tell_all};
 use qp_multi::{Index, Named};
 use session_talk::{LastVersion, Worker};

@@ -11,7 +11,7 @@ use Rattle.job_model.specs.Loads.{Load, made_text}
 use Rattle.job_model.specs.declared.ScriptKind.{ScriptKind}
 use Rattle.command_line.specs.Invocations.{Invocation, Verb, Make}
 use Rattle.job_commands.specs.Calls.{AllHeard, Call, IsHeard}
-use Rattle.job_script.specs.declared.outcomes.FedOutcome.{FedOutcome}
+use Rattle.job_report.specs.declared.outcomes.FedOutcome.{FedOutcome}
 use Rattle.feed_threads.specs.Feeds.{AllFedHeard, EachHeard}
 use Rattle.job_report.specs.declared.pieces.Pieces.{Pieces}
 use Rattle.qp_main.specs.Due.{IsAnswerDue, IsWritten, input_of}

@@ -14,14 +14,14 @@ use Rattle.job_model.specs.Feeds.{by_worker, pairs_by, passes_fed}
 use Rattle.job_model.proofs.FeedLaws.{workers_fed}
 use Rattle.job_script.specs.Parts.{IsCutAt}
 use Rattle.job_script.specs.declared.parts.Parts.{Parts}
-use Rattle.job_script.specs.Outcomes.{ended_view, job_pairs, versions_made}
-use Rattle.job_script.specs.declared.outcomes.Outcome.{Outcome}
-use Rattle.job_script.specs.declared.outcomes.Outcomes.{Outcomes}
-use Rattle.job_script.specs.Feeds.{fed_outcomes_text, fed_pairs}
-use Rattle.job_script.specs.declared.outcomes.FedOutcome.{FedOutcome}
-use Rattle.job_script.proofs.FeedLemmas.{fed_refused, fed_reported, fed_same}
-use Rattle.job_script.proofs.ReportLemmas.{reported, refused_told, workers_same}
-use Rattle.job_script.proofs.SummaryLemmas.{summed_up}
+use Rattle.job_report.specs.Outcomes.{ended_view, job_pairs, versions_made}
+use Rattle.job_report.specs.declared.outcomes.Outcome.{Outcome}
+use Rattle.job_report.specs.declared.outcomes.Outcomes.{Outcomes}
+use Rattle.job_report.specs.Feeds.{fed_outcomes_text, fed_pairs}
+use Rattle.job_report.specs.declared.outcomes.FedOutcome.{FedOutcome}
+use Rattle.job_report.proofs.FeedLemmas.{fed_refused, fed_reported, fed_same}
+use Rattle.job_report.proofs.ReportLemmas.{reported, refused_told, workers_same}
+use Rattle.job_report.proofs.SummaryLemmas.{summed_up}
 use Rattle.need_laws.specs.Bounds.{IsSaidJob, IsSaidList}
 use Rattle.need_laws.proofs.ListLaws.{list_room}
 use Rattle.need_laws.proofs.RoomLaws.{sized_room}

@@ -5,8 +5,8 @@ use Rattle.zone_model.specs.Versions.{Version}
 use Rattle.job_model.specs.Outcomes.{Pair}
 use Rattle.job_model.specs.Reports.{end_text, report}
 use Rattle.job_model.specs.Summaries.{summary}
-use Rattle.job_script.specs.Outcomes.{all_text}
-use Rattle.job_script.specs.Summaries.{summary_text}
+use Rattle.job_report.specs.Outcomes.{all_text}
+use Rattle.job_report.specs.Summaries.{summary_text}
 use Rattle.job_threads.specs.declared.job.Finished.{Finished}
 use Rattle.qp_main.specs.declared.run_report.Telling.{Telling}
 use Rattle.qp_main.specs.declared.run_report.Telling.TheVariants.{Report, Summary}

@@ -4,8 +4,7 @@ ghost use Rattle.qp_main.specs.Prelude.{pieces_text, zone_kind_text, script_kind
 
 use crate::line::{Line, refusal_line};
 use job_model::ScriptKind;
-use job_report::Pieces;
-use job_script::push_pair;
+use job_report::{Pieces, push_pair};
 use std::alloc::{AllocError, Global};
 use zone_model::ZoneKind;
 

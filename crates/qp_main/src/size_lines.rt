@@ -2,8 +2,7 @@
 ghost use Rattle.std.specs.Prelude.{◌≡◌, ◌++◌, OnOk, IfOk, codes};
 ghost use Rattle.qp_main.specs.Prelude.{size_text, pieces_text, chunks_text, needs_text};
 
-use job_report::Pieces;
-use job_script::{push_pair, push_size};
+use job_report::{Pieces, push_pair, push_size};
 use std::alloc::{AllocError, Global};
 use zone_text::push_decimal;
 

@@ -8,7 +8,7 @@ pub use Rattle.job_model.specs.Commands.{Command as Asked}
 pub use Rattle.job_model.specs.Reports.{end_text}
 pub use Rattle.job_model.specs.Sessions.{Session as State}
 pub use Rattle.job_model.specs.Sessions.{completed, held_by, ends_block, first_session, given_up_text, is_last_word, left_open, passed_over, ready_text, refused_in, refused_line_text, script_at, script_kind_text, session_line, went_on}
-pub use Rattle.job_script.specs.Outcomes.{outcome_text}
+pub use Rattle.job_report.specs.Outcomes.{outcome_text}
 pub use Rattle.job_script.specs.Scripts.{script_view}
 pub use Rattle.job_script.specs.Views.{command_view}
 pub use Rattle.session_lines.specs.Taking.{IsUnbroken, line_end}

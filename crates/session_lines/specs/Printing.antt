@@ -4,8 +4,8 @@ use Rattle.job_model.specs.Commands.{Command}
 use Rattle.job_model.specs.Outcomes.{Sight, at_first, is_refused, sight_after}
 use Rattle.job_model.specs.Sessions.{given_up_text, refused_line_text}
 use Rattle.job_model.specs.declared.ScriptKind.{ScriptKind}
-use Rattle.job_script.specs.Outcomes.{ended_view, outcome_text}
-use Rattle.job_script.specs.declared.outcomes.Outcome.{Outcome}
+use Rattle.job_report.specs.Outcomes.{ended_view, outcome_text}
+use Rattle.job_report.specs.declared.outcomes.Outcome.{Outcome}
 use Rattle.session_lines.specs.declared.replies.Replies.{Replies}
 
 -- the text that is still to be written, the number of the next command, the version that was seen or made last, and whether anything

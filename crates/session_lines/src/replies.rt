@@ -5,7 +5,8 @@ ghost use Rattle.session_lines.specs.Printing.{printing, with_given_up, with_ran
 
 use crate::kinds::script_kind_name;
 use job_model::ScriptKind;
-use job_script::{Command, Outcome, is_refused, push_end, push_head, push_told};
+use job_report::{Outcome, is_refused, push_end, push_head, push_told};
+use job_script::Command;
 use std::alloc::{AllocError, Global};
 use zone_text::push_decimal;
 

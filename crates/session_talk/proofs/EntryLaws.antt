@@ -3,8 +3,8 @@ use Rattle.std.proofs.Common.{◌≡◌, ◌∙◌, ℕ, List, [], ◌∷◌, �
 use Rattle.std.specs.Prelude.{OnOk}
 use Rattle.job_model.specs.Commands.{Command}
 use Rattle.job_model.specs.Sessions.{Said, Runs, Refuses, GivesUp, given_up_text, refused_line_text}
-use Rattle.job_script.specs.Outcomes.{outcome_text}
-use Rattle.job_script.specs.declared.outcomes.Outcome.{Outcome}
+use Rattle.job_report.specs.Outcomes.{outcome_text}
+use Rattle.job_report.specs.declared.outcomes.Outcome.{Outcome}
 use Rattle.session_lines.specs.Printing.{Printing, with_given_up, with_ran, with_refused}
 use Rattle.session_talk.specs.Entries.{Entry, Came, Refused, Gave, Ran, Replied, commands_in, outcomes_in, said_in, with_entries, with_entry}
 

@@ -14,7 +14,7 @@ use Rattle.zone_model.specs.Names.{Name}
 use Rattle.job_model.specs.Commands.{Command}
 use Rattle.job_model.specs.Reports.{end_text}
 use Rattle.job_model.specs.Sessions.{Said, Session, Step, all_said, first_session, left_open, session_lines}
-use Rattle.job_script.specs.declared.outcomes.Outcome.{Outcome}
+use Rattle.job_report.specs.declared.outcomes.Outcome.{Outcome}
 use Rattle.outer_io.specs.Bytes.{Grows, GrowsByFront, Held}
 use Rattle.outer_io.proofs.GrowsLemmas.{Grows-nil, Grows-trans}
 use Rattle.std.proofs.Common.{Result, Ok, Err}

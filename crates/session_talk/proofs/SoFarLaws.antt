@@ -5,7 +5,7 @@ use Rattle.zone_model.specs.Names.{Name, IsName}
 use Rattle.zone_model.specs.Lines.{lines_of}
 use Rattle.job_model.specs.Commands.{Command}
 use Rattle.job_model.specs.Sessions.{Said, Session, Step, first_session, session_line, session_lines, step_of}
-use Rattle.job_script.specs.declared.outcomes.Outcome.{Outcome}
+use Rattle.job_report.specs.declared.outcomes.Outcome.{Outcome}
 use Rattle.report_laws.specs.Changes.{IsBlock}
 use Rattle.report_laws.specs.Octets.{AllOctets}
 use Rattle.session_lines.specs.Printing.{Printing}

@@ -4,7 +4,7 @@ use Rattle.zone_model.specs.Lines.{lines_of}
 use Rattle.zone_model.specs.Names.{Name, IsName}
 use Rattle.job_model.specs.Commands.{Command}
 use Rattle.job_model.specs.Sessions.{Answered, Ended, Session, all_said, first_session, session_lines}
-use Rattle.job_script.specs.declared.outcomes.Outcome.{Outcome}
+use Rattle.job_report.specs.declared.outcomes.Outcome.{Outcome}
 use Rattle.outer_io.specs.Bytes.{Held}
 use Rattle.report_laws.specs.Changes.{IsBlock}
 use Rattle.session_lines.specs.Printing.{Printing}

@@ -5,8 +5,8 @@ use Rattle.job_model.specs.declared.ScriptKind.{ScriptKind}
 use Rattle.job_model.specs.Commands.{Command}
 use Rattle.job_model.specs.Sessions as sessions
 use Rattle.job_model.specs.Sessions.{Said, Reply, ready_text}
-use Rattle.job_script.specs.Outcomes.{outcome_view}
-use Rattle.job_script.specs.declared.outcomes.Outcome.{Outcome}
+use Rattle.job_report.specs.Outcomes.{outcome_view}
+use Rattle.job_report.specs.declared.outcomes.Outcome.{Outcome}
 use Rattle.session_lines.specs.Printing.{Printing, with_given_up, with_ran, with_refused}
 
 -- a command came to an outcome; a line was refused; a transaction was given up

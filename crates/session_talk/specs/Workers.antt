@@ -5,8 +5,8 @@ use Rattle.zone_model.specs.Versions.{Version}
 use Rattle.job_model.specs.Commands.{Command}
 use Rattle.job_model.specs.Feeds.{passes_fed}
 use Rattle.job_model.specs.Outcomes.{Lawful, all_pairs, version_at}
-use Rattle.job_script.specs.Outcomes.{EachTells, pairs_of}
-use Rattle.job_script.specs.declared.outcomes.Outcome.{Outcome}
+use Rattle.job_report.specs.Outcomes.{EachTells, pairs_of}
+use Rattle.job_report.specs.declared.outcomes.Outcome.{Outcome}
 use Rattle.session_talk.specs.declared.worker.LastVersion.{LastVersion}
 
 -- how many chunks an index has, the zone's origin, and version 0

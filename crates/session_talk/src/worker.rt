@@ -3,7 +3,8 @@ ghost use Rattle.std.specs.Prelude.{◌≡◌, ◌++◌, ◌∷◌, [], ℕ, Boo
 ghost use Rattle.session_talk.specs.Prelude.{AllAsked, Command as Asked, Labels, MayCome, command_view, held_after};
 ghost use Rattle.session_talk.specs.Workers.{ComesTo, EndsAt, Opened};
 
-use job_script::{Command, Outcome};
+use job_report::Outcome;
+use job_script::Command;
 use std::alloc::AllocError;
 
 /// The last version, and how many names it has.
@@ -15,7 +16,7 @@ pub struct LastVersion {
 
 /// One worker alone at the index of a zone, who runs commands one by one.
 pub trait Worker: Drop {
-    ghost use Rattle.job_script.specs.declared.outcomes.Outcome.{Outcome as Ran};
+    ghost use Rattle.job_report.specs.declared.outcomes.Outcome.{Outcome as Ran};
 
     /// The zone's origin.
     ghost origin: { Self → Labels };

@@ -7,8 +7,8 @@ use Rattle.zone_model.specs.Transactions.{Transaction}
 use Rattle.job_model.specs.declared.Ending.{Ending}
 use Rattle.job_model.specs.declared.Ending.TheVariants as ending
 use Rattle.job_model.specs.Outcomes.{Ended, Committed, RolledBack, Refused, Rule, Full, Spent}
-use Rattle.job_script.specs.Outcomes.{ended_view}
-use Rattle.job_script.specs.declared.outcomes.Outcome.{Outcome}
+use Rattle.job_report.specs.Outcomes.{ended_view}
+use Rattle.job_report.specs.declared.outcomes.Outcome.{Outcome}
 use Rattle.qp_multi.specs.Passes.{Known}
 use Rattle.job_commands.specs.Histories.{Setup}
 use Rattle.job_commands.specs.Commands.{BlockRan, BlockWants, Transacts}

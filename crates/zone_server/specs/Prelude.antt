@@ -6,7 +6,7 @@ pub use Rattle.zone_model.specs.MasterFile.{zone_of}
 pub use Rattle.zone_model.specs.Names.{Name, same_name}
 pub use Rattle.zone_text.specs.Views.{Reads}
 pub use Rattle.job_model.specs.Outcomes.{RolledBack}
-pub use Rattle.job_script.specs.Outcomes.{EndsBlock, ended_view}
+pub use Rattle.job_report.specs.Outcomes.{EndsBlock, ended_view}
 pub use Rattle.job_script.specs.Views.{asked_view}
 pub use Rattle.report_laws.specs.Changes.{AllSaid, IsSaid}
 pub use Rattle.shared_cells.specs.History.{IsPartOf}

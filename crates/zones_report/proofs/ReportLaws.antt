@@ -16,9 +16,9 @@ use Rattle.job_model.specs.declared.Question.TheVariants as question
 use Rattle.job_model.specs.declared.Weight.{Weight}
 use Rattle.job_model.specs.Replies as replies
 use Rattle.job_model.specs.Reports.{ended_text}
-use Rattle.job_script.specs.Outcomes.{ended_view, told_text}
-use Rattle.job_script.specs.declared.outcomes.Outcome.{Outcome}
-use Rattle.job_script.proofs.ReportLemmas.{command_told}
+use Rattle.job_report.specs.Outcomes.{ended_view, told_text}
+use Rattle.job_report.specs.declared.outcomes.Outcome.{Outcome}
+use Rattle.job_report.proofs.ReportLemmas.{command_told}
 use Rattle.zones_model.specs.Commands.{Command, Get, Block, Attach, Detach, origins_of}
 use Rattle.zones_model.specs.Outcomes as outcomes
 use Rattle.zones_model.specs.Outcomes.{all_done, attached_at, command_of}

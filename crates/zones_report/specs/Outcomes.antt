@@ -3,7 +3,7 @@ use Rattle.std.specs.Prelude.{◌≡◌, Bool, false, List, [], ◌∷◌, Optio
 use Rattle.std.specs.List.{list_any}
 use Rattle.std.specs.Option.{option_map}
 use Rattle.job_model.specs.Outcomes.{Shown, is_refused}
-use Rattle.job_script.specs.Outcomes.{ended_view, outcome_view}
+use Rattle.job_report.specs.Outcomes.{ended_view, outcome_view}
 use Rattle.zones_model.specs.Commands as model
 use Rattle.zones_model.specs.Outcomes as outcomes
 use Rattle.zones_report.specs.declared.outcomes.Answer.{Answer}

@@ -5,7 +5,7 @@ use Rattle.zone_model.specs.Versions.{Version}
 use Rattle.zone_model.specs.MasterFile.{Zone}
 use Rattle.job_model.specs.declared.Question.TheVariants as question
 use Rattle.job_model.specs.Replies.{reply_of}
-use Rattle.job_script.specs.Outcomes.{EndsBlock, Replies}
+use Rattle.job_report.specs.Outcomes.{EndsBlock, Replies}
 use Rattle.zones_model.specs.Commands as model
 use Rattle.zones_model.specs.Commands.{origins_of}
 use Rattle.zones_model.specs.Outcomes.{Last, all_done, attached_at}

@@ -4,8 +4,8 @@ use Rattle.std.specs.Fmt.{decimal}
 use Rattle.std.specs.BTreeMap.{insert_entry}
 use Rattle.zone_model.specs.Names.{Name, name_cmp}
 use Rattle.zone_model.specs.NameText.{text_of}
-use Rattle.job_script.specs.Outcomes.{told_text}
-use Rattle.job_script.specs.declared.outcomes.Outcome.{Outcome}
+use Rattle.job_report.specs.Outcomes.{told_text}
+use Rattle.job_report.specs.declared.outcomes.Outcome.{Outcome}
 use Rattle.zones_model.specs.Reports.{change_text, ends_text, table_end, table_head}
 use Rattle.zones_report.specs.declared.outcomes.Answer.{Answer}
 use Rattle.zones_report.specs.declared.outcomes.Done.{Done}

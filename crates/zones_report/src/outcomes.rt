@@ -3,7 +3,7 @@ ghost use Rattle.std.specs.Prelude.{◌≡◌};
 ghost use Rattle.std.specs.List.{list_any};
 ghost use Rattle.zones_report.specs.Outcomes.{all_refused, was_refused};
 
-use job_script::{Outcome, is_refused};
+use job_report::{Outcome, is_refused};
 use zones_model::TableCause;
 
 /// What a zone answered: its number, the version that was asked, and the text of the answer.

@@ -6,8 +6,7 @@ ghost use Rattle.zones_report.specs.Texts.{all_text, answer_text, done_text, don
 
 use crate::outcomes::{Answer, Done, DoneList, ZonesFinished};
 use dns_name::Name;
-use job_report::{Pieces, append_told};
-use job_script::{Outcome, push_pair};
+use job_report::{Outcome, Pieces, append_told, push_pair};
 use std::alloc::{AllocError, Global};
 use std::collections::BTreeMap;
 use zone_text::push_decimal;

@@ -10,8 +10,8 @@ use Rattle.zone_model.specs.Names.{Name}
 use Rattle.job_model.specs.Commands as jobs
 use Rattle.job_model.specs.declared.Question.{Question}
 use Rattle.job_model.specs.declared.Question.TheVariants as question
-use Rattle.job_script.specs.declared.outcomes.Outcome.{Outcome}
-use Rattle.job_script.specs.declared.outcomes.Outcomes.{Outcomes}
+use Rattle.job_report.specs.declared.outcomes.Outcome.{Outcome}
+use Rattle.job_report.specs.declared.outcomes.Outcomes.{Outcomes}
 use Rattle.shared_cells.specs.declared.view.TableSize.{TableSize}
 use Rattle.shared_cells.specs.History.{StartsWith}
 use Rattle.shared_cells.specs.Views.{number_of, is_told}

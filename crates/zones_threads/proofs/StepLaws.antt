@@ -10,8 +10,8 @@ use Rattle.job_model.specs.declared.Ending.{Ending}
 use Rattle.job_model.specs.declared.Weight.{Weight}
 use Rattle.job_model.specs.declared.Question.{Question}
 use Rattle.job_model.specs.Commands.{Ask, Block}
-use Rattle.job_script.specs.Outcomes.{EndsBlock}
-use Rattle.job_script.specs.declared.outcomes.Outcome.{Outcome}
+use Rattle.job_report.specs.Outcomes.{EndsBlock}
+use Rattle.job_report.specs.declared.outcomes.Outcome.{Outcome}
 use Rattle.shared_cells.specs.Views.{is_told}
 use Rattle.shared_cells.specs.declared.view.PassView.{PassView}
 use Rattle.qp_multi.specs.declared.meaning.Named.{Ghosts}

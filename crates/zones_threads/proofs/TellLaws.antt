@@ -9,9 +9,9 @@ use Rattle.zone_model.specs.Names.{Name}
 use Rattle.zone_model.specs.Versions.{Version}
 use Rattle.job_model.specs.Commands as jobs
 use Rattle.job_model.specs.declared.Question.TheVariants as question
-use Rattle.job_script.specs.Outcomes.{AllTell, EachTells}
-use Rattle.job_script.specs.declared.outcomes.Outcome.{Outcome}
-use Rattle.job_script.specs.declared.outcomes.Outcomes.{Outcomes}
+use Rattle.job_report.specs.Outcomes.{AllTell, EachTells}
+use Rattle.job_report.specs.declared.outcomes.Outcome.{Outcome}
+use Rattle.job_report.specs.declared.outcomes.Outcomes.{Outcomes}
 use Rattle.zones_model.specs.Commands as model
 use Rattle.zones_model.specs.Commands.{Command, origins_of}
 use Rattle.zones_model.specs.Outcomes as model_outcomes

@@ -7,7 +7,7 @@ use Rattle.zone_model.specs.Names.{Name}
 use Rattle.job_model.specs.Commands as jobs
 use Rattle.job_model.specs.declared.Question.TheVariants as question
 use Rattle.job_model.specs.Commands.{NeedsNoSnapshot}
-use Rattle.job_script.specs.declared.outcomes.Outcome.{Outcome}
+use Rattle.job_report.specs.declared.outcomes.Outcome.{Outcome}
 use Rattle.shared_cells.specs.Views.{is_told}
 use Rattle.shared_cells.specs.History.{IsPartOf}
 use Rattle.qp_multi.specs.declared.meaning.Named.{Ghosts}

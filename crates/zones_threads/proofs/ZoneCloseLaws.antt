@@ -9,9 +9,9 @@ use Rattle.job_model.specs.Commands as jobs
 use Rattle.job_model.specs.declared.Question.TheVariants as question
 use Rattle.job_model.specs.Outcomes as one
 use Rattle.job_model.specs.Outcomes.{Pair, Ended, Lawful}
-use Rattle.job_script.specs.Outcomes.{outcome_view, pairs_of, job_pairs}
-use Rattle.job_script.specs.declared.outcomes.Outcome.{Outcome}
-use Rattle.job_script.specs.declared.outcomes.Outcomes.{Outcomes}
+use Rattle.job_report.specs.Outcomes.{outcome_view, pairs_of, job_pairs}
+use Rattle.job_report.specs.declared.outcomes.Outcome.{Outcome}
+use Rattle.job_report.specs.declared.outcomes.Outcomes.{Outcomes}
 use Rattle.job_commands.specs.Runs.{IsRun}
 use Rattle.zones_model.specs.Commands as model
 use Rattle.zones_model.specs.Commands.{Command}

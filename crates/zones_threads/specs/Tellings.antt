@@ -5,7 +5,7 @@ use Rattle.zone_model.specs.Names.{Name}
 use Rattle.zone_model.specs.Versions.{Version}
 use Rattle.job_model.specs.declared.Question.TheVariants as question
 use Rattle.job_model.specs.Replies.{reply_of}
-use Rattle.job_script.specs.Outcomes.{EachTells, EndsBlock, Replies}
+use Rattle.job_report.specs.Outcomes.{EachTells, EndsBlock, Replies}
 use Rattle.zones_model.specs.Commands.{Command, Get, Block}
 use Rattle.zones_model.specs.Reports.{no_zone}
 use Rattle.zones_report.specs.declared.outcomes.Answer.{Answer}

@@ -5,9 +5,9 @@ use Rattle.job_model.specs.Commands as jobs
 use Rattle.job_model.specs.declared.Question.{Question}
 use Rattle.job_model.specs.declared.Question.TheVariants as question
 use Rattle.job_model.specs.Outcomes.{Shown}
-use Rattle.job_script.specs.Outcomes.{ended_view, outcome_view}
+use Rattle.job_report.specs.Outcomes.{ended_view, outcome_view}
 use Rattle.job_script.specs.Views.{asked_view}
-use Rattle.job_script.specs.declared.outcomes.Outcome.{Outcome}
+use Rattle.job_report.specs.declared.outcomes.Outcome.{Outcome}
 use Rattle.zones_model.specs.Commands as model
 use Rattle.zones_script.specs.Views.{worker_view}
 use Rattle.zones_model.specs.Outcomes as model_outcomes

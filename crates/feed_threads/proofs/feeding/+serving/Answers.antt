@@ -1,7 +1,7 @@
 use Rattle.std.proofs.Common.{rules, ◌≡◌, ◌∷◌, length, map, ap, sym, subst}
 use Rattle.std.specs.Prelude.{IsSome}
 use Rattle.job_script.specs.Views.{command_view}
-use Rattle.job_script.proofs.ReportLemmas.{if_ok}
+use Rattle.job_report.proofs.ReportLemmas.{if_ok}
 use Rattle.feed_core.specs.Feeds.{Takings, new_seat}
 use Rattle.qp_multi.specs.Passes.{known_at}
 use Rattle.job_commands.specs.Commands.{OpensAt}

@@ -1,6 +1,6 @@
 use Rattle.std.proofs.Common.{sym, subst}
 use Rattle.job_script.specs.Views.{asked_view}
-use Rattle.job_script.proofs.ReportLemmas.{if_ok}
+use Rattle.job_report.proofs.ReportLemmas.{if_ok}
 use Rattle.qp_multi.specs.Passes.{known_at}
 use Rattle.job_commands.specs.Commands.{Asked}
 use Rattle.job_commands.specs.Steps.{MovedAt}

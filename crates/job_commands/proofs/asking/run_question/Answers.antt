@@ -4,8 +4,8 @@ use Rattle.shared_cells.specs.Views.{with_progress, pinned_image}
 use Rattle.qp_multi.specs.Meanings.{Holds}
 use Rattle.qp_multi.specs.Passes.{Known, known_at}
 use Rattle.zone_answer.specs.Standing.{Shows, ShowsSome}
-use Rattle.job_script.specs.declared.outcomes.Told.TheVariants as told
-use Rattle.job_script.specs.declared.outcomes.Outcome.{Outcome}
+use Rattle.job_report.specs.declared.outcomes.Told.TheVariants as told
+use Rattle.job_report.specs.declared.outcomes.Outcome.{Outcome}
 use Rattle.job_commands.specs.Commands.{Asked}
 use Rattle.job_commands.proofs.ShowLaws.{shown, shown_some, asked_of}
 use Rattle.job_commands.specs.Histories.{IsLawful}

@@ -1,6 +1,6 @@
 use Rattle.std.proofs.Common.{◌≡◌, ◌+◌, ◌++◌, length, vec_len}
 use Rattle.std.specs.Vec.Iter.{into_iter_items, into_iter_len}
-use Rattle.job_script.specs.Feeds.{fed_outcomes_text}
+use Rattle.job_report.specs.Feeds.{fed_outcomes_text}
 use Rattle.job_report.specs.Pieces.{pieces_text}
 use Rattle.job_report.proofs.report.append_fed.Given as goal
 

@@ -1,6 +1,6 @@
 use Rattle.std.proofs.Common.{◌∙◌}
 use Rattle.job_script.specs.Views.{job_view}
-use Rattle.job_script.proofs.ReportLemmas.{if_ok, reported}
+use Rattle.job_report.proofs.ReportLemmas.{if_ok, reported}
 use Rattle.job_report.proofs.report.print_report.Goals as goal
 
 pub returns : goal.returns

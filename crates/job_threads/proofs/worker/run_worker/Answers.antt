@@ -4,7 +4,7 @@ use Rattle.std.proofs.lemmas.List.{take_all, length-map}
 use Rattle.std.proofs.lemmas.Option.{get_or_from_slice_get, slice_get_within}
 use Rattle.std.specs.Option.{option_map, is_some}
 use Rattle.job_script.specs.Views.{command_view}
-use Rattle.job_script.specs.declared.outcomes.Outcome.{Outcome}
+use Rattle.job_report.specs.declared.outcomes.Outcome.{Outcome}
 use Rattle.report_laws.specs.Changes.{AllAsked}
 use Rattle.qp_multi.specs.Passes.{known_at}
 use Rattle.job_commands.specs.Calls.{After, Before, IsHeard, next_number}

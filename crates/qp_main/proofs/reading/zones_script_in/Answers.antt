@@ -1,7 +1,7 @@
 use Rattle.std.proofs.Common.{◌<◌, arith, get_or}
 use Rattle.std.proofs.lemmas.List.{length-map}
 use Rattle.zone_model.specs.Lines.{lines_of}
-use Rattle.job_script.proofs.ReportLemmas.{if_ok}
+use Rattle.job_report.proofs.ReportLemmas.{if_ok}
 use Rattle.report_laws.proofs.VersionLemmas.{lines_are}
 use Rattle.zones_script.specs.Told.{AreLists}
 use Rattle.zones_script.specs.Views.{worker_view, workers_view}

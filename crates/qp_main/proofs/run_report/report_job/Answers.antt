@@ -1,11 +1,11 @@
 use Rattle.std.proofs.Common.{List, ap, rules, ◌∙◌}
 use Rattle.std.specs.List.{list_any}
 use Rattle.job_model.specs.Outcomes.{is_refused}
-use Rattle.job_script.specs.Outcomes.{ended_view}
+use Rattle.job_report.specs.Outcomes.{ended_view}
 use Rattle.job_report.specs.Pieces.{pieces_text}
 use Rattle.job_script.specs.Views.{job_view}
-use Rattle.job_script.specs.declared.outcomes.Outcome.{Outcome}
-use Rattle.job_script.specs.declared.outcomes.Outcomes.{Outcomes}
+use Rattle.job_report.specs.declared.outcomes.Outcome.{Outcome}
+use Rattle.job_report.specs.declared.outcomes.Outcomes.{Outcomes}
 use Rattle.job_threads.specs.Zones.{HeardOn}
 use Rattle.job_threads.specs.declared.zone.Ran.TheVariants as ran
 use Rattle.qp_main.proofs.ReportingLemmas.{job_told}

@@ -1,5 +1,5 @@
 use Rattle.std.proofs.Common.{refl}
-use Rattle.job_script.specs.Outcomes.{ended_view}
+use Rattle.job_report.specs.Outcomes.{ended_view}
 use Rattle.job_script.specs.Views.{asked_view}
 use Rattle.zone_server.specs.Servings.{known_of}
 use Rattle.zone_server.proofs.ChangeLaws.{changes_as, not_rolled, ran_of}
