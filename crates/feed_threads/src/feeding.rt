@@ -49,7 +49,7 @@ fn serve<R: Wait, N: Named, G: Gate>(
     origin: &Name,
     index: &Index<ZoneLaw, N>,
     feed: &Feed,
-    turnstile: &mut Turnstile<'_, Command, G>,
+    turnstile: &mut Turnstile<'_, R, Command, G>,
     mut pass: Pass<N>,
     mut seat: FeedSeat,
 ) -> Result<FedDone<N>, AllocError>
@@ -74,8 +74,8 @@ fn serve<R: Wait, N: Named, G: Gate>(
     let mut numbers = Vec::new(alloc);
     let mut list = Vec::new(alloc);
     while let Some(number) = seat.take(rt, feed) {
-        let command = turnstile.enter(number as usize - 1);
-        let outcome = run_alone(rt, alloc, origin, index, &mut pass, command, &mut room)?;
+        let entered = turnstile.enter(number as usize - 1);
+        let outcome = run_alone(alloc, origin, index, &mut pass, entered, &mut room)?;
         numbers.push(number)?;
         list.push(outcome)?;
         turnstile.leave(&list);
@@ -188,7 +188,7 @@ fn serve_all<R: Threads + Wait + Sync, N: Named + Send + Sync, G: Gate>(
             → IsNew number s.opening (known_at pass.seat) → IfOk result (DoneRan s number (known_at pass.seat) (map command_view commands.entry.now)) }
         ensures heard { IfOk result (λ d. AllByRecursion (IsHeard (G.hears gate.entry.now) worker) d.served.numbers.items) }
     {
-        let mut turnstile = Turnstile::new(gate, worker, commands);
+        let mut turnstile = Turnstile::new(rt, gate, worker, commands);
         serve(rt, alloc, origin, index, feed, &mut turnstile, pass, seat)
     };
     let rest = move || -> Result<FedGathered<N>, AllocError>

@@ -5,6 +5,7 @@ ghost use Rattle.job_commands.specs.Prelude.{OpensAt, RanByWeight, Seat, IsUnder
 
 use crate::asking::run_question;
 use crate::compactions::run_compaction;
+use crate::entered::Entered;
 use crate::law::ZoneLaw;
 use crate::room::Room;
 use crate::transactions::run_block;
@@ -17,31 +18,32 @@ use std::sync::Wait;
 
 /// Runs a question to the current version, a transaction or a compaction. What a second pass knows stays the same, wherever that is.
 pub fn run_alone<R: Wait, N: Named>(
-    rt: &R,
     alloc: Global,
     origin: &Name,
     index: &Index<ZoneLaw, N>,
     pass: &mut Pass<N>,
-    command: &Command,
+    entered: Entered<'_, R, Command>,
     room: &mut Room,
 ) -> Result<Outcome, AllocError>
     requires here { IsSome pass.old.seat }
     requires place { pass.old.place ≡ index.now.place }
-    requires no_snapshot { NeedsNoSnapshot (command_view command.now) }
+    requires no_snapshot { NeedsNoSnapshot (command_view entered.command.now) }
     requires opens { OpensAt origin.now (known_at pass.old.seat) }
-    requires said { AllAsked origin.now (command_view command.now) }
+    requires said { AllAsked origin.now (command_view entered.command.now) }
     ensures here { IsSome pass.new.seat }
     ensures place { pass.new.place ≡ pass.old.place }
     ensures steps { (s : Setup) → IsSetup s origin.now index.now.shared.table.shared.key (known_at pass.old.seat)
         → (spare : Option (Option Seat)) (held : Option Pinned) → IsPlaced spare held → IsUnder (known_at pass.old.seat) (holder_view spare held)
-        → IfOk result (λ o. Step s (command_view command.now) o (station pass.old.seat spare held) (station pass.new.seat spare held)) }
-    ensures weight { (block : _) → command.now ≡ Command.Block block
+        → IfOk result (λ o. Step s (command_view entered.command.now) o (station pass.old.seat spare held) (station pass.new.seat spare held)) }
+    ensures weight { (block : _) → entered.command.now ≡ Command.Block block
         → IfOk result (RanByWeight block.weight (known_at pass.old.seat) (known_at pass.new.seat)) }
 {
-    match command {
+    match entered.command() {
         Command::Ask(question) => run_question(alloc, origin, index, pass, question, room),
-        Command::Block(block) => run_block(rt, alloc, origin, index, pass, block, &mut room.items),
-        Command::Compact => Ok(run_compaction(rt, index, pass)),
+        Command::Block(block) => {
+            run_block(entered.rt(), alloc, origin, index, pass, block, &mut room.items)
+        },
+        Command::Compact => Ok(run_compaction(entered.rt(), index, pass)),
         // They need a snapshot.
         Command::Hold | Command::AskHeld(_) | Command::Release => unreachable!(),
     }

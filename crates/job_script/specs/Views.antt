@@ -33,6 +33,15 @@ workers_view workers = map worker_view workers
 abbrev pub job_view : Job → List (List jobs.Command)
 job_view job = workers_view job.workers.items
 
+-- it may wait for the right to write
+abbrev pub MayWait : Command → Type 0
+MayWait (command.Ask question) = ⊥
+MayWait command.Hold = ⊥
+MayWait (command.AskHeld question) = ⊥
+MayWait command.Release = ⊥
+MayWait (command.Block b) = Unit {0}
+MayWait command.Compact = Unit {0}
+
 -- one list
 abbrev pub list_view : Vec Command Global → List jobs.Command
 list_view commands = map command_view commands.items

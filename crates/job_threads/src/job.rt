@@ -70,17 +70,18 @@ fn with_done<N: Named>(
 }
 
 // A worker's way to its commands.
-fn turnstile_of<'a, G: Gate>(
+fn turnstile_of<'a, R: Wait, G: Gate>(
+    rt: &'a R,
     gate: &'a G,
     number: u32,
     worker: &'a Worker,
-) -> Turnstile<'a, Command, G>
+) -> Turnstile<'a, R, Command, G>
     ensures gate { result.gate.now ≡ gate.now }
     ensures number { result.worker ≡ number }
     ensures commands { map command_view result.commands.now ≡ worker_view worker.now }
     ensures fresh { (result.entered ≡ None) × (result.told ≡ 0) }
 {
-    Turnstile::new(gate, number, &worker.commands)
+    Turnstile::new(rt, gate, number, &worker.commands)
 }
 
 // Runs the workers beside each other, from the one of a number on. Each has two of the passes, from the end on, and main the first.
@@ -135,8 +136,8 @@ fn run_workers<R: Threads + Wait + Sync, N: Named + Send + Sync, G: Gate>(
             → IfOk result (DoneRan s numbers (worker_view worker.entry.now)) }
         ensures heard { IfOk result (λ _. AreHeard (G.hears gate.entry.now) number (length (worker_view worker.entry.now))) }
     {
-        let mut turnstile = turnstile_of(gate, number, worker);
-        run_worker(rt, alloc, origin, index, &mut turnstile, asks, spare)
+        let mut turnstile = turnstile_of(rt, gate, number, worker);
+        run_worker(alloc, origin, index, &mut turnstile, asks, spare)
     };
     let rest = move || -> Result<Gathered<N>, AllocError>
         requires sync { IsSync R.row }

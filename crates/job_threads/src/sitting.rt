@@ -9,7 +9,7 @@ ghost use Rattle.job_threads.specs.Prelude.{AllSeen, Accounts, IsPartOf, with_no
 use crate::passes::{Passes, second_pass};
 use crate::worker::run_command;
 use dns_name::Name;
-use job_commands::{Last, Room, ZoneLaw, measure};
+use job_commands::{Entered, Last, Room, ZoneLaw, measure};
 use job_report::Outcome;
 use job_script::Command;
 use qp_multi::{Blank, Index, Named, Note, OpenRefusal, Pass};
@@ -96,7 +96,8 @@ pub fn run_next<'i, R: Wait, N: Named>(
     ensures sits { (s : Setup) (commands : _) (os : _) → IsIndex s origin.now (table_size index.now) → Sits s (station_of passes.old) commands os
         → IfOk result (λ o. Sits s (station_of passes.new) (commands ++ command_view command.now ∷ []) (os ++ o ∷ [])) }
 {
-    run_command(rt, alloc, origin, index, passes, command, room)
+    let entered = Entered::new(rt, command);
+    run_command(alloc, origin, index, passes, entered, room)
 }
 
 // Accounts for the second pass, wherever it is, at a moment behind the note's.

@@ -7,7 +7,7 @@ ghost use Rattle.job_threads.specs.Prelude.{Step, Begins, Numbers, DoneRan, tabl
 use crate::passes::{Passes, ask_snapshot, give_back, second_pass, take_snapshot};
 use crew::Turnstile;
 use dns_name::Name;
-use job_commands::{Gate, Room, ZoneLaw, run_alone};
+use job_commands::{Entered, Gate, Room, ZoneLaw, run_alone};
 use job_report::{Outcome, Outcomes};
 use job_script::Command;
 use qp_multi::{Index, Named, Pass};
@@ -24,12 +24,11 @@ pub struct Done<N: Named> {
 
 /// Runs one command of a worker, which may take a snapshot, ask it or give it back.
 pub fn run_command<'i, R: Wait, N: Named>(
-    rt: &R,
     alloc: Global,
     origin: &Name,
     index: &'i Index<ZoneLaw, N>,
     passes: &mut Passes<'i, N>,
-    command: &Command,
+    entered: Entered<'_, R, Command>,
     room: &mut Room,
 ) -> Result<Outcome, AllocError>
     requires here { IsSome passes.old.asks.seat }
@@ -37,21 +36,21 @@ pub fn run_command<'i, R: Wait, N: Named>(
     requires places { IfSome passes.old.spare (λ p. p.place ≡ index.now.place) }
     requires placed { ArePlaced passes.old }
     requires held_at { IfSome passes.old.held (λ s. s.place ≡ index.now.place) }
-    requires may { MayCome (holds_one passes.old) (command_view command.now) }
+    requires may { MayCome (holds_one passes.old) (command_view entered.command.now) }
     requires opens { OpensAt origin.now (known_at passes.old.asks.seat) }
-    requires said { AllAsked origin.now (command_view command.now) }
+    requires said { AllAsked origin.now (command_view entered.command.now) }
     ensures here { IfOk result (λ _. IsSome passes.new.asks.seat) }
     ensures place { IfOk result (λ _. passes.new.asks.place ≡ index.now.place) }
     ensures places { IfOk result (λ _. IfSome passes.new.spare (λ p. p.place ≡ index.now.place)) }
     ensures placed { IfOk result (λ _. ArePlaced passes.new) }
     ensures held_at { IfOk result (λ _. IfSome passes.new.held (λ s. s.place ≡ index.now.place)) }
     ensures opens { IfOk result (λ _. OpensAt origin.now (known_at passes.new.asks.seat)) }
-    ensures held { IfOk result (λ _. holds_one passes.new ≡ held_after (holds_one passes.old) (command_view command.now)) }
+    ensures held { IfOk result (λ _. holds_one passes.new ≡ held_after (holds_one passes.old) (command_view entered.command.now)) }
     ensures steps { (s : Setup) → IsSetup s origin.now (table_size index.now) (known_at passes.old.asks.seat)
         → IsUnder (known_at passes.old.asks.seat) (holder_of passes.old)
-        → IfOk result (λ o. Step s (command_view command.now) o (station_of passes.old) (station_of passes.new)) }
+        → IfOk result (λ o. Step s (command_view entered.command.now) o (station_of passes.old) (station_of passes.new)) }
 {
-    match command {
+    match entered.command() {
         Command::Hold => Ok(take_snapshot(index, passes)),
         Command::AskHeld(question) => {
             let outcome = ask_snapshot(alloc, origin, passes, question, room)?;
@@ -60,7 +59,7 @@ pub fn run_command<'i, R: Wait, N: Named>(
         Command::Release => Ok(give_back(passes)),
         Command::Ask(_) | Command::Block(_) | Command::Compact => {
             let asks = &mut passes.asks;
-            let outcome = run_alone(rt, alloc, origin, index, asks, command, room)?;
+            let outcome = run_alone(alloc, origin, index, asks, entered, room)?;
             Ok(outcome)
         }
     }
@@ -68,11 +67,10 @@ pub fn run_command<'i, R: Wait, N: Named>(
 
 /// Runs the commands of a worker's turnstile, each between the gate's two calls. It goes through once for each.
 pub fn run_worker<R: Wait, N: Named, G: Gate>(
-    rt: &R,
     alloc: Global,
     origin: &Name,
     index: &Index<ZoneLaw, N>,
-    turnstile: &mut Turnstile<'_, Command, G>,
+    turnstile: &mut Turnstile<'_, R, Command, G>,
     asks: Pass<N>,
     spare: Pass<N>,
 ) -> Result<Done<N>, AllocError>
@@ -99,8 +97,8 @@ pub fn run_worker<R: Wait, N: Named, G: Gate>(
     let count = turnstile.count();
     let mut list = Vec::with_capacity(alloc, count)?;
     for place in 0..count {
-        let command = turnstile.enter(place);
-        let outcome = run_command(rt, alloc, origin, index, &mut passes, command, &mut room)?;
+        let entered = turnstile.enter(place);
+        let outcome = run_command(alloc, origin, index, &mut passes, entered, &mut room)?;
         list.push(outcome)?;
         turnstile.leave(&list);
     }

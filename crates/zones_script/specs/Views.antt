@@ -25,6 +25,13 @@ command_view (command.Block zone block) = says.Block zone block.weight (asked_vi
 command_view (command.Attach zone) = says.Attach zone
 command_view (command.Detach zone) = says.Detach zone
 
+-- it may wait for the right to write
+abbrev pub MayWait : Command → Type 0
+MayWait (command.Get name rtype) = ⊥
+MayWait (command.Block zone block) = Unit {0}
+MayWait (command.Attach zone) = Unit {0}
+MayWait (command.Detach zone) = Unit {0}
+
 abbrev pub worker_view : Worker → List says.Command
 worker_view w = map command_view w.commands.items
 

@@ -61,17 +61,18 @@ fn with_ended<N: Named>(
 }
 
 // A worker's way to its commands.
-fn turnstile_of<'a, G: Gate>(
+fn turnstile_of<'a, R: Wait, G: Gate>(
+    rt: &'a R,
     gate: &'a G,
     number: u32,
     worker: &'a Worker,
-) -> Turnstile<'a, Command, G>
+) -> Turnstile<'a, R, Command, G>
     ensures gate { result.gate.now ≡ gate.now }
     ensures number { result.worker ≡ number }
     ensures commands { map command_view result.commands.now ≡ worker_view worker.now }
     ensures fresh { (result.entered ≡ None) × (result.told ≡ 0) }
 {
-    Turnstile::new(gate, number, &worker.commands)
+    Turnstile::new(rt, gate, number, &worker.commands)
 }
 
 // Runs the workers beside each other, from the one of a number on. Each has one of the passes, from the end on, and main the first.
@@ -106,8 +107,8 @@ fn run_workers<R: Threads + Wait + Sync, N: Named + Send + Sync, G: Gate>(
         ensures done { IfOk result (λ e. HasWorked zones.entry.now pass e.pass (worker_view worker.entry.now) e.done.list.items) }
         ensures heard { IfOk result (λ _. AreHeard (G.hears gate.entry.now) number (length (worker_view worker.entry.now))) }
     {
-        let mut turnstile = turnstile_of(gate, number, worker);
-        run_worker(rt, alloc, zones, &mut turnstile, pass)
+        let mut turnstile = turnstile_of(rt, gate, number, worker);
+        run_worker(alloc, zones, &mut turnstile, pass)
     };
     let rest = move || -> Result<Gathered<N>, AllocError>
         requires sync { IsSync R.row }

@@ -1,12 +1,13 @@
 //! A worker that runs its commands.
 ghost use Rattle.std.specs.Prelude.{◌≡◌, IfOk, None, length, map};
+ghost use Rattle.zones_script.specs.Views.{MayWait};
 ghost use Rattle.zones_threads.specs.Prelude.{AreHeard, IsPassOf, HasWorked, MayWork, IsSaid, Opens, Goes, command_view};
 
 use crate::changing::{attach, detach};
 use crate::getting::get;
 use crate::transactions::change_zone;
 use crew::Turnstile;
-use job_commands::{Gate, Room, ZoneLaw};
+use job_commands::{Entered, Gate, Room, Waits, ZoneLaw};
 use qp_multi::Named;
 use std::alloc::{AllocError, Global};
 use std::sync::Wait;
@@ -21,34 +22,38 @@ pub struct Ended<N: Named> {
     pub pass: ZonesPass<N>,
 }
 
+impl Waits for Command {
+    ghost waits = { MayWait };
+}
+
 // Runs one command.
 fn run_command<R: Wait, N: Named>(
-    rt: &R,
     alloc: Global,
     zones: &Zones<ZoneLaw, N>,
     pass: &mut ZonesPass<N>,
-    command: &Command,
+    entered: Entered<'_, R, Command>,
     room: &mut Room,
 ) -> Result<Done, AllocError>
     requires pass { IsPassOf zones.now.origins.items pass.old }
     requires opens { Opens zones.now pass.old }
-    requires said { IsSaid zones.now.origins.items (command_view command.now) }
-    ensures { IfOk result (λ d. Goes zones.now (command_view command.now) d pass.old pass.new) }
+    requires said { IsSaid zones.now.origins.items (command_view entered.command.now) }
+    ensures { IfOk result (λ d. Goes zones.now (command_view entered.command.now) d pass.old pass.new) }
 {
-    match command {
+    match entered.command() {
         Command::Get(name, rtype) => get(alloc, zones, pass, name, *rtype, room),
-        Command::Block { zone, block } => change_zone(rt, alloc, zones, pass, *zone, block, room),
-        Command::Attach(zone) => Ok(attach(rt, zones, pass, *zone)),
-        Command::Detach(zone) => Ok(detach(rt, zones, pass, *zone)),
+        Command::Block { zone, block } => {
+            change_zone(entered.rt(), alloc, zones, pass, *zone, block, room)
+        },
+        Command::Attach(zone) => Ok(attach(entered.rt(), zones, pass, *zone)),
+        Command::Detach(zone) => Ok(detach(entered.rt(), zones, pass, *zone)),
     }
 }
 
 /// Runs the commands of a worker's turnstile, each between the gate's two calls. It goes through once for each.
 pub fn run_worker<R: Wait, N: Named, G: Gate>(
-    rt: &R,
     alloc: Global,
     zones: &Zones<ZoneLaw, N>,
-    turnstile: &mut Turnstile<'_, Command, G>,
+    turnstile: &mut Turnstile<'_, R, Command, G>,
     mut pass: ZonesPass<N>,
 ) -> Result<Ended<N>, AllocError>
     requires fresh { (turnstile.old.entered ≡ None) × (turnstile.old.told ≡ 0) }
@@ -61,8 +66,8 @@ pub fn run_worker<R: Wait, N: Named, G: Gate>(
     let count = turnstile.count();
     let mut list = Vec::with_capacity(alloc, count)?;
     for place in 0..count {
-        let command = turnstile.enter(place);
-        let done = run_command(rt, alloc, zones, &mut pass, command, &mut room)?;
+        let entered = turnstile.enter(place);
+        let done = run_command(alloc, zones, &mut pass, entered, &mut room)?;
         list.push(done)?;
         turnstile.leave(&list);
     }

@@ -42,8 +42,8 @@ loop-number-init g c =
           (subst (λ (l : List Outcome). WorkerAt s (only number) (station first (Some first) None) [] [] l) (sym c.new-list.ensures.items) (serve_starts s number first new));
     }
 
-pub enter-command-requires-clause-there : goal.enter-command-requires-clause-there
-enter-command-requires-clause-there g c =
+pub enter-entered-requires-clause-there : goal.enter-entered-requires-clause-there
+enter-entered-requires-clause-there g c =
     let inside : c.in-Some.number - 1 < length c.args.turnstile.now.commands.now = search rules in
     λ κs bounds. subst (λ l. c.in-Some.number - 1 < length l.now) (sym c.loop-number.invariant.commands) inside
 
@@ -51,23 +51,23 @@ pub run_alone-requires-clause-no_snapshot : goal.run_alone-requires-clause-no_sn
 run_alone-requires-clause-no_snapshot g c =
     let commands = c.args.turnstile.now.commands.now in
     let place = c.in-Some.number - 1 in
-    let here = c.enter-command.result.now in
-    let there = subst (λ l. slice_get l.now place ≡ Some here) c.loop-number.invariant.commands c.enter-command.ensures.command in
+    let here = c.enter-entered.result.command.now in
+    let there = subst (λ l. slice_get l.now place ≡ Some here) c.loop-number.invariant.commands c.enter-entered.ensures.command in
     plain_here commands c.in-Some.number here c.requires.no_snapshots (slice_get_within commands place here there) (sym (get_or_from_slice_get commands place here here there))
 
 pub run_alone-requires-clause-said : goal.run_alone-requires-clause-said
 run_alone-requires-clause-said g c =
     let commands = c.args.turnstile.now.commands.now in
     let place = c.in-Some.number - 1 in
-    let here = c.enter-command.result.now in
-    let there = subst (λ l. slice_get l.now place ≡ Some here) c.loop-number.invariant.commands c.enter-command.ensures.command in
+    let here = c.enter-entered.result.command.now in
+    let there = subst (λ l. slice_get l.now place ≡ Some here) c.loop-number.invariant.commands c.enter-entered.ensures.command in
     so_here (AllAsked c.args.origin.now) commands c.in-Some.number here c.requires.said (slice_get_within commands place here there) (sym (get_or_from_slice_get commands place here here there))
 
 pub leave-requires-clause-done : goal.leave-requires-clause-done
 leave-requires-clause-done g c =
     let i = c.loop-number.invariant in
     let many = ap length c.in_ok-push-2.ensures.items ∙ length-append c.loop-number.list.items (c.in_ok-outcome.outcome ∷ []) in
-    let told = c.enter-command.ensures.same.3 in
+    let told = c.enter-entered.ensures.same.3 in
     omega (arith, many, told, i.told)
 
 pub loop-number-preserved : goal.loop-number-preserved
@@ -75,17 +75,17 @@ loop-number-preserved g c =
     let i = c.loop-number.invariant in
     let commands = c.args.turnstile.now.commands.now in
     let place = c.in-Some.number - 1 in
-    let here = c.enter-command.result.now in
-    let there = subst (λ l. slice_get l.now place ≡ Some here) i.commands c.enter-command.ensures.command in
+    let here = c.enter-entered.result.command.now in
+    let there = subst (λ l. slice_get l.now place ≡ Some here) i.commands c.enter-entered.ensures.command in
     let lt = slice_get_within commands place here there in
     let is = sym (get_or_from_slice_get commands place here here there) in
-    let entered = c.enter-command.ensures.same in
+    let entered = c.enter-entered.ensures.same in
     let left = c.leave.ensures.same in
     let some : 0 < c.in-Some.number = search rules in
     let few : c.in-Some.number ≤ 4294967295 = search rules in
     let counted = number_counted c.in-Some.number some few in
-    let before = same_told (g.G.Gate.hears) (λ n. Before n (next_number place)) _ _ _ _ (ap (λ r. r.now) i.gate) i.number c.enter-command.ensures.heard in
-    let after = same_told (g.G.Gate.hears) (λ n. After n (next_number place)) _ _ _ _ (ap (λ r. r.now) (entered.0 ∙ i.gate)) (entered.1 ∙ i.number) (c.leave.ensures.heard place c.enter-command.ensures.entered) in
+    let before = same_told (g.G.Gate.hears) (λ n. Before n (next_number place)) _ _ _ _ (ap (λ r. r.now) i.gate) i.number c.enter-entered.ensures.heard in
+    let after = same_told (g.G.Gate.hears) (λ n. After n (next_number place)) _ _ _ _ (ap (λ r. r.now) (entered.0 ∙ i.gate)) (entered.1 ∙ i.number) (c.leave.ensures.heard place c.enter-entered.ensures.entered) in
     let told = subst (IsHeard (g.G.Gate.hears c.args.turnstile.now.gate.now) c.args.turnstile.now.worker) counted (before, after) in
     let first = c.args.pass.seat in
     record {

@@ -38,30 +38,30 @@ loop-place-init g c = record {
       (worker_starts s numbers (known_at c.args.asks.seat) (known_at c.args.spare.seat) (map command_view c.args.turnstile.now.commands.now) begins c.requires.in_turn);
 }
 
-pub enter-command-requires-clause-there : goal.enter-command-requires-clause-there
-enter-command-requires-clause-there g c = λ κs bounds. subst (λ l. c.loop-place.place < length l.now) (sym c.loop-place.invariant.commands) (omega (arith, c.loop-place-test.true, c.count-count.ensures))
+pub enter-entered-requires-clause-there : goal.enter-entered-requires-clause-there
+enter-entered-requires-clause-there g c = λ κs bounds. subst (λ l. c.loop-place.place < length l.now) (sym c.loop-place.invariant.commands) (omega (arith, c.loop-place-test.true, c.count-count.ensures))
 
 pub run_command-requires-clause-may : goal.run_command-requires-clause-may
 run_command-requires-clause-may g c =
     let i = c.loop-place.invariant in
     let commands = c.args.turnstile.now.commands.now in
-    let here = c.enter-command.result.now in
-    let there = subst (λ l. slice_get l.now c.loop-place.place ≡ Some here) i.commands c.enter-command.ensures.command in
+    let here = c.enter-entered.result.command.now in
+    let there = subst (λ l. slice_get l.now c.loop-place.place ≡ Some here) i.commands c.enter-entered.ensures.command in
     (turn_here (is_some (option_map (λ s. s.seat) c.loop-place.passes.held)) commands c.loop-place.place here (slice_get_within commands c.loop-place.place here there) (sym (get_or_from_slice_get commands c.loop-place.place here here there)) i.turn).0
 
 pub run_command-requires-clause-said : goal.run_command-requires-clause-said
 run_command-requires-clause-said g c =
     let i = c.loop-place.invariant in
     let commands = c.args.turnstile.now.commands.now in
-    let here = c.enter-command.result.now in
-    let there = subst (λ l. slice_get l.now c.loop-place.place ≡ Some here) i.commands c.enter-command.ensures.command in
+    let here = c.enter-entered.result.command.now in
+    let there = subst (λ l. slice_get l.now c.loop-place.place ≡ Some here) i.commands c.enter-entered.ensures.command in
     (said_here (AllAsked c.args.origin.now) commands c.loop-place.place here (slice_get_within commands c.loop-place.place here there) (sym (get_or_from_slice_get commands c.loop-place.place here here there)) i.said).0
 
 pub leave-requires-clause-done : goal.leave-requires-clause-done
 leave-requires-clause-done g c =
     let i = c.loop-place.invariant in
     let many = ap length c.in_ok-push.ensures.items ∙ length-append c.loop-place.list.items (c.in_ok-outcome.outcome ∷ []) in
-    let told = c.enter-command.ensures.same.3 in
+    let told = c.enter-entered.ensures.same.3 in
     omega (arith, many, told, i.told, i.many)
 
 pub loop-place-preserved : goal.loop-place-preserved
@@ -69,15 +69,15 @@ loop-place-preserved g c =
     let i = c.loop-place.invariant in
     let commands = c.args.turnstile.now.commands.now in
     let place = c.loop-place.place in
-    let here = c.enter-command.result.now in
-    let there = subst (λ l. slice_get l.now place ≡ Some here) i.commands c.enter-command.ensures.command in
+    let here = c.enter-entered.result.command.now in
+    let there = subst (λ l. slice_get l.now place ≡ Some here) i.commands c.enter-entered.ensures.command in
     let lt = slice_get_within commands place here there in
     let is = sym (get_or_from_slice_get commands place here here there) in
-    let inside = c.enter-command.ensures.same in
+    let inside = c.enter-entered.ensures.same in
     let left = c.leave.ensures.same in
     let many = ap length c.in_ok-push.ensures.items ∙ length-append c.loop-place.list.items (c.in_ok-outcome.outcome ∷ []) ∙ ap (λ (n : ℕ). n + 1) i.many in
-    let before = same_told (g.G.Gate.hears) (λ n. Before n (next_number place)) _ _ _ _ (ap (λ r. r.now) i.gate) i.number c.enter-command.ensures.heard in
-    let after = same_told (g.G.Gate.hears) (λ n. After n (next_number place)) _ _ _ _ (ap (λ r. r.now) (inside.0 ∙ i.gate)) (inside.1 ∙ i.number) (c.leave.ensures.heard place c.enter-command.ensures.entered) in
+    let before = same_told (g.G.Gate.hears) (λ n. Before n (next_number place)) _ _ _ _ (ap (λ r. r.now) i.gate) i.number c.enter-entered.ensures.heard in
+    let after = same_told (g.G.Gate.hears) (λ n. After n (next_number place)) _ _ _ _ (ap (λ r. r.now) (inside.0 ∙ i.gate)) (inside.1 ∙ i.number) (c.leave.ensures.heard place c.enter-entered.ensures.entered) in
     record {
       here = c.in_ok-outcome.ensures.here;
       place = c.in_ok-outcome.ensures.place;

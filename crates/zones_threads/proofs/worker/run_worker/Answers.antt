@@ -42,22 +42,22 @@ loop-place-init g c =
       table = λ b number same new. subst (λ (ds : List Done). TableWork b number (table_known first) (dones_view [] ds)) (sym none) (table_start b number (table_known first) new);
     }
 
-pub enter-command-requires-clause-there : goal.enter-command-requires-clause-there
-enter-command-requires-clause-there g c = λ κs bounds. subst (λ l. c.loop-place.place < length l.now) (sym c.loop-place.invariant.commands) (omega (arith, c.loop-place-test.true, c.count-count.ensures))
+pub enter-entered-requires-clause-there : goal.enter-entered-requires-clause-there
+enter-entered-requires-clause-there g c = λ κs bounds. subst (λ l. c.loop-place.place < length l.now) (sym c.loop-place.invariant.commands) (omega (arith, c.loop-place-test.true, c.count-count.ensures))
 
 pub run_command-requires-clause-said : goal.run_command-requires-clause-said
 run_command-requires-clause-said g c =
     let i = c.loop-place.invariant in
     let commands = c.args.turnstile.now.commands.now in
-    let here = c.enter-command.result.now in
-    let there = subst (λ l. slice_get l.now c.loop-place.place ≡ Some here) i.commands c.enter-command.ensures.command in
+    let here = c.enter-entered.result.command.now in
+    let there = subst (λ l. slice_get l.now c.loop-place.place ≡ Some here) i.commands c.enter-entered.ensures.command in
     (subst (AllByRecursion (IsSaid c.args.zones.now.origins.items)) (drop_here command_view commands c.loop-place.place here (slice_get_within commands c.loop-place.place here there) (sym (get_or_from_slice_get commands c.loop-place.place here here there))) i.said).0
 
 pub leave-requires-clause-done : goal.leave-requires-clause-done
 leave-requires-clause-done g c =
     let i = c.loop-place.invariant in
     let many = ap length c.in_ok-push.ensures.items ∙ length-append c.loop-place.list.items (c.in_ok-done.done ∷ []) in
-    let told = c.enter-command.ensures.same.3 in
+    let told = c.enter-entered.ensures.same.3 in
     omega (arith, many, told, i.told, i.many)
 
 pub loop-place-preserved : goal.loop-place-preserved
@@ -66,14 +66,14 @@ loop-place-preserved g c =
     let zones = c.args.zones.now in
     let commands = c.args.turnstile.now.commands.now in
     let place = c.loop-place.place in
-    let here = c.enter-command.result.now in
-    let there = subst (λ l. slice_get l.now place ≡ Some here) i.commands c.enter-command.ensures.command in
+    let here = c.enter-entered.result.command.now in
+    let there = subst (λ l. slice_get l.now place ≡ Some here) i.commands c.enter-entered.ensures.command in
     let lt = slice_get_within commands place here there in
     let is = sym (get_or_from_slice_get commands place here here there) in
-    let inside = c.enter-command.ensures.same in
+    let inside = c.enter-entered.ensures.same in
     let left = c.leave.ensures.same in
-    let before = same_told (g.G.Gate.hears) (λ n. Before n (next_number place)) _ _ _ _ (ap (λ r. r.now) i.gate) i.number c.enter-command.ensures.heard in
-    let after = same_told (g.G.Gate.hears) (λ n. After n (next_number place)) _ _ _ _ (ap (λ r. r.now) (inside.0 ∙ i.gate)) (inside.1 ∙ i.number) (c.leave.ensures.heard place c.enter-command.ensures.entered) in
+    let before = same_told (g.G.Gate.hears) (λ n. Before n (next_number place)) _ _ _ _ (ap (λ r. r.now) i.gate) i.number c.enter-entered.ensures.heard in
+    let after = same_told (g.G.Gate.hears) (λ n. After n (next_number place)) _ _ _ _ (ap (λ r. r.now) (inside.0 ∙ i.gate)) (inside.1 ∙ i.number) (c.leave.ensures.heard place c.enter-entered.ensures.entered) in
     let now = c.loop-place.pass in
     let next = c.run_command.new.pass in
     let first = c.args.pass in
