@@ -11,6 +11,7 @@ pub use Rattle.job_model.specs.Arguments.{prerequisite_of}
 pub use Rattle.job_model.specs.Commands.{InTurn, Job, NeedsNoSnapshot}
 pub use Rattle.job_model.specs.Jobs.{JobRefusal, job_of, script_lines, script_start, zone_lines}
 pub use Rattle.job_model.specs.Needs.{cells_added, cells_of_commands, cells_of_operations, cells_of_workers, longest, longest_of_workers}
+pub use Rattle.job_model.specs.Outcomes.{asked_by}
 pub use Rattle.job_script.specs.Asked.{AskedPlaced, asked_view, whole_view}
 pub use Rattle.job_script.specs.Parts.{IsCutAt}
 pub use Rattle.job_script.specs.Phrases.{PhrasePlaced, operation_said, phrase_view}
