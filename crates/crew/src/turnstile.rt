@@ -2,7 +2,8 @@
 ghost use Rattle.std.specs.Prelude.{◌≡◌, ◌+◌, ◌<◌, length, IsSome, Some, None, slice_get};
 ghost use Rattle.job_commands.specs.Calls.{Before, After, next_number};
 
-use job_commands::{Entered, Gate, Waits, counted};
+use job_commands::{Entered, Gate, counted};
+use job_script::Waits;
 use std::sync::Wait;
 
 /// A worker's way to its commands. These lie behind the gate: whoever has a turnstile has neither, and is handed a command when the
@@ -20,12 +21,7 @@ pub struct Turnstile<'a, R, C, G: Gate> {
 
 impl<'a, R: Wait, C: Waits, G: Gate> Turnstile<'a, R, C, G> {
     /// Of a worker's number and the commands that are for it. It has not been through.
-    pub fn new(
-        rt: &'a R,
-        gate: &'a G,
-        worker: u32,
-        commands: &'a [C],
-    ) -> Turnstile<'a, R, C, G>
+    pub fn new(rt: &'a R, gate: &'a G, worker: u32, commands: &'a [C]) -> Turnstile<'a, R, C, G>
         ensures gate { result.gate.now ≡ gate.now }
         ensures worker { result.worker ≡ worker }
         ensures commands { result.commands.now ≡ commands.now }

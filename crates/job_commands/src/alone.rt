@@ -41,7 +41,15 @@ pub fn run_alone<R: Wait, N: Named>(
     match entered.command() {
         Command::Ask(question) => run_question(alloc, origin, index, pass, question, room),
         Command::Block(block) => {
-            run_block(entered.rt(), alloc, origin, index, pass, block, &mut room.items)
+            run_block(
+                entered.rt(),
+                alloc,
+                origin,
+                index,
+                pass,
+                block,
+                &mut room.items,
+            )
         },
         Command::Compact => Ok(run_compaction(entered.rt(), index, pass)),
         // They need a snapshot.

@@ -1,19 +1,8 @@
 //! A command whose turn has come.
 ghost use Rattle.std.specs.Prelude.{◌≡◌};
-ghost use Rattle.job_script.specs.Views.{MayWait};
 
-use job_script::Command;
+use job_script::Waits;
 use std::sync::Wait;
-
-/// Commands, of which some may wait for the right to write.
-pub trait Waits {
-    // This one may.
-    ghost waits: { Self → Type 0 };
-}
-
-impl Waits for Command {
-    ghost waits = { MayWait };
-}
 
 /// A command with what it may wait by: whoever is handed a question so can't make it wait for who writes.
 #[derive(Clone, Copy)]

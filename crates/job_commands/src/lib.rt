@@ -18,7 +18,7 @@ pub use alone::run_alone;
 pub use asking::run_question;
 pub use closing::{Last, close_index};
 pub use compactions::run_compaction;
-pub use entered::{Entered, Waits};
+pub use entered::Entered;
 pub use gate::{Gate, counted};
 pub use law::ZoneLaw;
 pub use measuring::measure;

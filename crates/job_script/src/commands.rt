@@ -1,4 +1,6 @@
 //! Commands of a script.
+ghost use Rattle.job_script.specs.Views.{MayWait};
+
 use job_model::{Ending, Question, Weight};
 use zone_change::{Operation, Prerequisite};
 
@@ -37,6 +39,16 @@ pub enum Command {
     Block(Block),
     /// A compaction.
     Compact,
+}
+
+/// Commands, of which some may wait for the right to write.
+pub trait Waits {
+    // This one may.
+    ghost waits: { Self → Type 0 };
+}
+
+impl Waits for Command {
+    ghost waits = { MayWait };
 }
 
 /// A worker's list, in order.

@@ -14,7 +14,7 @@ mod refusal;
 mod script;
 mod words;
 
-pub use commands::{Block, COMMAND_LIMIT, Command, Job, WORKER_LIMIT, Worker};
+pub use commands::{Block, COMMAND_LIMIT, Command, Job, WORKER_LIMIT, Waits, Worker};
 pub use laws::jobs_are_spelled;
 pub use needs::{Needs, needs_of};
 pub use parts::{Parts, split};

@@ -2,11 +2,12 @@
 ghost use Rattle.std.specs.Prelude.{◌≡◌, ◌<◌, ◌≤◌, ◌+◌, ◌∷◌, ◌++◌, [], ℕ, List, length, map, Some, None, Option, Ok, Err, Result, nat_lt};
 ghost use Rattle.job_script.specs.Prelude.{asked_view, whole_view, IsPlaced, AskedPlaced, command_view, phrase_view, PhrasePlaced, script_view, Passes, ScriptReads, with_asked};
 ghost use Rattle.job_model.specs.Jobs as jobs;
+ghost use Rattle.job_script.specs.declared.questions.Asked.TheVariants as asked;
 ghost use Rattle.job_model.specs.Phrases as phrases;
 
 use crate::commands::{COMMAND_LIMIT, Command, WORKER_LIMIT, Worker};
 use crate::phrases::Phrase;
-use crate::questions::{Asked, question_of, whole_of};
+use crate::questions::{Asked, get_of, question_of, whole_of};
 use crate::refusal::{JobRefusal, demand, refused, too_many};
 use crate::script::{Script, Unfinished};
 use crate::words::Line;
@@ -89,7 +90,30 @@ fn add(script: &mut Script, command: Command) -> Result<(), JobRefusal>
     Ok(())
 }
 
-// A question joins the worker's commands, to the snapshot that is held or to the current version.
+// A question for the records of a name and a type joins the worker's commands. It stands by itself, since a function clears the room for
+// all names that it may read.
+#[inline(never)]
+fn add_get(
+    script: &mut Script,
+    line: Line,
+    name: Token,
+    rtype: Token,
+    held: bool,
+) -> Result<(), JobRefusal>
+    requires name { IsPlaced line.bytes.now name }
+    requires rtype { IsPlaced line.bytes.now rtype }
+    ensures { ScriptReads result (script_view script.new)
+        (with_asked line.entry.number held (asked_view line.entry.origin.now line.entry.bytes.now (asked.Get name rtype)) (script_view script.old)) }
+{
+    has_room(script, line.number)?;
+    match get_of(line.bytes, line.origin, name, rtype) {
+        Ok(question) if held => add(script, Command::AskHeld(question)),
+        Ok(question) => add(script, Command::Ask(question)),
+        Err(kind) => Err(refused(line.number, kind)),
+    }
+}
+
+// A question joins them, to the snapshot that is held or to the current version.
 fn add_question(
     script: &mut Script,
     line: Line,
@@ -100,6 +124,9 @@ fn add_question(
     ensures { ScriptReads result (script_view script.new)
         (with_asked line.entry.number held (asked_view line.entry.origin.now line.entry.bytes.now asked.now) (script_view script.old)) }
 {
+    if let Asked::Get(name, rtype) = asked {
+        return add_get(script, line, *name, *rtype, held);
+    }
     has_room(script, line.number)?;
     match question_of(line.bytes, line.origin, asked) {
         Ok(question) if held => add(script, Command::AskHeld(question)),

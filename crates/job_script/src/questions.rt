@@ -57,8 +57,13 @@ pub fn asked_of(bytes: &[u8], word: Token, operands: &[Token]) -> Option<Asked>
     None
 }
 
-// A question for the records of a name and a type.
-fn get_of(bytes: &[u8], origin: &Name, name: Token, rtype: Token) -> Result<Question, ScriptKind>
+/// A question for the records of a name and a type.
+pub fn get_of(
+    bytes: &[u8],
+    origin: &Name,
+    name: Token,
+    rtype: Token,
+) -> Result<Question, ScriptKind>
     requires name { IsPlaced bytes.now name }
     requires rtype { IsPlaced bytes.now rtype }
     ensures { result ≡ asked_view origin.now bytes.now (asked.Get name rtype) }

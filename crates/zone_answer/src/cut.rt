@@ -71,6 +71,7 @@ pub fn is_right_under(origin: &Name, name: &Name) -> bool
 
 /// Of the cuts above a name, the one nearest to the origin, by the names at or above it that are there. What it owns is read into
 /// a buffer.
+#[inline(always)]
 pub fn cut_over<V: Reading>(
     version: &mut V,
     origin: &Name,

@@ -9,6 +9,7 @@ use dns_name::Name;
 use trie_read::{Reading, labels_to};
 
 /// A name with what it owns, if it exists. What it owns is read into a buffer. The walker's key becomes the name's.
+#[inline(always)]
 fn existing<V: Reading>(
     version: &mut V,
     walker: &mut Walker,

@@ -1,6 +1,8 @@
 //! Commands of a script over zones.
+ghost use Rattle.zones_script.specs.Views.{MayWait};
+
 use dns_name::Name;
-use job_script::Block;
+use job_script::{Block, Waits};
 
 /// A command of a worker. A zone is told by its number: its place in the list of zones, from 0.
 #[derive(Drop)]
@@ -13,6 +15,10 @@ pub enum Command {
     Attach(u32),
     /// It is detached.
     Detach(u32),
+}
+
+impl Waits for Command {
+    ghost waits = { MayWait };
 }
 
 /// A worker's list, in order.

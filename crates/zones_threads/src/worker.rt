@@ -1,13 +1,12 @@
 //! A worker that runs its commands.
 ghost use Rattle.std.specs.Prelude.{◌≡◌, IfOk, None, length, map};
-ghost use Rattle.zones_script.specs.Views.{MayWait};
 ghost use Rattle.zones_threads.specs.Prelude.{AreHeard, IsPassOf, HasWorked, MayWork, IsSaid, Opens, Goes, command_view};
 
 use crate::changing::{attach, detach};
 use crate::getting::get;
 use crate::transactions::change_zone;
 use crew::Turnstile;
-use job_commands::{Entered, Gate, Room, Waits, ZoneLaw};
+use job_commands::{Entered, Gate, Room, ZoneLaw};
 use qp_multi::Named;
 use std::alloc::{AllocError, Global};
 use std::sync::Wait;
@@ -20,10 +19,6 @@ use zones_script::Command;
 pub struct Ended<N: Named> {
     pub done: DoneList,
     pub pass: ZonesPass<N>,
-}
-
-impl Waits for Command {
-    ghost waits = { MayWait };
 }
 
 // Runs one command.
