@@ -1,0 +1,5 @@
+mod LineNumbers
+mod ArgumentLaws
+mod ListLaws
+mod FeedLaws
+mod FrontLaws
