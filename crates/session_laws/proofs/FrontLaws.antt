@@ -11,13 +11,13 @@ use Rattle.job_model.specs.Sessions.{Reply, Ran, RefusedLine, GivenUp, Replied, 
 
 -- ---- the versions that first replies made
 
-pairs-append : (replies more : List Reply) → pairs_in (replies ++ more) ≡ pairs_in replies ++ pairs_in more
+pub pairs-append : (replies more : List Reply) → pairs_in (replies ++ more) ≡ pairs_in replies ++ pairs_in more
 pairs-append [] more = refl
 pairs-append (Ran pair ∷ replies) more = ap (λ (l : List Pair). pair ∷ l) (pairs-append replies more)
 pairs-append (RefusedLine line kind ∷ replies) more = pairs-append replies more
 pairs-append (GivenUp ∷ replies) more = pairs-append replies more
 
-asked-same : (j : ℕ) (pairs more : List Pair) → times_made j pairs ≡ 1 → asked_at j (pairs ++ more) ≡ asked_at j pairs
+pub asked-same : (j : ℕ) (pairs more : List Pair) → times_made j pairs ≡ 1 → asked_at j (pairs ++ more) ≡ asked_at j pairs
 asked-same j [] more once = absurd (omega (arith, once))
 asked-same j (pair ∷ pairs) more once = by_test (made j pair) once (λ (rest : times_made j pairs ≡ 1). asked-same j pairs more rest)
   where
@@ -29,7 +29,7 @@ asked-same j (pair ∷ pairs) more once = by_test (made j pair) once (λ (rest :
 abbrev Once : ℕ → List Pair → Type 0
 Once last pairs = (j : ℕ) → 0 < j → j ≤ last → times_made j pairs ≡ 1
 
-version-same : (origin : Name) (zone : Version) (pairs more : List Pair) (last v : ℕ) → Once last pairs → v ≤ last → version_at origin zone (pairs ++ more) v ≡ version_at origin zone pairs v
+pub version-same : (origin : Name) (zone : Version) (pairs more : List Pair) (last v : ℕ) → Once last pairs → v ≤ last → version_at origin zone (pairs ++ more) v ≡ version_at origin zone pairs v
 version-same origin zone pairs more last zero once few = refl
 version-same origin zone pairs more last (suc v) once few =
     ap (λ (t : Transaction). after origin t (version_at origin zone (pairs ++ more) v)) (asked-same (suc v) pairs more (once (suc v) (omega arith) few))
@@ -52,7 +52,7 @@ abbrev NoneAbove : ℕ → List Pair → Type 0
 NoneAbove last pairs = AllByRecursion (λ pair. pair.1.version ≤ last) pairs
 
 -- the text begins with this one
-abbrev Begins : List ℕ → List ℕ → Type 0
+abbrev pub Begins : List ℕ → List ℕ → Type 0
 Begins all front = (rest : List ℕ) × (all ≡ front ++ rest)
 
 behind : (before all front : List ℕ) → Begins all front → Begins (before ++ all) (before ++ front)

@@ -3,3 +3,6 @@ mod ArgumentLaws
 mod ListLaws
 mod FeedLaws
 mod FrontLaws
+mod SightLaws
+mod FirstLaws
+mod LineLaws
