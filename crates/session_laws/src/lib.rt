@@ -14,7 +14,8 @@ pub fn lists_are_sessions()
 /// What a session prints behind its first line, where its lines say a list's commands and none is refused, is what a feed of one worker
 /// prints of that list, on as many chunks; and all that such a feed may print is what a session may.
 pub fn sessions_print_as_feeds()
-    ensures session { (chunks : ℕ) (job : FedJob) (refused : Bool) (text : List ℕ) → Ended chunks job.origin job.zone (map Runs job.commands) refused text
+    ensures session { (chunks : ℕ) (job : FedJob) (refused : Bool) (text : List ℕ)
+        → Ended chunks job.origin job.zone (map Runs job.commands) refused text
         → (report : List ℕ) × (text ≡ ready_text (length job.zone) ++ report) × IsFeedOf 1 chunks job refused report }
     ensures feed { (chunks : ℕ) (job : FedJob) (refused : Bool) (report : List ℕ) → IsFeedOf 1 chunks job refused report
         → Ended chunks job.origin job.zone (map Runs job.commands) refused (ready_text (length job.zone) ++ report) }
