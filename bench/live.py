@@ -2,8 +2,8 @@
 """Times a live session. Usage: bench/live.py SESSION PROGRAM KIND COUNT: the zone of SESSION, up to its line %%, and so many commands.
 
 KIND is `one`, questions one at a time; `pipe`, the same through a pipe; `commits`, transactions of one addition with a question each, through
-a pipe; `slowest`, the slowest of so many questions one at a time while another session of the same program has a full pipe to answer. Prints
-microseconds each, and of `slowest` also the middle one.
+a pipe; `memory`, the same; `slowest`, the slowest of so many questions one at a time while another session of the same program has a full
+pipe to answer. Prints microseconds each, of `slowest` also the middle one, and of `memory` the most KiB that the program had.
 """
 import os
 import subprocess
@@ -33,8 +33,8 @@ def through(program, zone, lines):
         pass
     taken = time.perf_counter() - begun
     writer.join()
-    process.wait()
-    return taken
+    _, process.returncode, used = os.wait4(process.pid, 0)
+    return taken, used.ru_maxrss
 
 
 def one_by_one(program, zone, lines):
@@ -60,10 +60,11 @@ def main(name, program, kind, count):
     if kind == "one":
         print(f"{sum(one_by_one(program, zone, questions(hosts, count))) / count * 1e6:.2f}")
     elif kind == "pipe":
-        print(f"{through(program, zone, questions(hosts, count)) / count * 1e6:.2f}")
-    elif kind == "commits":
+        print(f"{through(program, zone, questions(hosts, count))[0] / count * 1e6:.2f}")
+    elif kind in ("commits", "memory"):
         lines = [b"write\nadd c%d 300 A 192.0.2.1\ncommit\nget c%d A\n" % (place % 1000, place % 1000) for place in range(count)]
-        print(f"{through(program, zone, lines) / count * 1e6:.2f}")
+        taken, kib = through(program, zone, lines)
+        print(kib if kind == "memory" else f"{taken / count * 1e6:.2f}")
     else:
         busy = threading.Thread(target=through, args=(program, zone, questions(hosts, count) * 20))
         busy.start()

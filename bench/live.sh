@@ -1,8 +1,8 @@
 #!/usr/bin/env bash
 # Times a live session: questions one at a time and through a pipe, transactions of one addition with a question each, and the slowest of
-# 100,000 questions one at a time while another session answers a full pipe beside it.
+# 100,000 questions one at a time while another session answers a full pipe beside it; and the memory of short and long sessions.
 # Usage: bench/live.sh [RECORDS [PROGRAM]] (100,000 records); build the program first, as the README says. Prints microseconds each, the
-# quickest of three runs; changes nothing but files of its own in a temporary folder.
+# quickest of three runs, and KiB; changes nothing but files of its own in a temporary folder.
 set -eu
 here=$(cd "$(dirname "$0")" && pwd)
 records=${1:-100000}
@@ -14,4 +14,6 @@ quickest() { for _ in 1 2 3; do python3 "$here/live.py" "$folder/session" "$prog
 echo "questions one at a time: $(quickest one 100000) us each"
 echo "questions through a pipe: $(quickest pipe 1000000) us each"
 echo "commits with a question each, through a pipe: $(quickest commits 100000) us each"
+memory() { python3 "$here/live.py" "$folder/session" "$program" memory "$1"; }
+echo "memory over 10,000 and 500,000 commits with a question each: $(memory 10000) and $(memory 500000) KiB"
 echo "slowest of 100,000 questions beside a full pipe: $(quickest slowest 100000) us"

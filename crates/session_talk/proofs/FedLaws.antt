@@ -3,7 +3,7 @@ use Rattle.std.proofs.Common.{◌≡◌, ◌∙◌, ℕ, ◌+◌, ◌<◌, List,
 use Rattle.std.specs.List.{AllByRecursion}
 use Rattle.report_laws.specs.Octets.{AllOctets}
 use Rattle.report_laws.proofs.VersionLemmas.{lines_are}
-use Rattle.std.proofs.Common.{◌-◌, ◌≤◌, Bool, true, false, eqb, Option, Some, None}
+use Rattle.std.proofs.Common.{◌≤◌, true, false, eqb, Option, Some, None}
 use Rattle.std.specs.List.{after_first, before_first, position, position_or_len}
 use Rattle.std.specs.Option.{option_map}
 use Rattle.std.specs.Str.Lines.{strip_carriage_return}

@@ -1,7 +1,7 @@
 -- A session that has come to one line more.
-use Rattle.std.proofs.Common.{◌≡◌, ◌∙◌, ℕ, ◌+◌, List, [], ◌∷◌, ◌++◌, length, refl, sym, ap, arith, append_assoc, append-nil}
+use Rattle.std.proofs.Common.{◌≡◌, ◌∙◌, ℕ, ◌+◌, List, [], ◌∷◌, ◌++◌, length, sym, ap, arith, append_assoc, append-nil}
 use Rattle.zone_model.specs.Names.{Name}
-use Rattle.job_model.specs.Sessions.{Said, Session, Step, session_line, session_lines, step_of}
+use Rattle.job_model.specs.Sessions.{Said, Session, Step, session_line, session_lines}
 
 -- the step of the line behind some
 abbrev pub step_behind : Name → ℕ → List (List ℕ) → List ℕ → Session → Step

@@ -1,11 +1,11 @@
 -- What a session has read and written, step by step.
-use Rattle.std.proofs.Common.{◌≡◌, ◌∙◌, ◌⊎◌, ℕ, ◌+◌, ◌-◌, ◌<◌, ◌≤◌, ◌^◌, suc, zero-add, Bool, true, false, List, [], ◌∷◌, ◌++◌, length, take, drop, Option, Some, None, refl, sym, ap, arith, subst, inl, inr, append_assoc, append-nil, length-append}
+use Rattle.std.proofs.Common.{◌≡◌, ◌∙◌, ◌⊎◌, ℕ, ◌+◌, ◌<◌, ◌≤◌, ◌^◌, suc, zero-add, Bool, true, false, List, [], ◌∷◌, ◌++◌, length, take, drop, Option, Some, None, refl, sym, ap, arith, subst, inl, inr, append_assoc, append-nil, length-append}
 use Rattle.std.proofs.lemmas.Grind.{common_steps}
-use Rattle.std.proofs.Common.{cond, eqb, get_or, ltb}
+use Rattle.std.proofs.Common.{cond, eqb, ltb}
 use Rattle.std.specs.List.{position, position_or_len}
 use Rattle.std.specs.Option.{option_map}
 use Rattle.std.proofs.lemmas.Bool.Decides.{nat_tests}
-use Rattle.std.proofs.lemmas.List.{get_or-take, length-take-le, take_at}
+use Rattle.std.proofs.lemmas.List.{get_or-take, length-take-le}
 use Rattle.std.proofs.lemmas.List.Sums.{fails_before_first, position_or_len_is}
 use Rattle.zone_text.proofs.LineLemmas.{found, missed}
 use Rattle.session_talk.proofs.FedLaws.{feed_at}
@@ -13,10 +13,10 @@ use Rattle.zone_model.specs.Lines.{lines_of}
 use Rattle.zone_model.specs.Names.{Name}
 use Rattle.job_model.specs.Commands.{Command}
 use Rattle.job_model.specs.Reports.{end_text}
-use Rattle.job_model.specs.Sessions.{Said, Session, Step, all_said, first_session, left_open, session_lines}
+use Rattle.job_model.specs.Sessions.{Said, Session, all_said, first_session, left_open, session_lines}
 use Rattle.job_report.specs.declared.outcomes.Outcome.{Outcome}
 use Rattle.outer_io.specs.Bytes.{Grows, GrowsByFront, Held}
-use Rattle.outer_io.proofs.GrowsLemmas.{Grows-nil, Grows-trans}
+use Rattle.outer_io.proofs.GrowsLemmas.{Grows-trans}
 use Rattle.std.proofs.Common.{Result, Ok, Err}
 use Rattle.std.specs.Prelude.{OnErr, OnOk}
 use Rattle.std.specs.Result.{IsErrAnd, IsErrOf}
@@ -31,8 +31,8 @@ use Rattle.session_lines.specs.Printing.{Printing, with_refused, with_text}
 use Rattle.session_lines.specs.Taking.{IsUnbroken, line_end}
 use Rattle.session_talk.specs.Answering.{AnswersLines, EndsLines, IsFed, SoFar, Way}
 use Rattle.session_talk.specs.Entries.{Entry, Refused, at_ready, commands_in, outcomes_in, said_in, with_entries}
-use Rattle.session_talk.specs.Serving.{AtWork, BeginsAt, Finished, IsDue, IsTooLong, LeftOpen, LinesDone, Settled, Stands}
-use Rattle.session_talk.specs.Workers.{EndsAt, Opened}
+use Rattle.session_talk.specs.Serving.{AtWork, BeginsAt, Finished, IsTooLong, LeftOpen, LinesDone, Settled, Stands}
+use Rattle.session_talk.specs.Workers.{EndsAt}
 use Rattle.session_talk.specs.declared.worker.LastVersion.{LastVersion}
 use Rattle.session_talk.proofs.EntryLaws.{commands-append, outcomes-append, said-append, with-append, with-written}
 use Rattle.session_talk.proofs.TextLaws.{ends}

@@ -1,5 +1,5 @@
 -- A session that was answered one line further.
-use Rattle.std.proofs.Common.{◌≡◌, ◌∙◌, ℕ, ◌+◌, ◌≤◌, Bool, List, [], ◌∷◌, ◌++◌, length, Result, Ok, Err, refl, sym, ap, arith, subst, length-append}
+use Rattle.std.proofs.Common.{◌≡◌, ◌∙◌, ℕ, ◌+◌, ◌≤◌, Bool, List, [], ◌∷◌, ◌++◌, length, Result, Ok, Err, sym, ap, arith, subst, length-append}
 use Rattle.std.specs.Prelude.{OnOk}
 use Rattle.zone_model.specs.Names.{Name, IsName}
 use Rattle.zone_model.specs.Lines.{lines_of}
@@ -12,7 +12,7 @@ use Rattle.session_lines.specs.Printing.{Printing}
 use Rattle.session_lines.specs.Well.{RunsWell, StepsWell}
 use Rattle.session_lines.proofs.SoundLaws.{line_well}
 use Rattle.session_talk.specs.Answering.{IsFed, IsSound, SoFar}
-use Rattle.session_talk.specs.Entries.{Entry, Ran, Replied, at_ready, said_in, with_entries}
+use Rattle.session_talk.specs.Entries.{Replied, at_ready, said_in, with_entries}
 use Rattle.session_talk.specs.Workers.{Opened}
 use Rattle.session_talk.proofs.EntryLaws.{said-append, with-append, with-written}
 use Rattle.session_talk.proofs.FedLaws.{lines_behind}

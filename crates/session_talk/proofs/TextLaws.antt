@@ -3,14 +3,13 @@ use Rattle.std.proofs.Common.{◌≡◌, ◌∙◌, ℕ, ◌+◌, Bool, true, fa
 use Rattle.zone_model.specs.Names.{Name}
 use Rattle.zone_model.specs.Versions.{Version}
 use Rattle.job_model.specs.Commands.{Command, Ask, Hold, AskHeld, Release, Block, Compact}
-use Rattle.job_model.specs.Outcomes.{Lawful, Pair, Sight, all_pairs, at_first, is_refused, sight_after, version_at}
-use Rattle.job_model.specs.Reports.{command_text, end_text, head_text}
-use Rattle.job_model.specs.Sessions.{Answered, Ended, Reply, Replied, Said, Runs, Refuses, GivesUp, given_up_text, pairs_in, ready_text, refused_line_text, refuses_some, replies_text, said_of, session_text, versions_in}
-use Rattle.job_report.specs.Outcomes.{EachTells, ended_view, outcome_view, outcome_text, pairs_of, told_text}
-use Rattle.job_report.specs.declared.outcomes.Outcome.{Outcome}
+use Rattle.job_model.specs.Outcomes.{Pair, Sight, all_pairs, at_first, is_refused, sight_after, version_at}
+use Rattle.job_model.specs.Reports.{end_text, head_text}
+use Rattle.job_model.specs.Sessions.{Answered, Ended, Replied, Said, Runs, Refuses, GivesUp, given_up_text, pairs_in, refused_line_text, refuses_some, replies_text, said_of, session_text, versions_in}
+use Rattle.job_report.specs.Outcomes.{EachTells, ended_view, outcome_view, outcome_text, pairs_of}
 use Rattle.job_report.proofs.ReportLemmas.{command_told}
 use Rattle.session_lines.specs.Printing.{Printing, seen_after, with_given_up, with_ran, with_refused}
-use Rattle.session_talk.specs.Entries.{Entry, Came, Refused, Gave, at_ready, commands_in, outcomes_in, replies_in, said_in, with_entries, with_entry}
+use Rattle.session_talk.specs.Entries.{Entry, Came, Refused, Gave, at_ready, commands_in, outcomes_in, replies_in, said_in, with_entries}
 use Rattle.session_talk.specs.Workers.{ComesTo, EndsAt, Opened}
 use Rattle.session_talk.specs.declared.worker.LastVersion.{LastVersion}
 

@@ -1,5 +1,5 @@
 -- How far a session has come.
-use Rattle.std.specs.Prelude.{◌≡◌, ◌⊎◌, ◌<◌, ◌≤◌, ◌^◌, ◌+◌, ℕ, Bool, List, [], ◌∷◌, ◌++◌, length, take, Option, Some, None}
+use Rattle.std.specs.Prelude.{◌≡◌, ◌⊎◌, ◌≤◌, ◌+◌, ℕ, Bool, List, [], ◌∷◌, ◌++◌, length}
 use Rattle.zone_model.specs.Lines.{lines_of}
 use Rattle.zone_model.specs.Names.{Name, IsName}
 use Rattle.job_model.specs.Commands.{Command}
@@ -8,7 +8,6 @@ use Rattle.job_report.specs.declared.outcomes.Outcome.{Outcome}
 use Rattle.outer_io.specs.Bytes.{Held}
 use Rattle.report_laws.specs.Changes.{IsBlock}
 use Rattle.session_lines.specs.Printing.{Printing}
-use Rattle.session_lines.specs.Taking.{IsUnbroken}
 use Rattle.session_talk.specs.Entries.{Entry, at_ready, commands_in, outcomes_in, said_in, with_entries}
 use Rattle.session_talk.specs.Workers.{Opened}
 
@@ -27,7 +26,8 @@ pub record IsSound (ready : Type 0) (origin worker_origin : Name) (holds : Bool)
   pub few : next ≤ lines + 1
 
 -- Lines of which the first has a number were answered: this has been written, and is to be written. A worker has run the commands.
-pub record SoFar (has_run : List Command → List Outcome → Type 0) (o : Opened) (first : ℕ) (done written : List ℕ) (s : Session) (p : Printing) (lines : ℕ) : Type 0 where
+pub record SoFar (has_run : List Command → List Outcome → Type 0) (o : Opened) (first : ℕ) (done written : List ℕ)
+    (s : Session) (p : Printing) (lines : ℕ) : Type 0 where
   pub lines_are : lines + 1 ≡ first + length (lines_of done)
   pub session : (session_lines o.origin first (lines_of done) first_session).session ≡ s
   pub entries : List Entry

@@ -1,5 +1,5 @@
 -- What a session has read and written.
-use Rattle.std.specs.Prelude.{◌≡◌, ◌⊎◌, ◌<◌, ◌≤◌, ◌^◌, ◌+◌, ℕ, Bool, List, [], ◌∷◌, ◌++◌, length, take}
+use Rattle.std.specs.Prelude.{◌≡◌, ◌⊎◌, ◌<◌, ◌^◌, ℕ, Bool, List, [], ◌++◌, length, take}
 use Rattle.zone_model.specs.Names.{Name}
 use Rattle.job_model.specs.Commands.{Command}
 use Rattle.job_model.specs.Sessions.{Session, left_open}
@@ -19,7 +19,8 @@ pub record LeftOpen (s : Session) (before now : Printing) : Type 0 where
   pub printed : now ≡ with_entries before more
 
 -- Whole lines behind a session's beginning were answered, and other bytes were taken. What was written lies in the sink.
-pub record AtWork (has_run : List Command → List Outcome → Type 0) (way : Way) (given : List ℕ) (held : Held) (s : Session) (p : Printing) (lines : ℕ) (pending : List ℕ) : Type 0 where
+pub record AtWork (has_run : List Command → List Outcome → Type 0) (way : Way) (given : List ℕ) (held : Held)
+    (s : Session) (p : Printing) (lines : ℕ) (pending : List ℕ) : Type 0 where
   pub done : List ℕ
   pub written : List ℕ
   pub fed : IsFed done
@@ -28,7 +29,8 @@ pub record AtWork (has_run : List Command → List Outcome → Type 0) (way : Wa
   pub so_far : SoFar has_run way.opened way.first done written s p lines
 
 -- All lines that came were answered, the last of which may have no line feed.
-pub record LinesDone (has_run : List Command → List Outcome → Type 0) (way : Way) (given : List ℕ) (held : Held) (s : Session) (p : Printing) (lines : ℕ) : Type 0 where
+pub record LinesDone (has_run : List Command → List Outcome → Type 0) (way : Way) (given : List ℕ) (held : Held)
+    (s : Session) (p : Printing) (lines : ℕ) : Type 0 where
   pub done : List ℕ
   pub written : List ℕ
   pub gave : given ≡ way.given ++ done
@@ -83,14 +85,16 @@ pub record Stands (way : Way) (given : List ℕ) (held : Held) : Type 0 where
 abbrev pub MayTalk : (List ℕ → List ℕ → Type 0) → Way → Type 0
 MayTalk is_settled way = (given : List ℕ) (held : Held) → Settled way given held → is_settled given held.taken
 
-pub record MayServe (is_settled : List ℕ → List ℕ → Type 0) (has_run : Way → List Command → List Outcome → Type 0) (origin : List (List ℕ)) (given : List ℕ) (held : Held) (s : Session) (p : Printing) (lines : ℕ) (pending : List ℕ) : Type 0 where
+pub record MayServe (is_settled : List ℕ → List ℕ → Type 0) (has_run : Way → List Command → List Outcome → Type 0)
+    (origin : List (List ℕ)) (given : List ℕ) (held : Held) (s : Session) (p : Printing) (lines : ℕ) (pending : List ℕ) : Type 0 where
   pub way : Way
   pub same : way.opened.origin ≡ origin
   pub at_work : AtWork (has_run way) way given held s p lines pending
   pub may : MayTalk is_settled way
 
 -- A session begins so: its worker has run nothing, and what was given behind its beginning are bytes that were taken.
-pub record BeginsAt (has_run : List Command → List Outcome → Type 0) (way : Way) (origin : Name) (first names : ℕ) (given : List ℕ) (held : Held) (pending : List ℕ) : Type 0 where
+pub record BeginsAt (has_run : List Command → List Outcome → Type 0) (way : Way) (origin : Name) (first names : ℕ)
+    (given : List ℕ) (held : Held) (pending : List ℕ) : Type 0 where
   pub ran : has_run [] []
   pub origin_is : way.opened.origin ≡ origin
   pub first_is : way.first ≡ first

@@ -1,8 +1,9 @@
 //! What was answered so far, and what one line more comes to.
 ghost use Rattle.std.specs.Prelude.{◌≡◌, ◌<◌, ◌≤◌, ◌+◌, ◌-◌, ◌++◌, ◌∷◌, ◌^◌, [], ℕ, Bool, List, false, IfOk, OnOk, OnErr, length};
-ghost use Rattle.session_talk.specs.Prelude.{Grows, GrowsByFront, IsName, Rose, lines_of, printing, said_view, session_view, RunsWell};
+ghost use Rattle.session_talk.specs.Prelude.{Grows, GrowsByFront, Rose, RunsWell, lines_of, printing, said_view};
 ghost use Rattle.session_talk.specs.Entries.{Entry, Ran, Replied};
-ghost use Rattle.session_talk.specs.Answering.{AnswersLines, IsFed, IsSound, SoFar};
+ghost use Rattle.session_talk.specs.Answering.{AnswersLines, IsFed};
+ghost use Rattle.session_talk.specs.Between.{CanGoOn, HasAnswered};
 ghost use Rattle.session_talk.specs.Workers.{Opened};
 
 use crate::worker::Worker;
@@ -68,10 +69,10 @@ pub fn begin<W: Worker>(
     requires ready { W.is_ready worker }
     requires same { W.origin worker ≡ origin.now }
     requires free { W.holds worker ≡ false }
-    ensures sound { IfOk result (λ a. IsSound (W.is_ready a.worker) a.origin.now (W.origin a.worker) (W.holds a.worker) (session_view a.session) a.replies.next a.lines) }
+    ensures sound { IfOk result (λ a. CanGoOn W.is_ready W.origin W.holds a) }
     ensures begun { IfOk result (λ a. (a.origin.now ≡ origin.now) × (a.lines + 1 ≡ first)) }
     ensures so_far { (o : Opened) → o.origin ≡ origin.now → length o.zone ≡ names → W.has_run worker o [] []
-        → IfOk result (λ a. SoFar (W.has_run a.worker o) o first [] [] (session_view a.session) (printing a.replies) a.lines) }
+        → IfOk result (λ a. HasAnswered W.has_run a o first [] []) }
 {
     let _wire = origin.wire(); // for the proof: it is a name
     let mut replies = Replies::new(alloc);
@@ -90,17 +91,17 @@ pub fn begin<W: Worker>(
 impl<W: Worker> Answering<'_, W> {
     /// Answers a line, which has its line feed unless it is the last.
     pub fn answer(&mut self, line: &[u8]) -> Result<(), AllocError>
-        requires sound { IsSound (W.is_ready self.old.worker) self.old.origin.now (W.origin self.old.worker) (W.holds self.old.worker) (session_view self.old.session) self.old.replies.next self.old.lines }
+        requires sound { CanGoOn W.is_ready W.origin W.holds self.old }
         requires few { self.old.lines < 2 ^ 63 }
         requires some { 0 < length line.now }
         requires short { length line.now ≤ 2 ^ 24 }
         requires one { (text : List ℕ) × (lines_of line.now ≡ text ∷ []) }
-        ensures sound { OnOk result (IsSound (W.is_ready self.new.worker) self.new.origin.now (W.origin self.new.worker) (W.holds self.new.worker) (session_view self.new.session) self.new.replies.next self.new.lines) }
+        ensures sound { OnOk result (CanGoOn W.is_ready W.origin W.holds self.new) }
         ensures lines { OnOk result (self.new.lines ≡ self.old.lines + 1) }
         ensures origin { OnOk result (self.new.origin ≡ self.old.origin) }
         ensures so_far { (o : Opened) (first : ℕ) (done written : List ℕ) → o.origin ≡ self.old.origin.now → IsFed done
-            → SoFar (W.has_run self.old.worker o) o first done written (session_view self.old.session) (printing self.old.replies) self.old.lines
-            → OnOk result (SoFar (W.has_run self.new.worker o) o first (done ++ line.now) written (session_view self.new.session) (printing self.new.replies) self.new.lines) }
+            → HasAnswered W.has_run self.old o first done written
+            → OnOk result (HasAnswered W.has_run self.new o first (done ++ line.now) written) }
     {
         self.lines += 1;
         let said = self
@@ -111,8 +112,8 @@ impl<W: Worker> Answering<'_, W> {
 
     /// Writes what is to be written.
     pub fn put<K: Sink>(&mut self, sink: &mut K) -> Result<(), Failed>
-        requires sound { IsSound (W.is_ready self.old.worker) self.old.origin.now (W.origin self.old.worker) (W.holds self.old.worker) (session_view self.old.session) self.old.replies.next self.old.lines }
-        ensures sound { OnOk result (IsSound (W.is_ready self.new.worker) self.new.origin.now (W.origin self.new.worker) (W.holds self.new.worker) (session_view self.new.session) self.new.replies.next self.new.lines) }
+        requires sound { CanGoOn W.is_ready W.origin W.holds self.old }
+        ensures sound { OnOk result (CanGoOn W.is_ready W.origin W.holds self.new) }
         ensures lines { self.new.lines ≡ self.old.lines }
         ensures origin { self.new.origin ≡ self.old.origin }
         ensures nothing { OnOk result (self.new.replies.text.items ≡ []) }
@@ -121,11 +122,11 @@ impl<W: Worker> Answering<'_, W> {
         ensures failed { OnErr result (Rose (K.faults sink.old) (K.faults sink.new)) }
         ensures quiet { OnOk result (K.faults sink.new ≡ K.faults sink.old) }
         ensures answers { (o : Opened) (first : ℕ) (done written : List ℕ)
-            → SoFar (W.has_run self.old.worker o) o first done written (session_view self.old.session) (printing self.old.replies) self.old.lines
+            → HasAnswered W.has_run self.old o first done written
             → AnswersLines o first done (written ++ self.old.replies.text.items) }
         ensures so_far { (o : Opened) (first : ℕ) (done written : List ℕ)
-            → SoFar (W.has_run self.old.worker o) o first done written (session_view self.old.session) (printing self.old.replies) self.old.lines
-            → OnOk result (SoFar (W.has_run self.new.worker o) o first done (written ++ self.old.replies.text.items) (session_view self.new.session) (printing self.new.replies) self.new.lines) }
+            → HasAnswered W.has_run self.old o first done written
+            → OnOk result (HasAnswered W.has_run self.new o first done (written ++ self.old.replies.text.items)) }
     {
         self.worker.tell();
         write_all(sink, &self.replies.text)?;

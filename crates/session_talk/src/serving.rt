@@ -1,8 +1,9 @@
 //! The loop of a session: what is due for all lines that were taken is written before more are asked for.
-ghost use Rattle.std.specs.Prelude.{◌≡◌, ◌<◌, ◌≤◌, ◌+◌, ◌++◌, ◌^◌, [], ℕ, Bool, true, false, Ok, Err, List, Some, IsTrue, IfOk, IsErrOf, OnOk, OnErr, length, take, drop};
-ghost use Rattle.session_talk.specs.Prelude.{Grows, GrowsByFront, IsUnbroken, Rose, line_end, printing, session_view};
-ghost use Rattle.session_talk.specs.Answering.{IsSound, Way};
-ghost use Rattle.session_talk.specs.Serving.{AtWork, Finished, IsTooLong, LeftOpen, LinesDone, MayServe, Settled, Stands};
+ghost use Rattle.std.specs.Prelude.{◌≡◌, ◌<◌, ◌≤◌, ◌+◌, ◌^◌, ℕ, true, false, Ok, Err, List, Some, IsTrue, IfOk, IsErrOf, OnOk, OnErr, length};
+ghost use Rattle.session_talk.specs.Prelude.{IsUnbroken, Rose, line_end, printing, session_view};
+ghost use Rattle.session_talk.specs.Answering.{Way};
+ghost use Rattle.session_talk.specs.Between.{CanGoOn, IsAtWork, IsThrough, MayGoOn};
+ghost use Rattle.session_talk.specs.Serving.{Finished, IsTooLong, LeftOpen, Settled, Stands};
 
 use crate::answering::Answering;
 use crate::worker::Worker;
@@ -63,17 +64,15 @@ const LONG: usize = 65536;
 
 // Writes what is to be written where that is much.
 fn flush<W: Worker, K: Sink>(answering: &mut Answering<'_, W>, sink: &mut K) -> Result<(), Stop>
-    requires { IsSound (W.is_ready answering.old.worker) answering.old.origin.now (W.origin answering.old.worker) (W.holds answering.old.worker) (session_view answering.old.session) answering.old.replies.next answering.old.lines }
-    ensures sound { OnOk result (IsSound (W.is_ready answering.new.worker) answering.new.origin.now (W.origin answering.new.worker) (W.holds answering.new.worker) (session_view answering.new.session) answering.new.replies.next answering.new.lines) }
+    requires { CanGoOn W.is_ready W.origin W.holds answering.old }
+    ensures sound { OnOk result (CanGoOn W.is_ready W.origin W.holds answering.new) }
     ensures lines { OnOk result (answering.new.lines ≡ answering.old.lines) }
     ensures origin { OnOk result (answering.new.origin ≡ answering.old.origin) }
     ensures quiet { (IsErrOf result Stop.Sink → ⊥) → K.faults sink.new ≡ K.faults sink.old }
     ensures failed { OnErr result ((result ≡ Err Stop.Sink) × Rose (K.faults sink.old) (K.faults sink.new)) }
-    ensures ok { (way : Way) (given pending : List ℕ)
-        → AtWork (W.has_run answering.old.worker way.opened) way given (K.held sink.old) (session_view answering.old.session) (printing answering.old.replies) answering.old.lines pending
-        → OnOk result (AtWork (W.has_run answering.new.worker way.opened) way given (K.held sink.new) (session_view answering.new.session) (printing answering.new.replies) answering.new.lines pending) }
-    ensures stands { (way : Way) (given pending : List ℕ)
-        → AtWork (W.has_run answering.old.worker way.opened) way given (K.held sink.old) (session_view answering.old.session) (printing answering.old.replies) answering.old.lines pending
+    ensures ok { (way : Way) (given pending : List ℕ) → IsAtWork W.has_run answering.old way given (K.held sink.old) pending
+        → OnOk result (IsAtWork W.has_run answering.new way given (K.held sink.new) pending) }
+    ensures stands { (way : Way) (given pending : List ℕ) → IsAtWork W.has_run answering.old way given (K.held sink.old) pending
         → Stands way given (K.held sink.old) → Stands way given (K.held sink.new) }
 {
     if answering.replies.text.len() < LONG {
@@ -90,11 +89,11 @@ fn answer_next<W: Worker, K: Sink>(
     count: usize,
     sink: &mut K,
 ) -> Result<(), Stop>
-    requires sound { IsSound (W.is_ready answering.old.worker) answering.old.origin.now (W.origin answering.old.worker) (W.holds answering.old.worker) (session_view answering.old.session) answering.old.replies.next answering.old.lines }
+    requires sound { CanGoOn W.is_ready W.origin W.holds answering.old }
     requires few { answering.old.lines < 2 ^ 63 }
     requires found { line_end intake.old.bytes ≡ Some count }
     requires short { count ≤ 2 ^ 24 }
-    ensures sound { OnOk result (IsSound (W.is_ready answering.new.worker) answering.new.origin.now (W.origin answering.new.worker) (W.holds answering.new.worker) (session_view answering.new.session) answering.new.replies.next answering.new.lines) }
+    ensures sound { OnOk result (CanGoOn W.is_ready W.origin W.holds answering.new) }
     ensures lines { OnOk result (answering.new.lines ≡ answering.old.lines + 1) }
     ensures origin { OnOk result (answering.new.origin ≡ answering.old.origin) }
     ensures rest { OnOk result (length intake.new.bytes < length intake.old.bytes) }
@@ -103,11 +102,11 @@ fn answer_next<W: Worker, K: Sink>(
     ensures failed { IsErrOf result Stop.Sink → Rose (K.faults sink.old) (K.faults sink.new) }
     ensures others { (IsErrOf result Stop.Fault → ⊥) × (IsErrOf result Stop.TooLong → ⊥) }
     ensures ok { (way : Way) (given : List ℕ) → way.opened.origin ≡ answering.old.origin.now
-        → AtWork (W.has_run answering.old.worker way.opened) way given (K.held sink.old) (session_view answering.old.session) (printing answering.old.replies) answering.old.lines intake.old.bytes
-        → OnOk result (AtWork (W.has_run answering.new.worker way.opened) way given (K.held sink.new) (session_view answering.new.session) (printing answering.new.replies) answering.new.lines intake.new.bytes) }
+        → IsAtWork W.has_run answering.old way given (K.held sink.old) intake.old.bytes
+        → OnOk result (IsAtWork W.has_run answering.new way given (K.held sink.new) intake.new.bytes) }
     ensures stands { (way : Way) (given : List ℕ) → way.opened.origin ≡ answering.old.origin.now
-        → AtWork (W.has_run answering.old.worker way.opened) way given (K.held sink.old) (session_view answering.old.session) (printing answering.old.replies) answering.old.lines intake.old.bytes
-        → Stands way given (K.held sink.old) → Stands way given (K.held sink.new) }
+        → IsAtWork W.has_run answering.old way given (K.held sink.old) intake.old.bytes → Stands way given (K.held sink.old)
+        → Stands way given (K.held sink.new) }
 {
     answering.answer(intake.front(count))?;
     intake.let_go(count);
@@ -120,9 +119,9 @@ fn answer_lines<W: Worker, K: Sink>(
     intake: &mut Intake,
     sink: &mut K,
 ) -> Result<(), Stop>
-    requires sound { IsSound (W.is_ready answering.old.worker) answering.old.origin.now (W.origin answering.old.worker) (W.holds answering.old.worker) (session_view answering.old.session) answering.old.replies.next answering.old.lines }
+    requires sound { CanGoOn W.is_ready W.origin W.holds answering.old }
     requires few { answering.old.lines + length intake.old.bytes < 2 ^ 63 }
-    ensures sound { OnOk result (IsSound (W.is_ready answering.new.worker) answering.new.origin.now (W.origin answering.new.worker) (W.holds answering.new.worker) (session_view answering.new.session) answering.new.replies.next answering.new.lines) }
+    ensures sound { OnOk result (CanGoOn W.is_ready W.origin W.holds answering.new) }
     ensures few { OnOk result (answering.new.lines + length intake.new.bytes ≤ answering.old.lines + length intake.old.bytes) }
     ensures origin { OnOk result (answering.new.origin ≡ answering.old.origin) }
     ensures rest { OnOk result (IsUnbroken intake.new.bytes) }
@@ -131,14 +130,13 @@ fn answer_lines<W: Worker, K: Sink>(
     ensures failed { IsErrOf result Stop.Sink → Rose (K.faults sink.old) (K.faults sink.new) }
     ensures others { IsErrOf result Stop.Fault → ⊥ }
     ensures ok { (way : Way) (given : List ℕ) → way.opened.origin ≡ answering.old.origin.now
-        → AtWork (W.has_run answering.old.worker way.opened) way given (K.held sink.old) (session_view answering.old.session) (printing answering.old.replies) answering.old.lines intake.old.bytes
-        → OnOk result (AtWork (W.has_run answering.new.worker way.opened) way given (K.held sink.new) (session_view answering.new.session) (printing answering.new.replies) answering.new.lines intake.new.bytes) }
+        → IsAtWork W.has_run answering.old way given (K.held sink.old) intake.old.bytes
+        → OnOk result (IsAtWork W.has_run answering.new way given (K.held sink.new) intake.new.bytes) }
     ensures stands { (way : Way) (given : List ℕ) → way.opened.origin ≡ answering.old.origin.now
-        → AtWork (W.has_run answering.old.worker way.opened) way given (K.held sink.old) (session_view answering.old.session) (printing answering.old.replies) answering.old.lines intake.old.bytes
-        → Stands way given (K.held sink.old) → Stands way given (K.held sink.new) }
+        → IsAtWork W.has_run answering.old way given (K.held sink.old) intake.old.bytes → Stands way given (K.held sink.old)
+        → Stands way given (K.held sink.new) }
     ensures too_long { (way : Way) (given : List ℕ) → way.opened.origin ≡ answering.old.origin.now
-        → AtWork (W.has_run answering.old.worker way.opened) way given (K.held sink.old) (session_view answering.old.session) (printing answering.old.replies) answering.old.lines intake.old.bytes
-        → IsErrOf result Stop.TooLong → IsTooLong way given (K.held sink.new) }
+        → IsAtWork W.has_run answering.old way given (K.held sink.old) intake.old.bytes → IsErrOf result Stop.TooLong → IsTooLong way given (K.held sink.new) }
 {
     'lines: while let Some(count) = intake.next_line() {
         if count > LONGEST {
@@ -166,11 +164,9 @@ fn end<W: Worker, K: Sink>(answering: Answering<'_, W>, sink: &mut K) -> Result<
     ensures quiet { (IsErrOf result Stop.Sink → ⊥) → K.faults sink.new ≡ K.faults sink.old }
     ensures failed { IsErrOf result Stop.Sink → Rose (K.faults sink.old) (K.faults sink.new) }
     ensures others { (IsErrOf result Stop.Fault → ⊥) × (IsErrOf result Stop.TooLong → ⊥) }
-    ensures ok { (way : Way) (given : List ℕ)
-        → LinesDone (W.has_run answering.entry.worker way.opened) way given (K.held sink.old) (session_view answering.entry.session) (printing answering.entry.replies) answering.entry.lines
+    ensures ok { (way : Way) (given : List ℕ) → IsThrough W.has_run answering.entry way given (K.held sink.old)
         → IfOk result (λ refused. Finished way refused given (K.held sink.new)) }
-    ensures stands { (way : Way) (given : List ℕ)
-        → LinesDone (W.has_run answering.entry.worker way.opened) way given (K.held sink.old) (session_view answering.entry.session) (printing answering.entry.replies) answering.entry.lines
+    ensures stands { (way : Way) (given : List ℕ) → IsThrough W.has_run answering.entry way given (K.held sink.old)
         → Stands way given (K.held sink.old) → OnErr result (Stands way given (K.held sink.new)) }
 {
     let Answering {
@@ -195,21 +191,21 @@ pub fn finish<W: Worker, K: Sink>(
     intake: &Intake,
     sink: &mut K,
 ) -> Result<bool, Stop>
-    requires sound { IsSound (W.is_ready answering.worker) answering.origin.now (W.origin answering.worker) (W.holds answering.worker) (session_view answering.session) answering.replies.next answering.lines }
+    requires sound { CanGoOn W.is_ready W.origin W.holds answering }
     requires few { answering.lines < 2 ^ 63 }
     requires rest { IsUnbroken intake.now.bytes }
     ensures quiet { (IsErrOf result Stop.Sink → ⊥) → K.faults sink.new ≡ K.faults sink.old }
     ensures failed { IsErrOf result Stop.Sink → Rose (K.faults sink.old) (K.faults sink.new) }
     ensures others { IsErrOf result Stop.Fault → ⊥ }
     ensures ok { (way : Way) (given : List ℕ) → way.opened.origin ≡ answering.entry.origin.now
-        → AtWork (W.has_run answering.entry.worker way.opened) way given (K.held sink.old) (session_view answering.entry.session) (printing answering.entry.replies) answering.entry.lines intake.now.bytes
+        → IsAtWork W.has_run answering.entry way given (K.held sink.old) intake.now.bytes
         → IfOk result (λ refused. Finished way refused given (K.held sink.new)) }
     ensures stands { (way : Way) (given : List ℕ) → way.opened.origin ≡ answering.entry.origin.now
-        → AtWork (W.has_run answering.entry.worker way.opened) way given (K.held sink.old) (session_view answering.entry.session) (printing answering.entry.replies) answering.entry.lines intake.now.bytes
+        → IsAtWork W.has_run answering.entry way given (K.held sink.old) intake.now.bytes
         → Stands way given (K.held sink.old) → OnErr result (Stands way given (K.held sink.new)) }
     ensures too_long { (way : Way) (given : List ℕ) → way.opened.origin ≡ answering.entry.origin.now
-        → AtWork (W.has_run answering.entry.worker way.opened) way given (K.held sink.old) (session_view answering.entry.session) (printing answering.entry.replies) answering.entry.lines intake.now.bytes
-        → IsErrOf result Stop.TooLong → IsTooLong way given (K.held sink.new) }
+        → IsAtWork W.has_run answering.entry way given (K.held sink.old) intake.now.bytes → IsErrOf result Stop.TooLong
+        → IsTooLong way given (K.held sink.new) }
 {
     let rest = intake.len();
     let mut answering = answering;
@@ -230,9 +226,9 @@ pub fn answer_due<W: Worker, K: Sink>(
     intake: &mut Intake,
     sink: &mut K,
 ) -> Result<(), Stop>
-    requires sound { IsSound (W.is_ready answering.old.worker) answering.old.origin.now (W.origin answering.old.worker) (W.holds answering.old.worker) (session_view answering.old.session) answering.old.replies.next answering.old.lines }
+    requires sound { CanGoOn W.is_ready W.origin W.holds answering.old }
     requires few { answering.old.lines + length intake.old.bytes < 2 ^ 63 }
-    ensures sound { OnOk result (IsSound (W.is_ready answering.new.worker) answering.new.origin.now (W.origin answering.new.worker) (W.holds answering.new.worker) (session_view answering.new.session) answering.new.replies.next answering.new.lines) }
+    ensures sound { OnOk result (CanGoOn W.is_ready W.origin W.holds answering.new) }
     ensures few { OnOk result (answering.new.lines + length intake.new.bytes ≤ answering.old.lines + length intake.old.bytes) }
     ensures origin { OnOk result (answering.new.origin ≡ answering.old.origin) }
     ensures rest { OnOk result (IsUnbroken intake.new.bytes) }
@@ -241,20 +237,18 @@ pub fn answer_due<W: Worker, K: Sink>(
     ensures failed { IsErrOf result Stop.Sink → Rose (K.faults sink.old) (K.faults sink.new) }
     ensures others { IsErrOf result Stop.Fault → ⊥ }
     ensures ok { (way : Way) (given : List ℕ) → way.opened.origin ≡ answering.old.origin.now
-        → AtWork (W.has_run answering.old.worker way.opened) way given (K.held sink.old) (session_view answering.old.session) (printing answering.old.replies) answering.old.lines intake.old.bytes
-        → OnOk result (AtWork (W.has_run answering.new.worker way.opened) way given (K.held sink.new) (session_view answering.new.session) (printing answering.new.replies) answering.new.lines intake.new.bytes) }
+        → IsAtWork W.has_run answering.old way given (K.held sink.old) intake.old.bytes
+        → OnOk result (IsAtWork W.has_run answering.new way given (K.held sink.new) intake.new.bytes) }
     ensures settled { (way : Way) (given : List ℕ) → way.opened.origin ≡ answering.old.origin.now
-        → AtWork (W.has_run answering.old.worker way.opened) way given (K.held sink.old) (session_view answering.old.session) (printing answering.old.replies) answering.old.lines intake.old.bytes
-        → OnOk result (Settled way given (K.held sink.new)) }
+        → IsAtWork W.has_run answering.old way given (K.held sink.old) intake.old.bytes → OnOk result (Settled way given (K.held sink.new)) }
     ensures long { (way : Way) (given : List ℕ) → way.opened.origin ≡ answering.old.origin.now
-        → AtWork (W.has_run answering.old.worker way.opened) way given (K.held sink.old) (session_view answering.old.session) (printing answering.old.replies) answering.old.lines intake.old.bytes
+        → IsAtWork W.has_run answering.old way given (K.held sink.old) intake.old.bytes
         → OnOk result (2 ^ 24 < length intake.new.bytes → IsTooLong way given (K.held sink.new)) }
     ensures stands { (way : Way) (given : List ℕ) → way.opened.origin ≡ answering.old.origin.now
-        → AtWork (W.has_run answering.old.worker way.opened) way given (K.held sink.old) (session_view answering.old.session) (printing answering.old.replies) answering.old.lines intake.old.bytes
-        → Stands way given (K.held sink.old) → Stands way given (K.held sink.new) }
+        → IsAtWork W.has_run answering.old way given (K.held sink.old) intake.old.bytes → Stands way given (K.held sink.old)
+        → Stands way given (K.held sink.new) }
     ensures too_long { (way : Way) (given : List ℕ) → way.opened.origin ≡ answering.old.origin.now
-        → AtWork (W.has_run answering.old.worker way.opened) way given (K.held sink.old) (session_view answering.old.session) (printing answering.old.replies) answering.old.lines intake.old.bytes
-        → IsErrOf result Stop.TooLong → IsTooLong way given (K.held sink.new) }
+        → IsAtWork W.has_run answering.old way given (K.held sink.old) intake.old.bytes → IsErrOf result Stop.TooLong → IsTooLong way given (K.held sink.new) }
 {
     answer_lines(answering, intake, sink)?;
     answering.put(sink)?;
@@ -269,15 +263,13 @@ pub fn turn<W: Worker, K: Sink, T: Talk<K>>(
     talk: &mut T,
     sink: &mut K,
 ) -> Result<bool, Stop>
-    requires sound { IsSound (W.is_ready answering.old.worker) answering.old.origin.now (W.origin answering.old.worker) (W.holds answering.old.worker) (session_view answering.old.session) answering.old.replies.next answering.old.lines }
+    requires sound { CanGoOn W.is_ready W.origin W.holds answering.old }
     requires few { answering.old.lines + length intake.old.bytes < 2 ^ 63 }
-    requires may { MayServe T.is_settled (λ way. W.has_run answering.old.worker way.opened) answering.old.origin.now (T.given talk.old) (K.held sink.old)
-        (session_view answering.old.session) (printing answering.old.replies) answering.old.lines intake.old.bytes }
-    ensures sound { OnOk result (IsSound (W.is_ready answering.new.worker) answering.new.origin.now (W.origin answering.new.worker) (W.holds answering.new.worker) (session_view answering.new.session) answering.new.replies.next answering.new.lines) }
+    requires may { MayGoOn W.has_run T.is_settled answering.old (T.given talk.old) (K.held sink.old) intake.old.bytes }
+    ensures sound { OnOk result (CanGoOn W.is_ready W.origin W.holds answering.new) }
     ensures few { OnOk result (answering.new.lines + length intake.new.bytes ≤ answering.old.lines + length intake.old.bytes + 65536) }
     ensures origin { OnOk result (answering.new.origin ≡ answering.old.origin) }
-    ensures may { OnOk result (MayServe T.is_settled (λ way. W.has_run answering.new.worker way.opened) answering.new.origin.now (T.given talk.new) (K.held sink.new)
-        (session_view answering.new.session) (printing answering.new.replies) answering.new.lines intake.new.bytes) }
+    ensures may { OnOk result (MayGoOn W.has_run T.is_settled answering.new (T.given talk.new) (K.held sink.new) intake.new.bytes) }
     ensures over { result ≡ Ok false → IsUnbroken intake.new.bytes × (intake.old.ended ≡ true) × (T.ended talk.new ≡ T.ended talk.old) }
     ensures more { result ≡ Ok true → intake.new.ended ≡ false → length (T.given talk.old) < length (T.given talk.new) }
     ensures begun { result ≡ Ok true → intake.old.ended ≡ false }
@@ -287,17 +279,15 @@ pub fn turn<W: Worker, K: Sink, T: Talk<K>>(
     ensures quiet_talk { (IsErrOf result Stop.Fault → ⊥) → T.faults talk.new ≡ T.faults talk.old }
     ensures talk_fault { IsErrOf result Stop.Fault → Rose (T.faults talk.old) (T.faults talk.new) }
     ensures ok { (way : Way) → way.opened.origin ≡ answering.old.origin.now
-        → AtWork (W.has_run answering.old.worker way.opened) way (T.given talk.old) (K.held sink.old) (session_view answering.old.session) (printing answering.old.replies) answering.old.lines intake.old.bytes
-        → OnOk result (AtWork (W.has_run answering.new.worker way.opened) way (T.given talk.new) (K.held sink.new) (session_view answering.new.session) (printing answering.new.replies) answering.new.lines intake.new.bytes) }
+        → IsAtWork W.has_run answering.old way (T.given talk.old) (K.held sink.old) intake.old.bytes
+        → OnOk result (IsAtWork W.has_run answering.new way (T.given talk.new) (K.held sink.new) intake.new.bytes) }
     ensures stands { (way : Way) → way.opened.origin ≡ answering.old.origin.now
-        → AtWork (W.has_run answering.old.worker way.opened) way (T.given talk.old) (K.held sink.old) (session_view answering.old.session) (printing answering.old.replies) answering.old.lines intake.old.bytes
+        → IsAtWork W.has_run answering.old way (T.given talk.old) (K.held sink.old) intake.old.bytes
         → Stands way (T.given talk.old) (K.held sink.old) → Stands way (T.given talk.new) (K.held sink.new) }
     ensures settled { IsErrOf result Stop.Fault → (way : Way) → way.opened.origin ≡ answering.old.origin.now
-        → AtWork (W.has_run answering.old.worker way.opened) way (T.given talk.old) (K.held sink.old) (session_view answering.old.session) (printing answering.old.replies) answering.old.lines intake.old.bytes
-        → Settled way (T.given talk.new) (K.held sink.new) }
+        → IsAtWork W.has_run answering.old way (T.given talk.old) (K.held sink.old) intake.old.bytes → Settled way (T.given talk.new) (K.held sink.new) }
     ensures too_long { IsErrOf result Stop.TooLong → (way : Way) → way.opened.origin ≡ answering.old.origin.now
-        → AtWork (W.has_run answering.old.worker way.opened) way (T.given talk.old) (K.held sink.old) (session_view answering.old.session) (printing answering.old.replies) answering.old.lines intake.old.bytes
-        → IsTooLong way (T.given talk.new) (K.held sink.new) }
+        → IsAtWork W.has_run answering.old way (T.given talk.old) (K.held sink.old) intake.old.bytes → IsTooLong way (T.given talk.new) (K.held sink.new) }
 {
     answer_due(answering, intake, sink)?;
     if intake.has_ended() {

@@ -1,8 +1,9 @@
 //! A session from its first line to its last.
 ghost use Rattle.std.specs.Prelude.{◌≡◌, ◌⊎◌, ◌<◌, ◌≤◌, ◌+◌, ◌^◌, true, false, ℕ, List, IsTrue, IsErrOf, IfOk, OnErr, OnOk, length};
-ghost use Rattle.session_talk.specs.Prelude.{Rose, printing, session_view};
-ghost use Rattle.session_talk.specs.Answering.{IsSound, Way};
-ghost use Rattle.session_talk.specs.Serving.{AtWork, BeginsAt, Finished, IsTooLong, MayServe, MayTalk, Settled, Stands};
+ghost use Rattle.session_talk.specs.Prelude.{Rose};
+ghost use Rattle.session_talk.specs.Answering.{Way};
+ghost use Rattle.session_talk.specs.Between.{CanGoOn, IsAtWork, MayGoOn};
+ghost use Rattle.session_talk.specs.Serving.{BeginsAt, Finished, IsTooLong, MayTalk, Settled, Stands};
 
 use crate::answering::{Answering, begin};
 use crate::reads::serve_lines;
@@ -19,20 +20,20 @@ fn end_session<W: Worker, K: Sink>(
     intake: &mut Intake,
     sink: &mut K,
 ) -> Result<bool, Stop>
-    requires sound { IsSound (W.is_ready answering.worker) answering.origin.now (W.origin answering.worker) (W.holds answering.worker) (session_view answering.session) answering.replies.next answering.lines }
+    requires sound { CanGoOn W.is_ready W.origin W.holds answering }
     requires few { answering.lines + length intake.old.bytes < 2 ^ 63 }
     ensures quiet { (IsErrOf result Stop.Sink → ⊥) → K.faults sink.new ≡ K.faults sink.old }
     ensures failed { IsErrOf result Stop.Sink → Rose (K.faults sink.old) (K.faults sink.new) }
     ensures others { IsErrOf result Stop.Fault → ⊥ }
     ensures ok { (way : Way) (given : List ℕ) → way.opened.origin ≡ answering.entry.origin.now
-        → AtWork (W.has_run answering.entry.worker way.opened) way given (K.held sink.old) (session_view answering.entry.session) (printing answering.entry.replies) answering.entry.lines intake.old.bytes
+        → IsAtWork W.has_run answering.entry way given (K.held sink.old) intake.old.bytes
         → IfOk result (λ refused. Finished way refused given (K.held sink.new)) }
     ensures stands { (way : Way) (given : List ℕ) → way.opened.origin ≡ answering.entry.origin.now
-        → AtWork (W.has_run answering.entry.worker way.opened) way given (K.held sink.old) (session_view answering.entry.session) (printing answering.entry.replies) answering.entry.lines intake.old.bytes
+        → IsAtWork W.has_run answering.entry way given (K.held sink.old) intake.old.bytes
         → Stands way given (K.held sink.old) → OnErr result (Stands way given (K.held sink.new)) }
     ensures too_long { (way : Way) (given : List ℕ) → way.opened.origin ≡ answering.entry.origin.now
-        → AtWork (W.has_run answering.entry.worker way.opened) way given (K.held sink.old) (session_view answering.entry.session) (printing answering.entry.replies) answering.entry.lines intake.old.bytes
-        → IsErrOf result Stop.TooLong → IsTooLong way given (K.held sink.new) }
+        → IsAtWork W.has_run answering.entry way given (K.held sink.old) intake.old.bytes → IsErrOf result Stop.TooLong
+        → IsTooLong way given (K.held sink.new) }
 {
     let mut answering = answering;
     answer_due(&mut answering, intake, sink)?;
@@ -46,10 +47,9 @@ fn serve_begun<W: Worker, K: Sink, T: Talk<K>>(
     talk: &mut T,
     sink: &mut K,
 ) -> Result<bool, Stop>
-    requires sound { IsSound (W.is_ready answering.worker) answering.origin.now (W.origin answering.worker) (W.holds answering.worker) (session_view answering.session) answering.replies.next answering.lines }
+    requires sound { CanGoOn W.is_ready W.origin W.holds answering }
     requires few { answering.lines + length intake.old.bytes ≤ 2 ^ 26 }
-    requires may { intake.old.ended ≡ false → MayServe T.is_settled (λ way. W.has_run answering.worker way.opened) answering.origin.now (T.given talk.old) (K.held sink.old)
-        (session_view answering.session) (printing answering.replies) answering.lines intake.old.bytes }
+    requires may { intake.old.ended ≡ false → MayGoOn W.has_run T.is_settled answering (T.given talk.old) (K.held sink.old) intake.old.bytes }
     ensures quiet_sink { (IsErrOf result Stop.Sink → ⊥) → K.faults sink.new ≡ K.faults sink.old }
     ensures sink_fault { IsErrOf result Stop.Sink → Rose (K.faults sink.old) (K.faults sink.new) }
     ensures quiet_talk { (IsErrOf result Stop.Fault → ⊥) → T.faults talk.new ≡ T.faults talk.old }
@@ -57,17 +57,15 @@ fn serve_begun<W: Worker, K: Sink, T: Talk<K>>(
     ensures unread { intake.old.ended ≡ true → (talk.new ≡ talk.old) × (IsErrOf result Stop.Fault → ⊥) }
     ensures ended { intake.old.ended ≡ false → OnOk result (IsTrue (T.ended talk.new) ⊎ (2 ^ 46 ≤ length (T.given talk.new))) }
     ensures ok { (way : Way) → way.opened.origin ≡ answering.entry.origin.now
-        → AtWork (W.has_run answering.entry.worker way.opened) way (T.given talk.old) (K.held sink.old) (session_view answering.entry.session) (printing answering.entry.replies) answering.entry.lines intake.old.bytes
+        → IsAtWork W.has_run answering.entry way (T.given talk.old) (K.held sink.old) intake.old.bytes
         → IfOk result (λ refused. Finished way refused (T.given talk.new) (K.held sink.new)) }
     ensures stands { (way : Way) → way.opened.origin ≡ answering.entry.origin.now
-        → AtWork (W.has_run answering.entry.worker way.opened) way (T.given talk.old) (K.held sink.old) (session_view answering.entry.session) (printing answering.entry.replies) answering.entry.lines intake.old.bytes
+        → IsAtWork W.has_run answering.entry way (T.given talk.old) (K.held sink.old) intake.old.bytes
         → Stands way (T.given talk.old) (K.held sink.old) → OnErr result (Stands way (T.given talk.new) (K.held sink.new)) }
     ensures settled { IsErrOf result Stop.Fault → (way : Way) → way.opened.origin ≡ answering.entry.origin.now
-        → AtWork (W.has_run answering.entry.worker way.opened) way (T.given talk.old) (K.held sink.old) (session_view answering.entry.session) (printing answering.entry.replies) answering.entry.lines intake.old.bytes
-        → Settled way (T.given talk.new) (K.held sink.new) }
+        → IsAtWork W.has_run answering.entry way (T.given talk.old) (K.held sink.old) intake.old.bytes → Settled way (T.given talk.new) (K.held sink.new) }
     ensures too_long { IsErrOf result Stop.TooLong → (way : Way) → way.opened.origin ≡ answering.entry.origin.now
-        → AtWork (W.has_run answering.entry.worker way.opened) way (T.given talk.old) (K.held sink.old) (session_view answering.entry.session) (printing answering.entry.replies) answering.entry.lines intake.old.bytes
-        → IsTooLong way (T.given talk.new) (K.held sink.new) }
+        → IsAtWork W.has_run answering.entry way (T.given talk.old) (K.held sink.old) intake.old.bytes → IsTooLong way (T.given talk.new) (K.held sink.new) }
 {
     if intake.has_ended() {
         return end_session(answering, intake, sink);
@@ -95,7 +93,8 @@ pub fn serve<W: Worker, K: Sink, T: Talk<K>>(
     requires same { W.origin worker ≡ origin.now }
     requires free { W.holds worker ≡ false }
     requires few { first + length intake.old.bytes ≤ 2 ^ 26 }
-    requires may { intake.old.ended ≡ false → (way : Way) × BeginsAt (W.has_run worker way.opened) way origin.now first names (T.given talk.old) (K.held sink.old) intake.old.bytes × MayTalk T.is_settled way }
+    requires may { intake.old.ended ≡ false → (way : Way)
+        × BeginsAt (W.has_run worker way.opened) way origin.now first names (T.given talk.old) (K.held sink.old) intake.old.bytes × MayTalk T.is_settled way }
     ensures quiet_sink { (IsErrOf result Stop.Sink → ⊥) → K.faults sink.new ≡ K.faults sink.old }
     ensures sink_fault { IsErrOf result Stop.Sink → Rose (K.faults sink.old) (K.faults sink.new) }
     ensures quiet_talk { (IsErrOf result Stop.Fault → ⊥) → T.faults talk.new ≡ T.faults talk.old }
@@ -105,10 +104,13 @@ pub fn serve<W: Worker, K: Sink, T: Talk<K>>(
     ensures ok { (way : Way) → BeginsAt (W.has_run worker way.opened) way origin.now first names (T.given talk.old) (K.held sink.old) intake.old.bytes
         → IfOk result (λ refused. Finished way refused (T.given talk.new) (K.held sink.new)) }
     ensures stands { (way : Way) → BeginsAt (W.has_run worker way.opened) way origin.now first names (T.given talk.old) (K.held sink.old) intake.old.bytes
-        → OnErr result (Stands way (T.given talk.new) (K.held sink.new) ⊎ ((T.given talk.new ≡ T.given talk.old) × (K.held sink.new ≡ K.held sink.old))) }
-    ensures settled { IsErrOf result Stop.Fault → (way : Way) → BeginsAt (W.has_run worker way.opened) way origin.now first names (T.given talk.old) (K.held sink.old) intake.old.bytes
+        → OnErr result (Stands way (T.given talk.new) (K.held sink.new)
+        ⊎ ((T.given talk.new ≡ T.given talk.old) × (K.held sink.new ≡ K.held sink.old))) }
+    ensures settled { IsErrOf result Stop.Fault → (way : Way)
+        → BeginsAt (W.has_run worker way.opened) way origin.now first names (T.given talk.old) (K.held sink.old) intake.old.bytes
         → Settled way (T.given talk.new) (K.held sink.new) }
-    ensures too_long { IsErrOf result Stop.TooLong → (way : Way) → BeginsAt (W.has_run worker way.opened) way origin.now first names (T.given talk.old) (K.held sink.old) intake.old.bytes
+    ensures too_long { IsErrOf result Stop.TooLong → (way : Way)
+        → BeginsAt (W.has_run worker way.opened) way origin.now first names (T.given talk.old) (K.held sink.old) intake.old.bytes
         → IsTooLong way (T.given talk.new) (K.held sink.new) }
 {
     let mut answering = begin(alloc, origin, worker, first, names)?;

@@ -1,7 +1,6 @@
-use Rattle.std.proofs.Common.{◌≡◌, ◌∙◌, ℕ, false, [], refl, sym, ap, arith}
+use Rattle.std.proofs.Common.{◌∙◌, ℕ, false, [], refl, sym, ap, arith}
 use Rattle.job_model.specs.Sessions.{ready_text, session_lines}
 use Rattle.session_lines.specs.Printing.{Printing, with_text}
-use Rattle.session_talk.specs.Entries.{at_ready}
 use Rattle.session_talk.proofs.answering.begin.Goals as goal
 
 pub returns-clause-so_far : goal.returns-clause-so_far

@@ -1,8 +1,8 @@
-use Rattle.std.proofs.Common.{◌≡◌, ◌∙◌, List, [], ◌∷◌, ◌++◌, refl, sym, ap}
+use Rattle.std.proofs.Common.{◌∙◌, [], ◌∷◌, refl, sym, ap}
 use Rattle.std.proofs.lemmas.Result.{on_ok_weaker}
-use Rattle.session_lines.specs.Printing.{Printing, with_given_up}
+use Rattle.session_lines.specs.Printing.{with_given_up}
 use Rattle.session_lines.specs.Views.{said_view}
-use Rattle.session_talk.specs.Entries.{Entry, Came, Refused, Gave}
+use Rattle.session_talk.specs.Entries.{Came, Refused, Gave}
 use Rattle.session_talk.specs.Prelude.{command_view}
 use Rattle.session_talk.proofs.EntryLaws.{on_replied, ran-push, ran-same}
 use Rattle.session_talk.proofs.answering.reply.Goals as goal

@@ -1,4 +1,4 @@
-use Rattle.std.proofs.Common.{◌≡◌, ◌∙◌, ◌≤◌, Bool, true, false, Ok, Err, length, refl, sym, ap, arith, inl, inr}
+use Rattle.std.proofs.Common.{◌∙◌, Ok, Err, refl, sym, ap, arith, inl}
 use Rattle.session_talk.proofs.ServeLaws.{either_end, passed_as, same_error}
 use Rattle.session_talk.specs.declared.serving.Stop.TheVariants as stop
 use Rattle.session_talk.proofs.reads.serve_lines.Goals as goal

@@ -1,4 +1,4 @@
-use Rattle.std.proofs.Common.{◌≡◌, ◌*◌, ◌^◌, ℕ, ◌+◌, ◌≤◌, true, false, List, length}
+use Rattle.std.proofs.Common.{◌≡◌, ◌*◌, ◌^◌, ◌+◌, ◌≤◌, true, false, length}
 use Rattle.std.specs.Prelude.{IsTrue}
 use Rattle.session_lines.specs.Printing.{printing}
 use Rattle.session_lines.specs.Views.{session_view}

@@ -1,4 +1,4 @@
-use Rattle.std.proofs.Common.{◌≡◌, ◌∙◌, ◌≤◌, ◌^◌, length, arith, Err, refl, sym, ap}
+use Rattle.std.proofs.Common.{◌≡◌, ◌≤◌, ◌^◌, length, arith, Err, sym, ap}
 use Rattle.session_talk.proofs.ServeLaws.{front_unbroken, grows_front, put_stands, put_work, same_error, settled_by, too_long_by}
 use Rattle.session_talk.specs.declared.serving.Stop.TheVariants.{Sink, TooLong}
 use Rattle.session_talk.proofs.serving.answer_due.Goals as goal

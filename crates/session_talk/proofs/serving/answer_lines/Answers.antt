@@ -1,5 +1,5 @@
-use Rattle.std.proofs.Common.{◌≡◌, ◌∙◌, ◌<◌, ◌^◌, ℕ, List, length, Err, refl, sym, ap, arith}
-use Rattle.session_talk.proofs.ServeLaws.{grows_front, long_line, no_line, put_stands, same_error, too_long_by}
+use Rattle.std.proofs.Common.{◌≡◌, ◌∙◌, ℕ, length, Err, refl, sym, ap, arith}
+use Rattle.session_talk.proofs.ServeLaws.{grows_front, long_line, put_stands, same_error, too_long_by}
 use Rattle.session_talk.specs.declared.serving.Stop.TheVariants.{Sink, TooLong}
 use Rattle.session_talk.proofs.serving.answer_lines.Goals as goal
 

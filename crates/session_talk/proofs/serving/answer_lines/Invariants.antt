@@ -1,5 +1,4 @@
 use Rattle.std.proofs.Common.{◌≡◌, ℕ, ◌+◌, ◌≤◌, List, length}
-use Rattle.outer_io.specs.Bytes.{Held}
 use Rattle.session_lines.specs.Printing.{printing}
 use Rattle.session_lines.specs.Views.{session_view}
 use Rattle.session_talk.specs.Answering.{IsSound, Way}

@@ -1,8 +1,5 @@
-use Rattle.std.proofs.Common.{◌≡◌, ◌∙◌, ◌++◌, List, ℕ, take, drop, refl, sym, ap, subst, arith}
-use Rattle.std.proofs.lemmas.Result.{on_ok_weaker}
 use Rattle.session_lines.specs.Printing.{printing}
 use Rattle.session_lines.specs.Views.{session_view}
-use Rattle.session_talk.specs.Serving.{AtWork, Stands}
 use Rattle.session_talk.proofs.FedLaws.{count_inside, fed_line, one_line}
 use Rattle.session_talk.proofs.ServeLaws.{line_work}
 use Rattle.session_talk.proofs.serving.answer_next.Goals as goal

@@ -1,4 +1,3 @@
-use Rattle.std.proofs.Common.{◌≡◌, ◌∙◌, refl, sym, ap}
 use Rattle.session_lines.specs.Printing.{printing}
 use Rattle.session_talk.proofs.ServeLaws.{ended_stands, finished, on_err}
 use Rattle.session_talk.proofs.serving.end.Goals as goal

@@ -1,4 +1,4 @@
-use Rattle.std.proofs.Common.{◌≡◌, ◌∙◌, ◌<◌, ◌^◌, ◌++◌, List, ℕ, length, take, refl, sym, ap, arith}
+use Rattle.std.proofs.Common.{◌≡◌, ◌<◌, ◌^◌, length, take, arith}
 use Rattle.std.proofs.lemmas.List.{take_all}
 use Rattle.session_talk.proofs.FedLaws.{last_one}
 use Rattle.session_talk.proofs.ServeLaws.{front_unbroken, grows_front, last_done, on_err, put_stands, same_error, too_long_by}

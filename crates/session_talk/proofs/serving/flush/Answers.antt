@@ -1,4 +1,3 @@
-use Rattle.std.proofs.Common.{◌≡◌, ◌∙◌, refl, sym, ap}
 use Rattle.session_talk.proofs.ServeLaws.{grows_front, put_stands, put_work}
 use Rattle.session_talk.proofs.serving.flush.Goals as goal
 

@@ -1,8 +1,3 @@
-use Rattle.std.proofs.Common.{◌≡◌, [], ◌∷◌, refl, sym}
-use Rattle.std.proofs.lemmas.Result.{on_ok_weaker}
-use Rattle.session_talk.specs.Entries.{Refused}
-use Rattle.session_talk.specs.Prelude.{printing, session_view}
-use Rattle.session_talk.specs.Serving.{LeftOpen}
 use Rattle.session_talk.proofs.ServeLaws.{left_refused}
 use Rattle.session_talk.proofs.serving.push_left_open.Goals as goal
 

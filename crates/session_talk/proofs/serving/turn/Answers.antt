@@ -1,4 +1,4 @@
-use Rattle.std.proofs.Common.{◌≡◌, ◌∙◌, Err, refl, sym, ap}
+use Rattle.std.proofs.Common.{◌∙◌, Err, sym, ap}
 use Rattle.session_talk.proofs.ServeLaws.{fault_of, more_stands, more_work, same_error, too_long_of}
 use Rattle.session_talk.proofs.serving.turn.Goals as goal
 

@@ -1,4 +1,4 @@
-use Rattle.std.proofs.Common.{◌≡◌, ◌∙◌, Err, refl, sym, ap}
+use Rattle.std.proofs.Common.{◌∙◌, Err, sym, ap}
 use Rattle.session_talk.proofs.ServeLaws.{on_err, same_error}
 use Rattle.session_talk.proofs.whole.end_session.Goals as goal
 

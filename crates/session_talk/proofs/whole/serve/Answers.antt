@@ -1,6 +1,5 @@
-use Rattle.std.proofs.Common.{◌≡◌, ◌∙◌, [], ◌+◌, ◌≤◌, ◌^◌, arith, length, sym, ap, inl}
-use Rattle.session_talk.proofs.ServeLaws.{begun_so_far, begun_stands, begun_work, err_left, grows_front, on_err, passed_as, same_error}
-use Rattle.session_talk.specs.declared.serving.Stop.TheVariants as stop
+use Rattle.std.proofs.Common.{◌∙◌, [], arith, sym, ap, inl}
+use Rattle.session_talk.proofs.ServeLaws.{begun_so_far, begun_stands, begun_work, err_left, grows_front, on_err}
 use Rattle.session_talk.proofs.whole.serve.Goals as goal
 
 pub serve_begun-requires-clause-may : goal.serve_begun-requires-clause-may

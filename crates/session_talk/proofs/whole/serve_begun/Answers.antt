@@ -1,4 +1,4 @@
-use Rattle.std.proofs.Common.{◌≡◌, ◌∙◌, Err, refl, sym, ap}
+use Rattle.std.proofs.Common.{◌∙◌, Err, sym, ap}
 use Rattle.session_talk.proofs.ServeLaws.{on_err, passed_as, same_error}
 use Rattle.session_talk.specs.declared.serving.Stop.TheVariants as stop
 use Rattle.session_talk.proofs.whole.serve_begun.Goals as goal

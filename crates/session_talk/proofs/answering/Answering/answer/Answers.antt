@@ -1,4 +1,4 @@
-use Rattle.std.proofs.Common.{◌≡◌, ◌∙◌, ◌<◌, [], refl, sym, ap, get_or, arith}
+use Rattle.std.proofs.Common.{◌<◌, get_or, arith}
 use Rattle.session_talk.proofs.FedLaws.{octets_in, octets_of}
 use Rattle.session_talk.proofs.SoFarLaws.{on_so_far, on_sound, said_well}
 use Rattle.session_talk.proofs.answering.Answering.answer.Goals as goal

@@ -1,4 +1,4 @@
-use Rattle.std.proofs.Common.{◌≡◌, ◌∙◌, [], refl, sym, ap}
+use Rattle.std.proofs.Common.{ap}
 use Rattle.session_lines.specs.Printing.{Printing}
 use Rattle.session_talk.proofs.TextLaws.{answers}
 use Rattle.session_talk.proofs.answering.Answering.put.Goals as goal

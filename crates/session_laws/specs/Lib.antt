@@ -1,0 +1,3 @@
+pub mod Feeds
+pub mod Fronts
+pub mod Prelude
