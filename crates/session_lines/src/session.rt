@@ -9,16 +9,18 @@ use dns_name::Name;
 use job_model::{Listing, ScriptKind};
 use job_script::{Command, JobRefusal, Script, Unfinished, script_line};
 use std::alloc::{AllocError, Global};
+use std::mem::replace;
 use zone_text::Token;
 
 /// What a session is between two lines: whether it holds a snapshot; the transaction that is open, and the number of its first line;
-/// and whether a refused line gave one up, whose last word is still to come.
+/// and whether a refused line gave one up, whose last word is still to come. The memory for a line's commands goes from line to line.
 #[derive(Drop)]
 pub struct Session {
     pub held: bool,
     pub block: Option<Unfinished>,
     pub opened: u64,
     pub given_up: bool,
+    room: Vec<Command>,
 }
 
 /// What a line says.
@@ -36,14 +38,14 @@ pub enum Said {
     RefusesLastWord(ScriptKind),
 }
 
-// A line's command is run.
-fn said_by(commands: Vec<Command>) -> Said
-    ensures { (n : ℕ) → said_view n result ≡ completed (map command_view commands.items) }
+// A line's command is run. It is taken out.
+fn said_by(commands: &mut Vec<Command>) -> Said
+    ensures { (n : ℕ) → said_view n result ≡ completed (map command_view commands.old.items) }
 {
-    match commands.into_iter().next() {
-        Some(command) => Said::Runs(command),
-        None => Said::Nothing,
+    if commands.is_empty() {
+        return Said::Nothing;
     }
+    Said::Runs(commands.swap_remove(0))
 }
 
 // Whether a snapshot is held behind what a line says.
@@ -59,7 +61,7 @@ fn held_behind(held: bool, said: &Said) -> bool
 
 impl Session {
     /// No line has come yet.
-    pub fn new() -> Session
+    pub fn new(alloc: Global) -> Session
         ensures { session_view result ≡ first_session }
     {
         Session {
@@ -67,6 +69,7 @@ impl Session {
             block: None,
             opened: 0,
             given_up: false,
+            room: Vec::new(alloc),
         }
     }
 
@@ -75,11 +78,13 @@ impl Session {
         ensures script { script_view result ≡ script_at (session_view self.old) }
         ensures block { session_view self.new ≡ record (session_view self.old) { block = None } }
     {
+        let mut commands = replace(&mut self.room, Vec::new(alloc));
+        commands.clear();
         Script {
             listing: Listing::Live,
             earlier: Vec::new(alloc),
             begun: true,
-            commands: Vec::new(alloc),
+            commands,
             held: self.held,
             block: self.block.take(),
         }
@@ -94,14 +99,15 @@ impl Session {
             listing: _,
             earlier: _,
             begun: _,
-            commands,
+            mut commands,
             held: _,
             block,
         } = script;
-        let said = said_by(commands);
+        let said = said_by(&mut commands);
         self.held = held_behind(self.held, &said);
         self.block = block;
         self.opened = if was_open { self.opened } else { number };
+        self.room = commands;
         said
     }
 

@@ -81,7 +81,7 @@ pub fn begin<W: Worker>(
         alloc,
         origin,
         worker,
-        session: Session::new(),
+        session: Session::new(alloc),
         replies,
         lines: first - 1,
         lent: Vec::new(alloc),
