@@ -15,6 +15,7 @@ mod responding;
 mod server;
 mod transferring;
 mod update;
+mod wire;
 
 pub use asking::Answered;
 pub use attaching::AttachRefusal;
@@ -27,3 +28,4 @@ pub use reply::{FromZone, Reply};
 pub use server::{Server, ServerPass};
 pub use transferring::{TransferRefusal, Transferred};
 pub use update::{Update, UpdateRefusal};
+pub use wire::WireRows;
