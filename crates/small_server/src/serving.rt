@@ -34,7 +34,7 @@ struct Told {
     line: String,
 }
 
-fn told(alloc: Global, host: &str, reply: &Reply<Answered>) -> Result<Told, AllocError> {
+fn in_short(alloc: Global, host: &str, reply: &Reply<Answered>) -> Result<Told, AllocError> {
     let table = reply.table;
     let Some(from) = &reply.from else {
         let line = format!(in alloc; "{host}: table v{table}, no zone\n")?;
@@ -56,7 +56,7 @@ impl<R: Threads + Wait + Sync> Small<'_, R> {
             server.learn(&mut pass, note);
         }
         let reply = server.ask(self.alloc, &mut pass, &name(host)?, A)?;
-        Ok((told(self.alloc, host, &reply)?, pass))
+        Ok((in_short(self.alloc, host, &reply)?, pass))
     }
 
     // The thread that changes puts an address into the upper zone, and detaches the lower one.
