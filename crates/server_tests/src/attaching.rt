@@ -1,27 +1,21 @@
 //! A zone below another one is detached and attached, again and again, while others ask for a name in it: each reply is of the zone that its
 //! version of the table has.
+ghost use Rattle.std.specs.Prelude.{◌≡◌};
+
 use crate::zones::{A, name, zone};
 use dns_name::Name;
 use std::alloc::Global;
+use std::marker::Brand;
 use std::sync::Wait;
 use std::test::Fail;
 use std::thread::{Threads, join, map_vec};
-use zone_server::{Answered, Home, Opening, Reply, Server, ServerPass, Service};
+use zone_server::{Answered, Home, Opening, Reply, Server, ServerPass};
 
 /// How often the lower zone is detached and attached again.
 const TURNS: u64 = 100;
 
 /// How often each reader asks at most.
 const ASKED: u32 = 20_000;
-
-/// Readers of a name in a zone, beside one that detaches and attaches it.
-#[derive(Drop)]
-struct Beside<'a, R> {
-    rt: &'a R,
-    alloc: Global,
-    lower: Name,
-    host: Name,
-}
 
 /// Whether a reply is of the zone that its version of the table has for the name: the lower one in each second, from the first on. The
 /// upper one hasn't the name.
@@ -98,30 +92,26 @@ fn write_on<R: Wait, H: Home>(
     true
 }
 
-impl<R: Threads + Wait + Sync> Service for Beside<'_, R> {
-    type Output = Option<bool>;
-
-    fn run<H: Home + Send + Sync>(
-        self,
-        server: &Server<H>,
-        passes: Vec<ServerPass<H>>,
-    ) -> Option<bool> {
-        let Beside {
-            rt,
-            alloc,
-            lower,
-            host,
-        } = self;
-        let (lower, host) = (&lower, &host);
-        let mut passes = passes;
-        let writer = passes.pop()?;
-        let (written, read) = join(
-            rt,
-            || write_on(rt, server, writer, lower),
-            || read_all(rt, alloc, server, passes, host),
-        );
-        Some(written && read)
-    }
+/// Readers of a name in a zone, beside one that detaches and attaches it.
+fn beside<R: Threads + Wait + Sync, H: Home + Send + Sync>(
+    rt: &R,
+    alloc: Global,
+    opening: Opening,
+    lower: &Name,
+    host: &Name,
+) -> Option<bool>
+    requires tables { H.tables ≡ opening.tables }
+    requires zones { H.zones ≡ opening.zones }
+{
+    let (server, mut passes) = opening.open::<H>(alloc).ok()?;
+    let server = &server;
+    let writer = passes.pop()?;
+    let (written, read) = join(
+        rt,
+        || write_on(rt, server, writer, lower),
+        || read_all(rt, alloc, server, passes, host),
+    );
+    Some(written && read)
 }
 
 /// Two zones, of which one lies below the other, for four passes.
@@ -131,13 +121,7 @@ fn play<R: Threads + Wait + Sync>(rt: &R, alloc: Global) -> Option<bool> {
     let opening = Opening::new(alloc, 4).ok()?;
     let opening = opening.with(alloc, zone(alloc, &upper)?, 16).ok()?;
     let opening = opening.with(alloc, zone(alloc, &lower)?, 16).ok()?;
-    let service = Beside {
-        rt,
-        alloc,
-        lower,
-        host,
-    };
-    opening.serve(alloc, service).ok()?
+    beside::<R, Brand>(rt, alloc, opening, &lower, &host)
 }
 
 #[test]

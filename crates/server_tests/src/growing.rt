@@ -1,13 +1,16 @@
 //! A zone has grown until it is full. It is opened anew on more chunks, by a server inside the first one, which is asked meanwhile.
+ghost use Rattle.std.specs.Prelude.{◌≡◌};
+
 use crate::zones::{A, name, zone};
 use dns_name::Name;
 use outer_io::MemSink;
 use std::alloc::{AllocError, Global};
+use std::marker::Brand;
 use std::sync::Wait;
 use std::test::Fail;
 use std::thread::{Threads, join};
 use zone_model::Style;
-use zone_server::{ChangeRefusal, Home, LoadedZone, Opening, Server, ServerPass, Service, Update};
+use zone_server::{ChangeRefusal, Home, LoadedZone, Opening, Server, ServerPass, Update};
 
 /// The number of the type TXT (RFC 1035, section 3.2.2).
 const TXT: u16 = 16;
@@ -20,24 +23,6 @@ const ASKED: u32 = 2_000;
 
 /// The most octets of the zone's text.
 const TEXT: usize = 1 << 20;
-
-/// A server whose zone grows.
-#[derive(Drop)]
-struct Grows<'a, R> {
-    rt: &'a R,
-    alloc: Global,
-    origin: Name,
-    host: Name,
-}
-
-/// The same zone on more chunks, with so many names more than at first.
-#[derive(Drop)]
-struct Grown<'a, R> {
-    rt: &'a R,
-    alloc: Global,
-    origin: Name,
-    names: u32,
-}
 
 /// Ten texts of a record.
 fn octets(alloc: Global) -> Result<Vec<u8>, AllocError> {
@@ -121,76 +106,57 @@ fn read_on<H: Home>(alloc: Global, server: &Server<H>, pass: ServerPass<H>, host
     true
 }
 
-/// Opens a zone on more chunks, and puts in what it had no room for.
-fn open_anew<R: Wait + Sync>(
+/// Puts in what a zone had no room for, the name of this number. Whether it is there then.
+fn grown<R: Wait, H: Home>(
     rt: &R,
     alloc: Global,
-    loaded: LoadedZone,
-    names: u32,
-) -> Option<bool> {
+    opening: Opening,
+    origin: &Name,
+    number: u32,
+) -> Option<bool>
+    requires tables { H.tables ≡ opening.tables }
+    requires zones { H.zones ≡ opening.zones }
+{
+    let (server, mut passes) = opening.open::<H>(alloc).ok()?;
+    let mut pass = passes.pop()?;
+    let made = put(rt, alloc, &server, &mut pass, origin, number)?;
+    let last = numbered(alloc, number)?;
+    let reply = server.ask(alloc, &mut pass, &last, TXT).ok()?;
+    let from = reply.from?;
+    Some(made.ok() == Some(1) && from.version == 1 && from.told.rows.as_slice().len() == 1)
+}
+
+/// The same of a zone that is opened on more chunks.
+fn open_anew<R: Wait>(rt: &R, alloc: Global, loaded: LoadedZone, number: u32) -> Option<bool> {
     let origin = *loaded.origin();
     let opening = Opening::new(alloc, 1).ok()?;
     let opening = opening.with(alloc, loaded, 64).ok()?;
-    let service = Grown {
+    grown::<R, Brand>(rt, alloc, opening, &origin, number)
+}
+
+/// A zone is filled, and opened anew on more chunks while it is read.
+fn grows<R: Threads + Wait + Sync, H: Home + Send + Sync>(
+    rt: &R,
+    alloc: Global,
+    opening: Opening,
+    origin: &Name,
+    host: &Name,
+) -> Option<bool>
+    requires tables { H.tables ≡ opening.tables }
+    requires zones { H.zones ≡ opening.zones }
+{
+    let (server, mut passes) = opening.open::<H>(alloc).ok()?;
+    let server = &server;
+    let reader = passes.pop()?;
+    let mut pass = passes.pop()?;
+    let number = fill(rt, alloc, server, &mut pass, origin)?;
+    let loaded = read_again(alloc, server, &mut pass, origin)?;
+    let (read, grown) = join(
         rt,
-        alloc,
-        origin,
-        names,
-    };
-    opening.serve(alloc, service).ok()?
-}
-
-impl<R: Wait + Sync> Service for Grown<'_, R> {
-    type Output = Option<bool>;
-
-    fn run<H: Home + Send + Sync>(
-        self,
-        server: &Server<H>,
-        passes: Vec<ServerPass<H>>,
-    ) -> Option<bool> {
-        let Grown {
-            rt,
-            alloc,
-            origin,
-            names,
-        } = self;
-        let mut passes = passes;
-        let mut pass = passes.pop()?;
-        let made = put(rt, alloc, server, &mut pass, &origin, names)?;
-        let last = numbered(alloc, names)?;
-        let reply = server.ask(alloc, &mut pass, &last, TXT).ok()?;
-        let from = reply.from?;
-        Some(made.ok() == Some(1) && from.version == 1 && from.told.rows.as_slice().len() == 1)
-    }
-}
-
-impl<R: Threads + Wait + Sync> Service for Grows<'_, R> {
-    type Output = Option<bool>;
-
-    fn run<H: Home + Send + Sync>(
-        self,
-        server: &Server<H>,
-        passes: Vec<ServerPass<H>>,
-    ) -> Option<bool> {
-        let Grows {
-            rt,
-            alloc,
-            origin,
-            host,
-        } = self;
-        let host = &host;
-        let mut passes = passes;
-        let reader = passes.pop()?;
-        let mut pass = passes.pop()?;
-        let names = fill(rt, alloc, server, &mut pass, &origin)?;
-        let loaded = read_again(alloc, server, &mut pass, &origin)?;
-        let (read, grown) = join(
-            rt,
-            || read_on(alloc, server, reader, host),
-            || open_anew(rt, alloc, loaded, names),
-        );
-        Some(read && grown?)
-    }
+        || read_on(alloc, server, reader, host),
+        || open_anew(rt, alloc, loaded, number),
+    );
+    Some(read && grown?)
 }
 
 /// A zone on 16 chunks, for two passes.
@@ -198,13 +164,7 @@ fn play<R: Threads + Wait + Sync>(rt: &R, alloc: Global) -> Option<bool> {
     let (origin, host) = (name("example.")?, name("www.example.")?);
     let opening = Opening::new(alloc, 2).ok()?;
     let opening = opening.with(alloc, zone(alloc, &origin)?, 16).ok()?;
-    let service = Grows {
-        rt,
-        alloc,
-        origin,
-        host,
-    };
-    opening.serve(alloc, service).ok()?
+    grows::<R, Brand>(rt, alloc, opening, &origin, &host)
 }
 
 #[test]

@@ -6,20 +6,17 @@ mod failure;
 mod serving;
 
 use crate::failure::Failure;
-use crate::serving::Small;
+use crate::serving::open_and_serve;
 use dns_name::Name;
 use std::alloc::Global;
+use std::marker::Brand;
 use std::sync::Wait;
 use std::thread::Threads;
 use zone_server::{LoadedZone, Opening};
 
-/// The master file of the upper zone, `example.`.
-const UPPER: &str =
+/// The master file of both zones.
+const ZONE: &str =
     "@ 300 SOA ns hostmaster 1 3600 600 86400 60\n@ 300 NS ns\nns 300 A 192.0.2.1\nwww 300 A 192.0.2.2\n";
-
-/// That of the lower one, `sub.example.`.
-const LOWER: &str =
-    "@ 300 SOA ns hostmaster 1 3600 600 86400 60\n@ 300 NS ns\nns 300 A 192.0.2.3\nwww 300 A 192.0.2.4\n";
 
 /// The name that a text says, with a dot at its end.
 fn name(text: &str) -> Result<Name, Failure> {
@@ -31,11 +28,11 @@ fn name(text: &str) -> Result<Name, Failure> {
 
 // Reads the zones, and serves them: on 16 chunks each, for three threads.
 fn run<R: Threads + Wait + Sync>(rt: &R, alloc: Global) -> Result<String, Failure> {
-    let upper = LoadedZone::read(alloc, &name("example.")?, UPPER.as_bytes())?;
-    let lower = LoadedZone::read(alloc, &name("sub.example.")?, LOWER.as_bytes())?;
+    let upper = LoadedZone::read(alloc, &name("example.")?, ZONE.as_bytes())?;
+    let lower = LoadedZone::read(alloc, &name("sub.example.")?, ZONE.as_bytes())?;
     let opening = Opening::new(alloc, 3)?;
     let opening = opening.with(alloc, upper, 16)?.with(alloc, lower, 16)?;
-    opening.serve(alloc, Small { rt, alloc })?
+    open_and_serve::<R, Brand>(rt, alloc, opening)
 }
 
 fn main(rt: HostRuntime) -> anyhow::Result<()> {

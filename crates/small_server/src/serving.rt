@@ -1,4 +1,6 @@
 //! The server from its opening to its end.
+ghost use Rattle.std.specs.Prelude.{◌≡◌};
+
 use crate::failure::Failure;
 use crate::name;
 use outer_io::MemSink;
@@ -6,16 +8,16 @@ use std::alloc::{AllocError, Global};
 use std::sync::Wait;
 use std::thread::{Threads, join};
 use zone_model::Style;
-use zone_server::{Answered, Home, Reply, Server, ServerNote, ServerPass, Service, Update};
+use zone_server::{Answered, Home, Opening, Reply, Server, ServerNote, ServerPass, Update};
 
 /// The number of the type A (RFC 1035, section 3.2.2).
 const A: u16 = 1;
 
 /// What the server needs of its surroundings.
 #[derive(Drop)]
-pub struct Small<'a, R> {
-    pub rt: &'a R,
-    pub alloc: Global,
+struct Small<'a, R> {
+    rt: &'a R,
+    alloc: Global,
 }
 
 /// What a thread is to answer: by a pass, a note that it learns before, and a name.
@@ -162,18 +164,18 @@ impl<R: Threads + Wait + Sync> Small<'_, R> {
     }
 }
 
-impl<R: Threads + Wait + Sync> Service for Small<'_, R> {
-    type Output = Result<String, Failure>;
-
-    fn run<H: Home + Send + Sync>(
-        self,
-        server: &Server<H>,
-        passes: Vec<ServerPass<H>>,
-    ) -> Result<String, Failure> {
-        let mut passes = passes;
-        let first = passes.pop().ok_or(Failure::Passes)?;
-        let second = passes.pop().ok_or(Failure::Passes)?;
-        let writer = passes.pop().ok_or(Failure::Passes)?;
-        self.serve(server, first, second, writer)
-    }
+/// Opens zones for three threads, and serves them. `H` names them, and their tables.
+pub fn open_and_serve<R: Threads + Wait + Sync, H: Home + Send + Sync>(
+    rt: &R,
+    alloc: Global,
+    opening: Opening,
+) -> Result<String, Failure>
+    requires tables { H.tables ≡ opening.tables }
+    requires zones { H.zones ≡ opening.zones }
+{
+    let (server, mut passes) = opening.open::<H>(alloc)?;
+    let first = passes.pop().ok_or(Failure::Passes)?;
+    let second = passes.pop().ok_or(Failure::Passes)?;
+    let writer = passes.pop().ok_or(Failure::Passes)?;
+    Small { rt, alloc }.serve(&server, first, second, writer)
 }

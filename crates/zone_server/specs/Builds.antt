@@ -11,7 +11,7 @@ use Rattle.zone_server.specs.declared.opening.OpenRefusal.TheVariants as refusal
 
 -- For so many passes, if there can be so many, and without zones yet.
 abbrev pub OpensFor : ℕ → Result OpeningView OpenRefusal → Type 0
-OpensFor passes (Ok o) = (o ≡ record { passes = passes; zones = [] }) × (1 ≤ passes) × (passes ≤ 17)
+OpensFor passes (Ok o) = (o.passes ≡ passes) × (o.zones ≡ []) × (1 ≤ passes) × (passes ≤ 17)
 OpensFor passes (Err refusal.Passes) = (passes < 1) ⊎ (17 < passes)
 OpensFor passes (Err e) = e ≡ refusal.Memory
 

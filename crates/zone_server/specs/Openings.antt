@@ -31,7 +31,8 @@ pub record IsOpening (passes : ℕ) (zones : List ZoneItems) (sizes : List Table
   pub different : IsDistinct same_name (origins_of zones)
   pub are_zones : All (λ z. IsZone z.origin (entries_in z)) zones
 
--- how many passes there are to be, and the zones
+-- how many passes there are to be, the zones, and the names of their tables, that of the origins first
 pub record OpeningView : Type 0 where
   pub passes : ℕ
   pub zones : List Served
+  pub tables : List ℕ

@@ -23,7 +23,7 @@ pub use changing::ChangeRefusal;
 pub use home::Home;
 pub use loading::{LoadRefusal, LoadedZone};
 pub use noting::ServerNote;
-pub use opening::{OpenRefusal, Opening, Service};
+pub use opening::{OpenRefusal, Opening};
 pub use reply::{FromZone, Reply};
 pub use server::{Server, ServerPass};
 pub use transferring::{TransferRefusal, Transferred};
