@@ -23,31 +23,28 @@ struct Small<'a, R> {
 /// What a thread is to answer: by a pass, a note that it learns before, and a name.
 type Task<H> = (ServerPass<H>, Option<ServerNote<H>>, &'static str);
 
-/// What a thread was told, with its pass.
-type Done<H> = (Told, ServerPass<H>);
+/// How many records a thread was told, the reply in short, and its pass.
+type Done<H> = (usize, String, ServerPass<H>);
 
 /// What was made, a note of that for each thread that answers, and the pass.
 type Changed<H> = (String, ServerNote<H>, ServerNote<H>, ServerPass<H>);
 
-/// How many records a reply has, and the reply in short.
-#[derive(Drop)]
-struct Told {
-    records: usize,
-    line: String,
-}
-
-fn in_short(alloc: Global, host: &str, reply: &Reply<Answered>) -> Result<Told, AllocError> {
+// How many records a reply has, and the reply in short.
+fn in_short(
+    alloc: Global,
+    host: &str,
+    reply: &Reply<Answered>,
+) -> Result<(usize, String), AllocError> {
     let table = reply.table;
     let Some(from) = &reply.from else {
-        let line = format!(in alloc; "{host}: table v{table}, no zone\n")?;
-        return Ok(Told { records: 0, line });
+        return Ok((0, format!(in alloc; "{host}: table v{table}, no zone\n")?));
     };
     let records = from.told.rows.as_slice().len();
     let line = format!(in alloc;
         "{host}: table v{table}, zone {} v{}, {:?} {records}\n",
         from.zone, from.version, from.told.kind
     )?;
-    Ok(Told { records, line })
+    Ok((records, line))
 }
 
 impl<R: Threads + Wait + Sync> Small<'_, R> {
@@ -58,7 +55,8 @@ impl<R: Threads + Wait + Sync> Small<'_, R> {
             server.learn(&mut pass, note);
         }
         let reply = server.ask(self.alloc, &mut pass, &name(host)?, A)?;
-        Ok((in_short(self.alloc, host, &reply)?, pass))
+        let (records, line) = in_short(self.alloc, host, &reply)?;
+        Ok((records, line, pass))
     }
 
     // The thread that changes puts an address into the upper zone, and detaches the lower one.
@@ -145,18 +143,16 @@ impl<R: Threads + Wait + Sync> Small<'_, R> {
     ) -> Result<String, Failure> {
         let (upper, lower) = ("www.example.", "www.sub.example.");
         let both = self.answer_both(server, (first, None, upper), (second, None, lower))?;
-        let ((one, mut first), (two, second)) = both;
+        let ((_, one, mut first), (_, two, second)) = both;
         let (changed, done, held) = self.hold(server, &mut first, writer, (second, None, upper))?;
         let (made, note, other, mut writer) = changed;
-        let (meanwhile, second) = done;
+        let (count, _line, second) = done;
         let first = (first, Some(note), "new.example.");
         let both = self.answer_both(server, first, (second, Some(other), lower))?;
-        let ((three, _first), (four, _second)) = both;
+        let ((_, three, _first), (_, four, _second)) = both;
         let origin = name("sub.example.")?;
         server.attach(self.rt, &mut writer, &origin)?;
-        let (last, _writer) = self.answer(server, (writer, None, lower))?;
-        let (one, two, three, four, last) = (one.line, two.line, three.line, four.line, last.line);
-        let count = meanwhile.records;
+        let (_, last, _writer) = self.answer(server, (writer, None, lower))?;
         let text = format!(in self.alloc;
             "{one}{two}{made}while these were made, {upper} had {count} record\n{held}{three}{four}attached again, {last}"
         )?;
