@@ -7,6 +7,7 @@ use Rattle.std.specs.List.{All, AllByRecursion, IsDistinct, list_any, slice_get}
 use Rattle.zone_model.specs.MasterFile.{Zone}
 use Rattle.zone_model.specs.Names.{Name, same_name}
 use Rattle.trie_model.specs.Keys.{Rises}
+use Rattle.atomic_table.specs.Seated.{TableId}
 use Rattle.shared_cells.specs.declared.view.TableSize.{TableSize}
 use Rattle.qp_multi.specs.declared.meaning.Named.{Ghosts}
 use Rattle.qp_multi.specs.Passes.{first_version}
@@ -101,7 +102,7 @@ module _ {B : Type 0} (key : B → TableSize) (passes : ℕ) (zones : List ZoneI
       (subst (λ (l : List TableSize). IsOpening passes (zones ++ z ∷ []) l table) (sym (sizes_more b blanks' bs))
       (opening_more passes zones (map key blanks) table z (key b) o room size (ap (λ (n : Name). list_any (λ x. same_name (origin_in x) n) zones) named ∙ none) is))
 
-  pub has_one_more : {names names' : List ℕ} (zone : Zone) (chunks : ℕ) (z : ZoneItems) (b : B) (zones' : List ZoneItems) (blanks' : List B) → length (map key blanks) ≡ length zones → (view : OpeningView) → record { passes = passes; zones = served_of zones (map key blanks); tables = names } ≡ view
+  pub has_one_more : {names names' : List TableId} (zone : Zone) (chunks : ℕ) (z : ZoneItems) (b : B) (zones' : List ZoneItems) (blanks' : List B) → length (map key blanks) ≡ length zones → (view : OpeningView) → record { passes = passes; zones = served_of zones (map key blanks); tables = names } ≡ view
       → (key b).passes ≡ passes → (key b).chunks ≡ chunks → z.origin ≡ zone.origin → StandsAs (entries_in z) zone.pairs → zones' ≡ zones ++ z ∷ [] → blanks' ≡ blanks ++ b ∷ [] → HasOneMore view zone chunks (record { passes = passes; zones = served_of zones' (map key blanks'); tables = names' })
   has_one_more zone chunks z b zones' blanks' each view is size many named stands zs bs = record {
     passes = ap (λ (v : OpeningView). v.passes) is;

@@ -3,6 +3,7 @@ use Rattle.std.specs.Prelude.{◌≡◌, ◌<◌, ◌≤◌, ℕ, List, [], ◌�
 use Rattle.std.specs.List.{IsDistinct, list_any}
 use Rattle.zone_model.specs.Names.{Name, same_name}
 use Rattle.zone_model.specs.MasterFile.{Zone}
+use Rattle.atomic_table.specs.Seated.{TableId}
 use Rattle.shared_cells.specs.declared.view.TableSize.{TableSize}
 use Rattle.job_commands.specs.Histories.{IsZone, StandsAs}
 use Rattle.zone_table.specs.Openings.{Place, entries_in, origins_of, places_of}
@@ -35,4 +36,4 @@ pub record IsOpening (passes : ℕ) (zones : List ZoneItems) (sizes : List Table
 pub record OpeningView : Type 0 where
   pub passes : ℕ
   pub zones : List Served
-  pub tables : List ℕ
+  pub tables : List TableId
