@@ -1,8 +1,7 @@
 -- Zones that are put together, and opened.
-use Rattle.std.proofs.Common.{◌≡◌, ◌∙◌, inl, inr, ℕ, zero, suc, ◌+◌, ◌<◌, ◌≤◌, Bool, true, false, ◌||◌, List, [], ◌∷◌, ◌++◌, length, map, get_or, Some, refl, sym, ap, subst, arith, length-append}
-use Rattle.std.proofs.lemmas.List.{length-map, map-append}
-use Rattle.std.proofs.lemmas.List.Elements.{All-push, All-get_or}
-use Rattle.std.proofs.lemmas.Option.{slice_get_within}
+use Rattle.std.proofs.Common.{◌≡◌, ◌∙◌, ℕ, zero, suc, ◌+◌, ◌<◌, ◌≤◌, Bool, true, false, ◌||◌, List, [], ◌∷◌, ◌++◌, length, map, get_or, Some, refl, sym, ap, subst, arith, length-append}
+use Rattle.std.proofs.lemmas.List.{map-append}
+use Rattle.std.proofs.lemmas.List.Elements.{All-push}
 use Rattle.std.specs.List.{All, AllByRecursion, IsDistinct, list_any, slice_get}
 use Rattle.zone_model.specs.MasterFile.{Zone}
 use Rattle.zone_model.specs.Names.{Name, same_name}
@@ -10,15 +9,14 @@ use Rattle.trie_model.specs.Keys.{Rises}
 use Rattle.atomic_table.specs.Seated.{TableId}
 use Rattle.shared_cells.specs.declared.view.TableSize.{TableSize}
 use Rattle.qp_multi.specs.declared.meaning.Named.{Ghosts}
-use Rattle.qp_multi.specs.Passes.{first_version}
 use Rattle.job_commands.specs.Histories.{IsLawful, IsZone, StandsAs}
 use Rattle.job_commands.proofs.ZoneLaws.{zone_lawful, zone_rises}
 use Rattle.zone_table.specs.declared.opening.ZoneItems.{ZoneItems}
 use Rattle.zone_table.specs.declared.pass.ZonesPass.{ZonesPass}
 use Rattle.zone_table.specs.declared.zones.Zones.{Zones}
-use Rattle.zone_table.specs.Dealings.{AreMade, IsNewPass}
-use Rattle.zone_table.specs.Openings.{Place, entries_in, origins_of, places_of}
-use Rattle.zone_table.specs.Passes.{IsPassOf, zone_known}
+use Rattle.zone_table.specs.Dealings.{AreMade}
+use Rattle.zone_table.specs.Openings.{entries_in, origins_of}
+use Rattle.zone_table.specs.Passes.{IsPassOf}
 use Rattle.zone_table.proofs.Lists.{all_at, some_is}
 use Rattle.zone_server.specs.Homes.{Served}
 use Rattle.zone_server.specs.Builds.{HasOneMore}

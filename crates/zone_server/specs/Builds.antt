@@ -1,7 +1,7 @@
 -- How an opening is put together, and why it isn't.
-use Rattle.std.specs.Prelude.{◌≡◌, ◌⊎◌, ◌<◌, ◌≤◌, ℕ, true, List, [], ◌∷◌, ◌++◌, length, Result, Ok, Err}
+use Rattle.std.specs.Prelude.{◌≡◌, ◌⊎◌, ◌<◌, ◌≤◌, ℕ, true, [], ◌∷◌, ◌++◌, length, Result, Ok, Err}
 use Rattle.std.specs.List.{list_any}
-use Rattle.zone_model.specs.Names.{Name, same_name}
+use Rattle.zone_model.specs.Names.{same_name}
 use Rattle.zone_model.specs.MasterFile.{Zone}
 use Rattle.job_commands.specs.Histories.{StandsAs}
 use Rattle.zone_server.specs.Homes.{Served}

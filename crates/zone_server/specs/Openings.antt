@@ -1,11 +1,10 @@
 -- What a server is opened with.
-use Rattle.std.specs.Prelude.{◌≡◌, ◌<◌, ◌≤◌, ℕ, List, [], ◌∷◌, ◌++◌, map, All, length, Result, Ok, Err}
-use Rattle.std.specs.List.{IsDistinct, list_any}
+use Rattle.std.specs.Prelude.{◌≡◌, ◌≤◌, ℕ, List, map, All, length}
+use Rattle.std.specs.List.{IsDistinct}
 use Rattle.zone_model.specs.Names.{Name, same_name}
-use Rattle.zone_model.specs.MasterFile.{Zone}
 use Rattle.atomic_table.specs.Seated.{TableId}
 use Rattle.shared_cells.specs.declared.view.TableSize.{TableSize}
-use Rattle.job_commands.specs.Histories.{IsZone, StandsAs}
+use Rattle.job_commands.specs.Histories.{IsZone}
 use Rattle.zone_table.specs.Openings.{Place, entries_in, origins_of, places_of}
 use Rattle.zone_table.specs.declared.opening.ZoneItems.{ZoneItems}
 use Rattle.zone_server.specs.Homes.{Served}

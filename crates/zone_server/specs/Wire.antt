@@ -1,5 +1,5 @@
 -- Records as a message has them (RFC 1035, section 4.1.3): the owner, the type, the class IN, the time to live, how long the data are, and the data.
-use Rattle.std.specs.Prelude.{ℕ, List, [], ◌∷◌, ◌++◌, length}
+use Rattle.std.specs.Prelude.{ℕ, List, ◌∷◌, ◌++◌, length}
 use Rattle.std.specs.List.{flat_map}
 use Rattle.std.specs.Int.{w16, w32, to_be_bytes}
 use Rattle.zone_model.specs.Names.{wire}
