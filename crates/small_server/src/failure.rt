@@ -1,11 +1,10 @@
-//! Why the server stops.
+//! Why the server stops. One that serves others would log it and go on.
 use std::alloc::AllocError;
 use thiserror::Error;
 use zone_server::{
     AttachRefusal, ChangeRefusal, LoadRefusal, OpenRefusal, TransferRefusal, UpdateRefusal,
 };
 
-/// Why the server stops. One that serves others would log it and go on.
 #[derive(Debug, Drop, Error)]
 pub enum Failure {
     #[error("a text is no name")]

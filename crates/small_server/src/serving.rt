@@ -26,15 +26,11 @@ type Task<H> = (ServerPass<H>, Option<ServerNote<H>>, &'static str);
 /// How many records a thread was told, the reply in short, and its pass.
 type Done<H> = (usize, String, ServerPass<H>);
 
-/// What was made, a note of that for each thread that answers, and the pass.
-type Changed<H> = (String, ServerNote<H>, ServerNote<H>, ServerPass<H>);
+/// The versions of the zone and the table that were made, a note of that for each thread that answers, and the pass.
+type Changed<H> = (u64, u64, ServerNote<H>, ServerNote<H>, ServerPass<H>);
 
 // How many records a reply has, and the reply in short.
-fn in_short(
-    alloc: Global,
-    host: &str,
-    reply: &Reply<Answered>,
-) -> Result<(usize, String), AllocError> {
+fn told(alloc: Global, host: &str, reply: &Reply<Answered>) -> Result<(usize, String), AllocError> {
     let table = reply.table;
     let Some(from) = &reply.from else {
         return Ok((0, format!(in alloc; "{host}: table v{table}, no zone\n")?));
@@ -47,6 +43,14 @@ fn in_short(
     Ok((records, line))
 }
 
+// An address is put into the upper zone.
+fn addition(alloc: Global) -> Result<Update, Failure> {
+    let mut update = Update::new(alloc, &name("example.")?);
+    let address = Vec::from_slice(alloc, &[192, 0, 2, 7])?;
+    update.add(&name("new.example.")?, A, 300, address)?;
+    Ok(update)
+}
+
 impl<R: Threads + Wait + Sync> Small<'_, R> {
     // A thread answers. What it answers is no older than what it learns.
     fn answer<H: Home>(&self, server: &Server<H>, task: Task<H>) -> Result<Done<H>, Failure> {
@@ -55,42 +59,38 @@ impl<R: Threads + Wait + Sync> Small<'_, R> {
             server.learn(&mut pass, note);
         }
         let reply = server.ask(self.alloc, &mut pass, &name(host)?, A)?;
-        let (records, line) = in_short(self.alloc, host, &reply)?;
+        let (records, line) = told(self.alloc, host, &reply)?;
         Ok((records, line, pass))
     }
 
-    // The thread that changes puts an address into the upper zone, and detaches the lower one.
+    // The thread that changes makes an update of the upper zone, and detaches the lower one.
     fn change<H: Home>(
         &self,
         server: &Server<H>,
         mut pass: ServerPass<H>,
     ) -> Result<Changed<H>, Failure> {
         let (rt, alloc) = (self.rt, self.alloc);
-        let (origin, lower) = (name("example.")?, name("sub.example.")?);
-        let mut update = Update::new(alloc, &origin);
-        let address = Vec::from_slice(alloc, &[192, 0, 2, 7])?;
-        update.add(&name("new.example.")?, A, 300, address)?;
+        let update = addition(alloc)?;
+        let lower = name("sub.example.")?;
         let version = server.change(rt, alloc, &mut pass, &update)?;
         let table = server.detach(rt, &mut pass, &lower)?.version;
-        let made = format!(in alloc;
-            "v{version} of example. was made, and v{table} of the table\n"
-        )?;
         let first = server.note(alloc, &mut pass)?;
         let second = server.note(alloc, &mut pass)?;
-        Ok((made, first, second, pass))
+        Ok((version, table, first, second, pass))
     }
 
-    // Two threads answer beside each other.
+    // Two threads answer beside each other: their lines, and their passes.
     fn answer_both<H: Home + Send + Sync>(
         &self,
         server: &Server<H>,
         first: Task<H>,
         second: Task<H>,
-    ) -> Result<(Done<H>, Done<H>), Failure> {
+    ) -> Result<(String, ServerPass<H>, ServerPass<H>), Failure> {
         let here = move || self.answer(server, first);
         let there = move || self.answer(server, second);
         let (first, second) = join(self.rt, here, there);
-        Ok((first?, second?))
+        let ((_, one, first), (_, two, second)) = (first?, second?);
+        Ok((format!(in self.alloc; "{one}{two}")?, first, second))
     }
 
     // One thread changes, and one answers.
@@ -137,26 +137,25 @@ impl<R: Threads + Wait + Sync> Small<'_, R> {
     fn serve<H: Home + Send + Sync>(
         &self,
         server: &Server<H>,
-        first: ServerPass<H>,
-        second: ServerPass<H>,
+        first: Task<H>,
+        second: Task<H>,
         writer: ServerPass<H>,
     ) -> Result<String, Failure> {
-        let (upper, lower) = ("www.example.", "www.sub.example.");
-        let both = self.answer_both(server, (first, None, upper), (second, None, lower))?;
-        let ((_, one, mut first), (_, two, second)) = both;
-        let (changed, done, held) = self.hold(server, &mut first, writer, (second, None, upper))?;
-        let (made, note, other, mut writer) = changed;
-        let (count, _line, second) = done;
+        let (before, mut first, second) = self.answer_both(server, first, second)?;
+        let task = (second, None, "www.example.");
+        let (changed, (count, _line, second), held) = self.hold(server, &mut first, writer, task)?;
+        let (version, table, note, other, mut writer) = changed;
         let first = (first, Some(note), "new.example.");
-        let both = self.answer_both(server, first, (second, Some(other), lower))?;
-        let ((_, three, _first), (_, four, _second)) = both;
-        let origin = name("sub.example.")?;
-        server.attach(self.rt, &mut writer, &origin)?;
-        let (_, last, _writer) = self.answer(server, (writer, None, lower))?;
-        let text = format!(in self.alloc;
-            "{one}{two}{made}while these were made, {upper} had {count} record\n{held}{three}{four}attached again, {last}"
+        let second = (second, Some(other), "www.sub.example.");
+        let (after, _first, _second) = self.answer_both(server, first, second)?;
+        server.attach(self.rt, &mut writer, &name("sub.example.")?)?;
+        let (_, last, _writer) = self.answer(server, (writer, None, "www.sub.example."))?;
+        let made = format!(in self.alloc;
+            "v{version} of example. was made, and v{table} of the table"
         )?;
-        Ok(text)
+        Ok(format!(in self.alloc;
+            "{before}{made}\nwhile these were made, www.example. had {count} record\n{held}{after}attached again, {last}"
+        )?)
     }
 }
 
@@ -173,5 +172,7 @@ pub fn open_and_serve<R: Threads + Wait + Sync, H: Home + Send + Sync>(
     let first = passes.pop().ok_or(Failure::Passes)?;
     let second = passes.pop().ok_or(Failure::Passes)?;
     let writer = passes.pop().ok_or(Failure::Passes)?;
+    let first = (first, None, "www.example.");
+    let second = (second, None, "www.sub.example.");
     Small { rt, alloc }.serve(&server, first, second, writer)
 }
