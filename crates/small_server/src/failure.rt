@@ -1,62 +1,28 @@
-//! Why the server stops.
+//! Why the server stops. One that serves others would log it and go on.
 use std::alloc::AllocError;
 use thiserror::Error;
-use zone_edit::EditRefusal;
-use zone_model::Refusal;
-use zone_table::{TableRefusal, ZonesRefusal};
+use zone_server::{
+    AttachRefusal, ChangeRefusal, LoadRefusal, OpenRefusal, TransferRefusal, UpdateRefusal,
+};
 
-/// Why the server stops. One that serves others would log it and go on.
-#[derive(Clone, Copy, Debug, Error)]
+#[derive(Debug, Drop, Error)]
 pub enum Failure {
-    /// A text of the program is no name, or no zone.
-    #[error("a text is no zone")]
+    #[error("a text is no name")]
     Text,
-    /// A zone hasn't room in its table.
-    #[error("a zone has no room")]
-    NoRoom,
-    /// A rule of zones refuses a change.
-    #[error("refused: {0:?}")]
-    Rule(Refusal),
-    /// A zone is attached already, or isn't.
-    #[error("a zone is attached, or isn't")]
-    Attached,
-    /// The numbers of versions have ended.
-    #[error("no number is left")]
-    Spent,
-    #[error("out of memory")]
-    Memory,
-}
-
-impl From<AllocError> for Failure {
-    fn from(_: AllocError) -> Failure {
-        Failure::Memory
-    }
-}
-
-impl From<EditRefusal> for Failure {
-    fn from(refusal: EditRefusal) -> Failure {
-        match refusal {
-            EditRefusal::Memory => Failure::Memory,
-            EditRefusal::Refused(rule) => Failure::Rule(rule),
-            EditRefusal::Full { .. } => Failure::NoRoom,
-        }
-    }
-}
-
-impl From<TableRefusal> for Failure {
-    fn from(refusal: TableRefusal) -> Failure {
-        match refusal {
-            TableRefusal::Exists { .. } | TableRefusal::Missing { .. } => Failure::Attached,
-            TableRefusal::Spent { .. } => Failure::Spent,
-        }
-    }
-}
-
-impl From<ZonesRefusal> for Failure {
-    fn from(refusal: ZonesRefusal) -> Failure {
-        match refusal {
-            ZonesRefusal::Full { .. } => Failure::NoRoom,
-            ZonesRefusal::Memory => Failure::Memory,
-        }
-    }
+    #[error("there are fewer passes than threads")]
+    Passes,
+    #[error("{0}")]
+    Load(#[from] LoadRefusal),
+    #[error("{0}")]
+    Open(#[from] OpenRefusal),
+    #[error("{0}")]
+    Update(#[from] UpdateRefusal),
+    #[error("{0}")]
+    Change(#[from] ChangeRefusal),
+    #[error("{0}")]
+    Attach(#[from] AttachRefusal),
+    #[error("{0}")]
+    Transfer(#[from] TransferRefusal),
+    #[error("{0}")]
+    Memory(#[from(alloc)] AllocError),
 }

@@ -1,79 +1,42 @@
-//! A small server of two zones, as the author of one would write it over `zone_table` and `qp_multi`: docs/SERVER.md goes
-//! through it. Threads that answer and one that writes run beside each other, while a version is held for a transfer; what is
-//! printed is the same on every run.
+//! A small server of two zones, as the author of one would write it over `zone_server`: docs/SERVER.md goes through it. Threads that
+//! answer and one that changes run beside each other, while a version is held for a transfer; what is printed is the same on every run.
 #![tactic(auto)]
 
-mod asking;
-mod changing;
 mod failure;
-mod law;
-mod loading;
 mod serving;
-mod threads;
-mod transfer;
 
 use crate::failure::Failure;
-use crate::loading::{load, name};
-use crate::serving::{Names, Report, serve};
-use rr_data::Rdata;
+use crate::serving::open_and_serve;
+use dns_name::Name;
 use std::alloc::Global;
+use std::marker::Brand;
 use std::sync::Wait;
 use std::thread::Threads;
-use zone_change::{NewRecord, Operation};
+use zone_server::{LoadedZone, Opening};
 
-/// The master file of the upper zone, `example.`.
-const UPPER: &str =
+/// The master file of both zones.
+const ZONE: &str =
     "@ 300 SOA ns hostmaster 1 3600 600 86400 60\n@ 300 NS ns\nns 300 A 192.0.2.1\nwww 300 A 192.0.2.2\n";
 
-/// That of the lower one, `sub.example.`.
-const LOWER: &str =
-    "@ 300 SOA ns hostmaster 1 3600 600 86400 60\n@ 300 NS ns\nns 300 A 192.0.2.3\nwww 300 A 192.0.2.4\n";
-
-/// An address of `new.example.`, which is put in.
-fn addition(alloc: Global) -> Result<Operation, Failure> {
-    Ok(Operation::Add(NewRecord {
-        owner: name("new.example.")?,
-        rtype: 1,
-        ttl: 300,
-        rdata: Rdata::new(Vec::from_slice(alloc, &[192, 0, 2, 7])?),
-    }))
+/// The name that a text says, with a dot at its end.
+fn name(text: &str) -> Result<Name, Failure> {
+    match Name::read(text.as_bytes(), &Name::root()) {
+        Ok(name) => Ok(name),
+        Err(_) => Err(Failure::Text),
+    }
 }
 
-// Reads the zones, and serves them.
-fn run<R: Threads + Wait + Sync>(rt: &R, alloc: Global) -> Result<Report, Failure> {
-    let upper = load(alloc, name("example.")?, UPPER)?;
-    let lower = load(alloc, name("sub.example.")?, LOWER)?;
-    let names = Names {
-        upper: name("www.example.")?,
-        lower: name("www.sub.example.")?,
-        fresh: name("new.example.")?,
-    };
-    let operations = [addition(alloc)?];
-    serve(rt, alloc, upper, lower, &names, &operations)
+// Reads the zones, and serves them: on 16 chunks each, for three threads.
+fn run<R: Threads + Wait + Sync>(rt: &R, alloc: Global) -> Result<String, Failure> {
+    let upper = LoadedZone::read(alloc, &name("example.")?, ZONE.as_bytes())?;
+    let lower = LoadedZone::read(alloc, &name("sub.example.")?, ZONE.as_bytes())?;
+    let opening = Opening::new(alloc, 3)?;
+    let opening = opening.with(alloc, upper, 16)?.with(alloc, lower, 16)?;
+    open_and_serve::<R, Brand>(rt, alloc, opening)
 }
 
 fn main(rt: HostRuntime) -> anyhow::Result<()> {
-    let Report {
-        before,
-        change,
-        last,
-    } = run(&rt, rt.alloc())?;
-    println!(rt; "www.example.: {}", before.0)?;
-    println!(rt; "www.sub.example.: {}", before.1)?;
-    let (upper, table) = change.made;
-    println!(rt; "v{upper} of example. was made, and v{table} of the table")?;
-    if let Some(from) = change.meanwhile.answer {
-        println!(rt;
-            "while these were made, www.example.: {:?} {}",
-            from.kind, from.records
-        )?;
-    }
-    println!(rt; "held for a transfer, v{}:", change.transfer.version)?;
-    let text = String::from_utf8_lossy(rt.alloc(), &change.transfer.text)?;
+    let text = run(&rt, rt.alloc())?;
     print!(rt; "{text}")?;
-    println!(rt; "new.example.: {}", change.after.0)?;
-    println!(rt; "www.sub.example.: {}", change.after.1)?;
-    let (table, upper, lower) = last;
-    println!(rt; "last: table v{table}, example. v{upper}, sub.example. v{lower}")?;
     Ok(())
 }

@@ -1,242 +1,178 @@
 //! The server from its opening to its end.
-ghost use Rattle.std.specs.Prelude.{◌≡◌, [], ◌∷◌, List, All, IfOk, Some, length, slice_get};
-ghost use Rattle.small_server.specs.Prelude.{IsDistinct, Labels, same_name, ShowsSome, entries_in, origins_of, IsPassOf, ArePassesOf};
+ghost use Rattle.std.specs.Prelude.{◌≡◌};
 
-use crate::asking::Reply;
 use crate::failure::Failure;
-use crate::law::Stored;
-use crate::threads::{Changed, Task, answer_both};
-use crate::transfer::{Beside, Transfer, transfer_beside};
-use dns_name::Name;
-use qp_multi::{Blank, Named};
+use crate::name;
+use outer_io::MemSink;
 use std::alloc::{AllocError, Global};
-use std::marker::Brand;
 use std::sync::Wait;
-use std::thread::Threads;
-use zone_change::Operation;
-use zone_table::{TableLaw, ZoneItems, Zones, ZonesNote, ZonesPass};
+use std::thread::{Threads, join};
+use zone_model::Style;
+use zone_server::{Answered, Home, Opening, Reply, Server, ServerNote, ServerPass, Update};
 
-/// The names that are asked for: one of each zone, and one that is put into the upper zone.
+/// The number of the type A (RFC 1035, section 3.2.2).
+const A: u16 = 1;
+
+/// What the server needs of its surroundings.
 #[derive(Drop)]
-pub struct Names {
-    pub upper: Name,
-    pub lower: Name,
-    pub fresh: Name,
-}
-
-/// What the server told.
-#[derive(Drop)]
-pub struct Report {
-    /// By both threads at first.
-    pub before: (Reply, Reply),
-    pub change: Change,
-    /// The last versions: the table's, and the zones'.
-    pub last: (u64, u64, u64),
-}
-
-/// What the server told of a change.
-#[derive(Drop)]
-pub struct Change {
-    /// While it was made.
-    pub meanwhile: Reply,
-    /// The version of the upper zone before it.
-    pub transfer: Transfer,
-    /// The versions of the upper zone and of the table that were made.
-    pub made: (u64, u64),
-    /// By both threads, when they had learnt of these.
-    pub after: (Reply, Reply),
-}
-
-/// A pass for each thread.
-#[derive(Drop)]
-struct Passes<N: Named> {
-    first: ZonesPass<N>,
-    second: ZonesPass<N>,
-    writer: ZonesPass<N>,
-}
-
-// Three passes.
-fn three<N: Named>(passes: Vec<ZonesPass<N>>) -> Passes<N>
-    requires { length passes.items ≡ 3 }
-    ensures { (origins : List Labels) → All (IsPassOf origins) passes.items → ArePassesOf origins result }
-{
-    let mut passes = passes;
-    let Some(first) = passes.pop() else {
-        // There are three.
-        unreachable!()
-    };
-    let Some(second) = passes.pop() else {
-        // Two are left.
-        unreachable!()
-    };
-    let Some(writer) = passes.pop() else {
-        // One is left.
-        unreachable!()
-    };
-    Passes {
-        first,
-        second,
-        writer,
-    }
-}
-
-// What a thread is to answer.
-fn task<N: Named>(pass: ZonesPass<N>, note: Option<ZonesNote<N>>, name: &Name) -> Task<'_, N>
-    ensures { (result.pass ≡ pass) × (result.note ≡ note) }
-{
-    Task { pass, note, name }
-}
-
-// Ends the zones: the last versions of the table and of both zones.
-fn close<N: Named>(
+struct Small<'a, R> {
+    rt: &'a R,
     alloc: Global,
-    zones: Zones<Stored, N>,
-    passes: Passes<N>,
-) -> Result<(u64, u64, u64), AllocError>
-    requires { ArePassesOf zones.origins.items passes }
-{
-    let mut all = Vec::new(alloc);
-    all.push(passes.first)?;
-    all.push(passes.second)?;
-    all.push(passes.writer)?;
-    let numbers = zones.close(alloc, all)?;
-    Ok((numbers[0], numbers[1], numbers[2]))
 }
 
-// Changes the upper zone and takes the lower one out, beside a transfer and a thread that answers; then both threads learn of that, and answer. At last
-// the lower zone is attached again.
-fn serve_change<R: Threads + Wait + Sync, N: Named + Send + Sync>(
-    rt: &R,
-    alloc: Global,
-    zones: &Zones<Stored, N>,
-    passes: Passes<N>,
-    names: &Names,
-    operations: &[Operation],
-) -> Result<(Change, Passes<N>), Failure>
-    requires passes { ArePassesOf zones.now.origins.items passes }
-    requires two { length zones.now.origins.items ≡ 2 }
-    ensures { IfOk result (λ x. ArePassesOf zones.now.origins.items x.1) }
-{
-    let upper = task(passes.second, None, &names.upper);
-    let mut pass = passes.first;
-    let writer = passes.writer;
-    let (transfer, beside) = transfer_beside(
-        rt, alloc, zones, &mut pass, writer, operations, upper,
+/// What a thread is to answer: by a pass, a note that it learns before, and a name.
+type Task<H> = (ServerPass<H>, Option<ServerNote<H>>, &'static str);
+
+/// How many records a thread was told, the reply in short, and its pass.
+type Done<H> = (usize, String, ServerPass<H>);
+
+/// The versions of the zone and the table that were made, a note of that for each thread that answers, and the pass.
+type Changed<H> = (u64, u64, ServerNote<H>, ServerNote<H>, ServerPass<H>);
+
+// How many records a reply has, and the reply in short.
+fn told(alloc: Global, host: &str, reply: &Reply<Answered>) -> Result<(usize, String), AllocError> {
+    let table = reply.table;
+    let Some(from) = &reply.from else {
+        return Ok((0, format!(in alloc; "{host}: table v{table}, no zone\n")?));
+    };
+    let records = from.told.rows.as_slice().len();
+    let line = format!(in alloc;
+        "{host}: table v{table}, zone {} v{}, {:?} {records}\n",
+        from.zone, from.version, from.told.kind
     )?;
-    let Beside { changed, answered } = beside;
-    let Changed {
-        version,
-        table,
-        pass: mut writer,
-        notes,
-    } = changed;
-    let fresh = task(pass, Some(notes.0), &names.fresh);
-    let lower = task(answered.pass, Some(notes.1), &names.lower);
-    let (first, second) = answer_both(rt, alloc, zones, fresh, lower)?;
-    zones.attach(rt, &mut writer, 1)?;
-    let change = Change {
-        meanwhile: answered.reply,
-        transfer,
-        made: (version, table),
-        after: (first.reply, second.reply),
-    };
-    let passes = Passes {
-        first: first.pass,
-        second: second.pass,
-        writer,
-    };
-    Ok((change, passes))
+    Ok((records, line))
 }
 
-// Serves zones that are open, until all is told.
-fn serve_open<R: Threads + Wait + Sync, N: Named + Send + Sync>(
-    rt: &R,
-    alloc: Global,
-    zones: Zones<Stored, N>,
-    passes: Passes<N>,
-    names: &Names,
-    operations: &[Operation],
-) -> Result<Report, Failure>
-    requires passes { ArePassesOf zones.origins.items passes }
-    requires two { length zones.origins.items ≡ 2 }
-{
-    let upper = task(passes.first, None, &names.upper);
-    let lower = task(passes.second, None, &names.lower);
-    let (first, second) = answer_both(rt, alloc, &zones, upper, lower)?;
-    let before = (first.reply, second.reply);
-    let passes = Passes {
-        first: first.pass,
-        second: second.pass,
-        writer: passes.writer,
-    };
-    let (change, passes) = serve_change(rt, alloc, &zones, passes, names, operations)?;
-    let last = close(alloc, zones, passes)?;
-    Ok(Report {
-        before,
-        change,
-        last,
-    })
+// An address is put into the upper zone.
+fn addition(alloc: Global) -> Result<Update, Failure> {
+    let mut update = Update::new(alloc, &name("example.")?);
+    let address = Vec::from_slice(alloc, &[192, 0, 2, 7])?;
+    update.add(&name("new.example.")?, A, 300, address)?;
+    Ok(update)
 }
 
-// The tables of both zones.
-fn pair(
-    alloc: Global,
-    upper: Blank<Stored>,
-    lower: Blank<Stored>,
-) -> Result<Vec<Blank<Stored>>, AllocError>
-    ensures { IfOk result (λ both. both.items ≡ upper ∷ lower ∷ []) }
-{
-    let mut blanks = Vec::new(alloc);
-    blanks.push(upper)?;
-    blanks.push(lower)?;
-    Ok(blanks)
-}
-
-// Opens zones on tables that are named, and serves them.
-fn serve_named<R: Threads + Wait + Sync, N: Named + Send + Sync>(
-    rt: &R,
-    alloc: Global,
-    table: Blank<TableLaw>,
-    upper: Blank<Stored>,
-    lower: Blank<Stored>,
-    items: &[ZoneItems],
-    names: &Names,
-    operations: &[Operation],
-) -> Result<Report, Failure>
-    requires table_named { slice_get N.tables 0 ≡ Some table.shared.table.shared.table_id }
-    requires upper_named { slice_get N.tables 1 ≡ Some upper.shared.table.shared.table_id }
-    requires lower_named { slice_get N.tables 2 ≡ Some lower.shared.table.shared.table_id }
-    requires chunks { table.shared.table.shared.key.chunks ≡ 512 }
-    requires table_passes { table.shared.table.shared.key.passes ≡ 3 }
-    requires upper_passes { upper.shared.table.shared.key.passes ≡ 3 }
-    requires lower_passes { lower.shared.table.shared.key.passes ≡ 3 }
-    requires two { length items.now ≡ 2 }
-    requires different { IsDistinct same_name (origins_of items.now) }
-    requires items { All (λ z. ShowsSome (λ held. held ≡ entries_in z)) items.now }
-{
-    let blanks = pair(alloc, upper, lower)?;
-    let (zones, passes) = Zones::<Stored, N>::open(alloc, table, blanks, items)?;
-    serve_open(rt, alloc, zones, three(passes), names, operations)
-}
-
-/// Opens two zones of different origins, each on 16 chunks, and the table of their origins, for three passes; and serves them.
-pub fn serve<R: Threads + Wait + Sync>(
-    rt: &R,
-    alloc: Global,
-    upper: ZoneItems,
-    lower: ZoneItems,
-    names: &Names,
-    operations: &[Operation],
-) -> Result<Report, Failure>
-    requires upper { ShowsSome (λ held. held ≡ entries_in upper) }
-    requires lower { ShowsSome (λ held. held ≡ entries_in lower) }
-{
-    if upper.origin == lower.origin {
-        return Err(Failure::Text);
+impl<R: Threads + Wait + Sync> Small<'_, R> {
+    // A thread answers. What it answers is no older than what it learns.
+    fn answer<H: Home>(&self, server: &Server<H>, task: Task<H>) -> Result<Done<H>, Failure> {
+        let (mut pass, note, host) = task;
+        if let Some(note) = note {
+            server.learn(&mut pass, note);
+        }
+        let reply = server.ask(self.alloc, &mut pass, &name(host)?, A)?;
+        let (records, line) = told(self.alloc, host, &reply)?;
+        Ok((records, line, pass))
     }
-    let items = [upper, lower];
-    let table = Blank::new(alloc, 512, 3)?;
-    let upper = Blank::new(alloc, 16, 3)?;
-    let lower = Blank::new(alloc, 16, 3)?;
-    serve_named::<R, Brand>(rt, alloc, table, upper, lower, &items, names, operations)
+
+    // The thread that changes makes an update of the upper zone, and detaches the lower one.
+    fn change<H: Home>(
+        &self,
+        server: &Server<H>,
+        mut pass: ServerPass<H>,
+    ) -> Result<Changed<H>, Failure> {
+        let (rt, alloc) = (self.rt, self.alloc);
+        let update = addition(alloc)?;
+        let lower = name("sub.example.")?;
+        let version = server.change(rt, alloc, &mut pass, &update)?;
+        let table = server.detach(rt, &mut pass, &lower)?.version;
+        let first = server.note(alloc, &mut pass)?;
+        let second = server.note(alloc, &mut pass)?;
+        Ok((version, table, first, second, pass))
+    }
+
+    // Two threads answer beside each other: their lines, and their passes.
+    fn answer_both<H: Home + Send + Sync>(
+        &self,
+        server: &Server<H>,
+        first: Task<H>,
+        second: Task<H>,
+    ) -> Result<(String, ServerPass<H>, ServerPass<H>), Failure> {
+        let here = move || self.answer(server, first);
+        let there = move || self.answer(server, second);
+        let (first, second) = join(self.rt, here, there);
+        let ((_, one, first), (_, two, second)) = (first?, second?);
+        Ok((format!(in self.alloc; "{one}{two}")?, first, second))
+    }
+
+    // One thread changes, and one answers.
+    fn change_beside<H: Home + Send + Sync>(
+        &self,
+        server: &Server<H>,
+        writer: ServerPass<H>,
+        task: Task<H>,
+    ) -> Result<(Changed<H>, Done<H>), Failure> {
+        let changes = move || self.change(server, writer);
+        let answers = move || self.answer(server, task);
+        let (changed, answered) = join(self.rt, changes, answers);
+        Ok((changed?, answered?))
+    }
+
+    // Holds a version of the upper zone while one thread changes it and one answers. It is written down then.
+    fn hold<H: Home + Send + Sync>(
+        &self,
+        server: &Server<H>,
+        pass: &mut ServerPass<H>,
+        writer: ServerPass<H>,
+        task: Task<H>,
+    ) -> Result<(Changed<H>, Done<H>, String), Failure> {
+        let alloc = self.alloc;
+        let origin = name("example.")?;
+        let mut sink = MemSink::new(alloc, 1024, 1024, Vec::new(alloc))?;
+        let work = move || self.change_beside(server, writer, task);
+        let (done, transfer) = server.transfer_after(
+            alloc,
+            pass,
+            &origin,
+            Style::Full,
+            &mut sink,
+            work,
+        );
+        let (changed, answered) = done?;
+        let version = transfer?.version;
+        let text = String::from_utf8_lossy(alloc, sink.held().unwrap_or(&[]))?;
+        let held = format!(in alloc; "held for a transfer, v{version}:\n{text}")?;
+        Ok((changed, answered, held))
+    }
+
+    // Both threads that answer learn of what is made while the first one holds a version. The lower zone is attached again then.
+    fn serve<H: Home + Send + Sync>(
+        &self,
+        server: &Server<H>,
+        first: Task<H>,
+        second: Task<H>,
+        writer: ServerPass<H>,
+    ) -> Result<String, Failure> {
+        let (before, mut first, second) = self.answer_both(server, first, second)?;
+        let task = (second, None, "www.example.");
+        let (changed, (count, _line, second), held) = self.hold(server, &mut first, writer, task)?;
+        let (version, table, note, other, mut writer) = changed;
+        let first = (first, Some(note), "new.example.");
+        let second = (second, Some(other), "www.sub.example.");
+        let (after, _first, _second) = self.answer_both(server, first, second)?;
+        server.attach(self.rt, &mut writer, &name("sub.example.")?)?;
+        let (_, last, _writer) = self.answer(server, (writer, None, "www.sub.example."))?;
+        let made = format!(in self.alloc;
+            "v{version} of example. was made, and v{table} of the table"
+        )?;
+        Ok(format!(in self.alloc;
+            "{before}{made}\nwhile these were made, www.example. had {count} record\n{held}{after}attached again, {last}"
+        )?)
+    }
+}
+
+/// Opens zones for three threads, and serves them. `H` names them, and their tables.
+pub fn open_and_serve<R: Threads + Wait + Sync, H: Home + Send + Sync>(
+    rt: &R,
+    alloc: Global,
+    opening: Opening,
+) -> Result<String, Failure>
+    requires tables { H.tables ≡ opening.tables }
+    requires zones { H.zones ≡ opening.zones }
+{
+    let (server, mut passes) = opening.open::<H>(alloc)?;
+    let first = passes.pop().ok_or(Failure::Passes)?;
+    let second = passes.pop().ok_or(Failure::Passes)?;
+    let writer = passes.pop().ok_or(Failure::Passes)?;
+    let first = (first, None, "www.example.");
+    let second = (second, None, "www.sub.example.");
+    Small { rt, alloc }.serve(&server, first, second, writer)
 }

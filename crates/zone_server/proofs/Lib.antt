@@ -6,3 +6,4 @@ mod NoteLaws
 mod OpeningLaws
 mod LoadLaws
 mod TransferLaws
+mod WireLaws

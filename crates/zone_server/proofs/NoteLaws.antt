@@ -1,17 +1,16 @@
 -- Notes of a server's passes.
-use Rattle.std.proofs.Common.{◌≡◌, ◌∙◌, List, map, Result, Ok, Err, IfOk, refl, sym, ap, subst}
+use Rattle.std.proofs.Common.{◌∙◌, List, Result, Ok, Err, IfOk, sym, ap, subst}
 use Rattle.std.specs.declared.alloc.AllocError.{AllocError}
 use Rattle.zone_model.specs.Names.{Name}
 use Rattle.qp_multi.specs.declared.meaning.Named.{Ghosts}
-use Rattle.qp_multi.specs.Passes.{Known}
 use Rattle.zone_table.specs.declared.note.ZonesNote.{ZonesNote}
 use Rattle.zone_table.specs.declared.pass.ZonesPass.{ZonesPass}
 use Rattle.zone_table.specs.declared.zones.Zones.{Zones}
 use Rattle.zone_table.specs.Notes as table
 use Rattle.zone_table.specs.Notes.{IsNoteOf, Sighting}
 use Rattle.zone_server.specs.Homes.{Served}
-use Rattle.zone_server.specs.Notes.{HasLearnt, IsNote, ServerTold, Tells, told_of}
-use Rattle.zone_server.specs.Servings.{IsServed, known_of, origins_of}
+use Rattle.zone_server.specs.Notes.{HasLearnt, IsNote, Tells, told_of}
+use Rattle.zone_server.specs.Servings.{IsServed, known_of}
 
 module _ {X Y : Type 0} {N : Ghosts Y} (served : List Served) (zones : Zones X Y N) (are : IsServed served zones) where
   pub is_note : (r : Result (ZonesNote Y N) AllocError) → IfOk r (IsNoteOf zones.origins.items) → IfOk r (IsNote served)

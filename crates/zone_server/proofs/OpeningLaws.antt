@@ -1,23 +1,22 @@
 -- Zones that are put together, and opened.
-use Rattle.std.proofs.Common.{◌≡◌, ◌∙◌, inl, inr, ℕ, zero, suc, ◌+◌, ◌<◌, ◌≤◌, Bool, true, false, ◌||◌, List, [], ◌∷◌, ◌++◌, length, map, get_or, Some, refl, sym, ap, subst, arith, length-append}
-use Rattle.std.proofs.lemmas.List.{length-map, map-append}
-use Rattle.std.proofs.lemmas.List.Elements.{All-push, All-get_or}
-use Rattle.std.proofs.lemmas.Option.{slice_get_within}
+use Rattle.std.proofs.Common.{◌≡◌, ◌∙◌, ℕ, zero, suc, ◌+◌, ◌<◌, ◌≤◌, Bool, true, false, ◌||◌, List, [], ◌∷◌, ◌++◌, length, map, get_or, Some, refl, sym, ap, subst, arith, length-append}
+use Rattle.std.proofs.lemmas.List.{map-append}
+use Rattle.std.proofs.lemmas.List.Elements.{All-push}
 use Rattle.std.specs.List.{All, AllByRecursion, IsDistinct, list_any, slice_get}
 use Rattle.zone_model.specs.MasterFile.{Zone}
 use Rattle.zone_model.specs.Names.{Name, same_name}
 use Rattle.trie_model.specs.Keys.{Rises}
+use Rattle.atomic_table.specs.Seated.{TableId}
 use Rattle.shared_cells.specs.declared.view.TableSize.{TableSize}
 use Rattle.qp_multi.specs.declared.meaning.Named.{Ghosts}
-use Rattle.qp_multi.specs.Passes.{first_version}
 use Rattle.job_commands.specs.Histories.{IsLawful, IsZone, StandsAs}
 use Rattle.job_commands.proofs.ZoneLaws.{zone_lawful, zone_rises}
 use Rattle.zone_table.specs.declared.opening.ZoneItems.{ZoneItems}
 use Rattle.zone_table.specs.declared.pass.ZonesPass.{ZonesPass}
 use Rattle.zone_table.specs.declared.zones.Zones.{Zones}
-use Rattle.zone_table.specs.Dealings.{AreMade, IsNewPass}
-use Rattle.zone_table.specs.Openings.{Place, entries_in, origins_of, places_of}
-use Rattle.zone_table.specs.Passes.{IsPassOf, zone_known}
+use Rattle.zone_table.specs.Dealings.{AreMade}
+use Rattle.zone_table.specs.Openings.{entries_in, origins_of}
+use Rattle.zone_table.specs.Passes.{IsPassOf}
 use Rattle.zone_table.proofs.Lists.{all_at, some_is}
 use Rattle.zone_server.specs.Homes.{Served}
 use Rattle.zone_server.specs.Builds.{HasOneMore}
@@ -101,8 +100,8 @@ module _ {B : Type 0} (key : B → TableSize) (passes : ℕ) (zones : List ZoneI
       (subst (λ (l : List TableSize). IsOpening passes (zones ++ z ∷ []) l table) (sym (sizes_more b blanks' bs))
       (opening_more passes zones (map key blanks) table z (key b) o room size (ap (λ (n : Name). list_any (λ x. same_name (origin_in x) n) zones) named ∙ none) is))
 
-  pub has_one_more : (zone : Zone) (chunks : ℕ) (z : ZoneItems) (b : B) (zones' : List ZoneItems) (blanks' : List B) → length (map key blanks) ≡ length zones → (view : OpeningView) → record { passes = passes; zones = served_of zones (map key blanks) } ≡ view
-      → (key b).passes ≡ passes → (key b).chunks ≡ chunks → z.origin ≡ zone.origin → StandsAs (entries_in z) zone.pairs → zones' ≡ zones ++ z ∷ [] → blanks' ≡ blanks ++ b ∷ [] → HasOneMore view zone chunks (record { passes = passes; zones = served_of zones' (map key blanks') })
+  pub has_one_more : {names names' : List TableId} (zone : Zone) (chunks : ℕ) (z : ZoneItems) (b : B) (zones' : List ZoneItems) (blanks' : List B) → length (map key blanks) ≡ length zones → (view : OpeningView) → record { passes = passes; zones = served_of zones (map key blanks); tables = names } ≡ view
+      → (key b).passes ≡ passes → (key b).chunks ≡ chunks → z.origin ≡ zone.origin → StandsAs (entries_in z) zone.pairs → zones' ≡ zones ++ z ∷ [] → blanks' ≡ blanks ++ b ∷ [] → HasOneMore view zone chunks (record { passes = passes; zones = served_of zones' (map key blanks'); tables = names' })
   has_one_more zone chunks z b zones' blanks' each view is size many named stands zs bs = record {
     passes = ap (λ (v : OpeningView). v.passes) is;
     served = served_at (record { zone = z; size = key b });

@@ -1,7 +1,6 @@
 -- Passes of a server that go on.
-use Rattle.std.proofs.Common.{◌≡◌, ◌≢◌, ◌∙◌, inl, inr, ℕ, ◌<◌, true, List, length, map, Vec, Global, Option, Some, None, Ok, arith, refl, sym, ap, subst}
-use Rattle.std.specs.Prelude.{unwrap_or, IfSome, IsSome}
-use Rattle.std.specs.Option.{option_map}
+use Rattle.std.proofs.Common.{◌≡◌, ◌∙◌, inl, inr, ℕ, ◌<◌, true, List, length, map, Vec, Global, Option, Some, None, arith, refl, sym, ap, subst}
+use Rattle.std.specs.Prelude.{unwrap_or, IsSome}
 use Rattle.std.specs.List.{slice_get}
 use Rattle.std.proofs.lemmas.Bool.{cases_eq}
 use Rattle.std.proofs.lemmas.List.{length-map, take_all}
@@ -17,8 +16,8 @@ use Rattle.qp_multi.specs.declared.index.Index.{Index}
 use Rattle.qp_multi.specs.declared.meaning.Named.{Ghosts}
 use Rattle.qp_multi.specs.declared.pass.Pass.{Pass}
 use Rattle.qp_multi.specs.Passes.{Known, Pinned, first_version, known_at, version_seen}
-use Rattle.job_commands.specs.Histories.{BeginsAt, Commit, Entries, IsLawful, IsZone, StandsAs, index_at}
-use Rattle.job_commands.specs.Commands.{IsIndex, IsSetup, OpensAt}
+use Rattle.job_commands.specs.Histories.{BeginsAt, Entries, IsLawful, IsZone, StandsAs, index_at}
+use Rattle.job_commands.specs.Commands.{IsSetup, OpensAt}
 use Rattle.job_commands.proofs.HistoryLaws.{opened_same}
 use Rattle.job_commands.proofs.ZoneLaws.{lawful_zone, zone_begins}
 use Rattle.zone_table.specs.declared.pass.ZonesPass.{ZonesPass}
@@ -32,8 +31,8 @@ use Rattle.zone_table.proofs.Lists.{get_in, mapped_at, some_is}
 use Rattle.zone_table.proofs.PassLaws.{Went, went, went_as, with_zone, zone_seat, zone_told}
 use Rattle.zone_server.specs.Changes.{HappensIn, NoneHas}
 use Rattle.zone_server.specs.Homes.{Served, setup_of}
-use Rattle.zone_server.specs.Replies.{HasGrown, IsAfter, IsFrom, IsReply, IsShown, IsTold, reply_map}
-use Rattle.zone_server.specs.Servings.{IsServed, IsServing, ServerKnown, known_of, of_zone, origins_of}
+use Rattle.zone_server.specs.Replies.{HasGrown, IsReply, IsShown, IsTold, reply_map}
+use Rattle.zone_server.specs.Servings.{IsServed, IsServing, ServerKnown, known_of, origins_of}
 use Rattle.zone_server.specs.declared.reply.FromZone.{FromZone}
 use Rattle.zone_server.specs.declared.reply.Reply.{Reply}
 

@@ -1,5 +1,5 @@
 -- What is told of a zone that was written down.
-use Rattle.std.proofs.Common.{◌≡◌, ◌∙◌, ℕ, List, length, Result, Ok, Err, IfOk, OnOk, Some, refl, sym, ap, subst}
+use Rattle.std.proofs.Common.{◌≡◌, ℕ, List, length, Result, Ok, Err, IfOk, OnOk, Some, refl, sym, subst}
 use Rattle.std.specs.Prelude.{OnErr, IsSome}
 use Rattle.std.specs.List.{slice_get}
 use Rattle.zone_model.specs.Names.{Name}
@@ -9,7 +9,7 @@ use Rattle.zone_model.specs.declared.Style.{Style}
 use Rattle.outer_io.specs.Bytes.{Grows, GrowsByFront, Held}
 use Rattle.qp_multi.specs.declared.meaning.Named.{Ghosts}
 use Rattle.qp_multi.specs.declared.pass.Pass.{Pass}
-use Rattle.qp_multi.specs.Passes.{Known, known_at}
+use Rattle.qp_multi.specs.Passes.{known_at}
 use Rattle.zone_dump.specs.declared.refusal.DumpRefusal.{DumpRefusal}
 use Rattle.job_commands.proofs.ShowLaws.{seat_told}
 use Rattle.job_commands.proofs.ZoneLaws.{zone_begins}

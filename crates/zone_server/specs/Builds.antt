@@ -1,7 +1,7 @@
 -- How an opening is put together, and why it isn't.
-use Rattle.std.specs.Prelude.{◌≡◌, ◌⊎◌, ◌<◌, ◌≤◌, ℕ, true, List, [], ◌∷◌, ◌++◌, length, Result, Ok, Err}
+use Rattle.std.specs.Prelude.{◌≡◌, ◌⊎◌, ◌<◌, ◌≤◌, ℕ, true, [], ◌∷◌, ◌++◌, length, Result, Ok, Err}
 use Rattle.std.specs.List.{list_any}
-use Rattle.zone_model.specs.Names.{Name, same_name}
+use Rattle.zone_model.specs.Names.{same_name}
 use Rattle.zone_model.specs.MasterFile.{Zone}
 use Rattle.job_commands.specs.Histories.{StandsAs}
 use Rattle.zone_server.specs.Homes.{Served}
@@ -11,7 +11,7 @@ use Rattle.zone_server.specs.declared.opening.OpenRefusal.TheVariants as refusal
 
 -- For so many passes, if there can be so many, and without zones yet.
 abbrev pub OpensFor : ℕ → Result OpeningView OpenRefusal → Type 0
-OpensFor passes (Ok o) = (o ≡ record { passes = passes; zones = [] }) × (1 ≤ passes) × (passes ≤ 17)
+OpensFor passes (Ok o) = (o.passes ≡ passes) × (o.zones ≡ []) × (1 ≤ passes) × (passes ≤ 17)
 OpensFor passes (Err refusal.Passes) = (passes < 1) ⊎ (17 < passes)
 OpensFor passes (Err e) = e ≡ refusal.Memory
 

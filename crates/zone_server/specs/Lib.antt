@@ -11,3 +11,4 @@ pub mod Replies
 pub mod Servings
 pub mod Transfers
 pub mod Updates
+pub mod Wire

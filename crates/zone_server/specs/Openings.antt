@@ -1,10 +1,10 @@
 -- What a server is opened with.
-use Rattle.std.specs.Prelude.{◌≡◌, ◌<◌, ◌≤◌, ℕ, List, [], ◌∷◌, ◌++◌, map, All, length, Result, Ok, Err}
-use Rattle.std.specs.List.{IsDistinct, list_any}
+use Rattle.std.specs.Prelude.{◌≡◌, ◌≤◌, ℕ, List, map, All, length}
+use Rattle.std.specs.List.{IsDistinct}
 use Rattle.zone_model.specs.Names.{Name, same_name}
-use Rattle.zone_model.specs.MasterFile.{Zone}
+use Rattle.atomic_table.specs.Seated.{TableId}
 use Rattle.shared_cells.specs.declared.view.TableSize.{TableSize}
-use Rattle.job_commands.specs.Histories.{IsZone, StandsAs}
+use Rattle.job_commands.specs.Histories.{IsZone}
 use Rattle.zone_table.specs.Openings.{Place, entries_in, origins_of, places_of}
 use Rattle.zone_table.specs.declared.opening.ZoneItems.{ZoneItems}
 use Rattle.zone_server.specs.Homes.{Served}
@@ -31,7 +31,8 @@ pub record IsOpening (passes : ℕ) (zones : List ZoneItems) (sizes : List Table
   pub different : IsDistinct same_name (origins_of zones)
   pub are_zones : All (λ z. IsZone z.origin (entries_in z)) zones
 
--- how many passes there are to be, and the zones
+-- how many passes there are to be, the zones, and the names of their tables, that of the origins first
 pub record OpeningView : Type 0 where
   pub passes : ℕ
   pub zones : List Served
+  pub tables : List TableId

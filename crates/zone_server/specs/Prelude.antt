@@ -27,3 +27,4 @@ pub use Rattle.zone_server.specs.Replies.{HasGrown, IsAfter, IsFrom, IsReply, Is
 pub use Rattle.zone_server.specs.Servings.{IsServed, IsServing, ServerKnown, known_of, of_zone}
 pub use Rattle.zone_server.specs.Updates.{IsUpdate, UpdateView}
 pub use Rattle.zone_server.specs.Transfers.{Dumps, IsDumped, Transfers, transfer_told, transferred}
+pub use Rattle.zone_server.specs.Wire.{wire_row, wire_rows}

@@ -5,7 +5,6 @@ use Rattle.zone_model.specs.Versions.{Version}
 use Rattle.zone_model.specs.Dumps.{dump, record_count}
 use Rattle.zone_model.specs.declared.Style.{Style}
 use Rattle.outer_io.specs.Bytes.{Grows, GrowsByFront, Held}
-use Rattle.shared_cells.specs.History.{IsPartOf}
 use Rattle.qp_multi.specs.Passes.{Known}
 use Rattle.zone_dump.specs.declared.refusal.DumpRefusal.{DumpRefusal}
 use Rattle.zone_server.specs.Changes.{HappensIn, NoneHas}

@@ -1,4 +1,4 @@
-//! Changes of a zone: a transaction, and the reload of a whole zone.
+//! Changes of a zone by transactions.
 ghost use Rattle.std.specs.Prelude.{◌≡◌, ◌≢◌, Some, IfOk, OnErr, slice_get};
 ghost use Rattle.zone_server.specs.Prelude.{AllSaid, BlockRan, BlockWants, Changes, EndsBlock, HappensIn, IsServed, IsServing, IsUpdate};
 ghost use Rattle.zone_server.specs.Prelude.{RolledBack, UpdateView, asked_view, ended_of, ended_view, known_of, setup_of};
@@ -11,7 +11,7 @@ use dns_name::Name;
 use job_commands::{ZoneLaw, run_block};
 use job_report::{Cause, Outcome, Told};
 use job_script::Block;
-use std::alloc::{AllocError, Global};
+use std::alloc::{AllocError, AllocFailed, Global};
 use std::sync::Wait;
 use thiserror::Error;
 use zone_edit::ItemBuffers;
@@ -44,6 +44,28 @@ pub enum ChangeRefusal {
     },
     #[error("out of memory")]
     Memory,
+}
+
+impl From<AllocError> for ChangeRefusal {
+    ghost use Rattle.std.specs.Prelude.{◌≡◌};
+    ghost use Rattle.zone_server.specs.declared.changing.ChangeRefusal.TheVariants.{Memory};
+
+    ghost from_gives = { λ _ e. e ≡ Memory };
+
+    fn from(_: AllocError) -> ChangeRefusal {
+        ChangeRefusal::Memory
+    }
+}
+
+impl<T: Drop> From<AllocFailed<T>> for ChangeRefusal {
+    ghost use Rattle.std.specs.Prelude.{◌≡◌};
+    ghost use Rattle.zone_server.specs.declared.changing.ChangeRefusal.TheVariants.{Memory};
+
+    ghost from_gives = { λ _ e. e ≡ Memory };
+
+    fn from(_: AllocFailed<T>) -> ChangeRefusal {
+        ChangeRefusal::Memory
+    }
 }
 
 // What is told of a transaction that was to be committed.

@@ -15,6 +15,7 @@ mod responding;
 mod server;
 mod transferring;
 mod update;
+mod wire;
 
 pub use asking::Answered;
 pub use attaching::AttachRefusal;
@@ -22,8 +23,9 @@ pub use changing::ChangeRefusal;
 pub use home::Home;
 pub use loading::{LoadRefusal, LoadedZone};
 pub use noting::ServerNote;
-pub use opening::{OpenRefusal, Opening, Service};
+pub use opening::{OpenRefusal, Opening};
 pub use reply::{FromZone, Reply};
 pub use server::{Server, ServerPass};
 pub use transferring::{TransferRefusal, Transferred};
 pub use update::{Update, UpdateRefusal};
+pub use wire::WireRows;

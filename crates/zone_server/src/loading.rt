@@ -3,7 +3,7 @@ ghost use Rattle.std.specs.Prelude.{◌≡◌, ◌≤◌, ◌^◌, IfOk, length}
 
 use dns_name::Name;
 use master_file::{Zone, read_zone};
-use std::alloc::Global;
+use std::alloc::{AllocError, AllocFailed, Global};
 use std::marker::Model;
 use thiserror::Error;
 use zone_text::ZoneRefusal;
@@ -37,6 +37,18 @@ pub enum LoadRefusal {
     /// What is refused first, or want of memory.
     #[error("{0}")]
     Zone(ZoneRefusal),
+}
+
+impl From<AllocError> for LoadRefusal {
+    fn from(error: AllocError) -> LoadRefusal {
+        LoadRefusal::Zone(ZoneRefusal::from(error))
+    }
+}
+
+impl<T: Drop> From<AllocFailed<T>> for LoadRefusal {
+    fn from(failed: AllocFailed<T>) -> LoadRefusal {
+        LoadRefusal::Zone(ZoneRefusal::from(failed))
+    }
 }
 
 impl LoadedZone {

@@ -1,4 +1,4 @@
-//! How a server is opened, and its work.
+//! How a server is opened.
 ghost use Rattle.std.specs.Prelude.{◌≡◌, ◌+◌, ◌≤◌, ℕ, All, IfOk, Some, length, map, slice_get};
 ghost use Rattle.zone_server.specs.Prelude.{IsOpening, IsServing, IsZone, StandsAs, entries_in, list_any, origin_in, served_of, same_name};
 
@@ -10,7 +10,7 @@ use index_items::zone_items;
 use job_commands::ZoneLaw;
 use qp_multi::Blank;
 use std::alloc::{AllocError, AllocFailed, Global};
-use std::marker::{Brand, Model};
+use std::marker::Model;
 use thiserror::Error;
 use zone_answer::Scratch;
 use zone_edit::ItemBuffers;
@@ -79,26 +79,6 @@ impl From<ZonesRefusal> for OpenRefusal {
     }
 }
 
-/// What a server is for: its work from when it is open until it ends.
-pub trait Service {
-    ghost use Rattle.std.specs.Prelude.{List, ◌≡◌};
-    ghost use Rattle.zone_server.specs.Homes.{Served};
-
-    type Output;
-
-    // It serves these zones.
-    ghost serves: { Self → List Served → Type 0 } = { λ service zones. Unit {0} };
-
-    /// Serves, by the passes that the server was opened for. No clause says how many they are, or that none has seen more than
-    /// version 0. What it leaves of the server ends when it returns.
-    fn run<H: Home + Send + Sync>(
-        self,
-        server: &Server<H>,
-        passes: Vec<ServerPass<H>>,
-    ) -> Self::Output
-        requires { serves self H.zones };
-}
-
 /// Zones that are to be served, each with the table of its index.
 #[derive(Drop)]
 pub struct Opening {
@@ -109,12 +89,16 @@ pub struct Opening {
 }
 
 impl Model for Opening {
-    ghost use Rattle.std.specs.Prelude.{map};
+    ghost use Rattle.std.specs.Prelude.{◌∷◌, map};
     ghost use Rattle.zone_server.specs.Openings.{IsOpening, OpeningView, served_of};
 
     ghost Value = { OpeningView };
 
-    ghost view = { λ o. record { passes = o.passes; zones = served_of o.zones.items (map (λ b. b.shared.table.shared.key) o.blanks.items) } };
+    ghost view = { λ o. record {
+      passes = o.passes;
+      zones = served_of o.zones.items (map (λ b. b.shared.table.shared.key) o.blanks.items);
+      tables = o.table.shared.table.shared.table_id ∷ map (λ b. b.shared.table.shared.table_id) o.blanks.items;
+    } };
 
     ghost invariant = { λ o. IsOpening o.passes o.zones.items (map (λ b. b.shared.table.shared.key) o.blanks.items) o.table.shared.table.shared.key };
 }
@@ -158,25 +142,23 @@ fn serving<H: Home>(
     Ok(all)
 }
 
-// Opens zones on tables that are named, and serves them.
-fn open<H: Home + Send + Sync, S: Service + Drop>(
+// Opens zones on tables that are named.
+fn open<H: Home>(
     alloc: Global,
     table: Blank<TableLaw>,
     blanks: Vec<Blank<ZoneLaw>>,
     zones: &[ZoneItems],
-    service: S,
-) -> Result<S::Output, OpenRefusal>
+) -> Result<(Server<H>, Vec<ServerPass<H>>), OpenRefusal>
     requires table_named { slice_get H.tables 0 ≡ Some table.shared.table.shared.table_id }
     requires named { (k : ℕ) (b : _) → slice_get blanks.items k ≡ Some b → slice_get H.tables (k + 1) ≡ Some b.shared.table.shared.table_id }
     requires opening { IsOpening table.shared.table.shared.key.passes zones.now (map (λ b. b.shared.table.shared.key) blanks.items) table.shared.table.shared.key }
     requires served { H.zones ≡ served_of zones.now (map (λ b. b.shared.table.shared.key) blanks.items) }
     requires some { 1 ≤ length zones.now }
-    requires serves { S.serves service H.zones }
 {
     let (zones, passes) = Zones::<ZoneLaw, H>::open(alloc, table, blanks, zones)?;
     let passes = serving::<H>(alloc, passes)?;
     let server = Server { zones };
-    Ok(service.run(&server, passes))
+    Ok((server, passes))
 }
 
 impl Opening {
@@ -227,13 +209,15 @@ impl Opening {
         })
     }
 
-    /// Opens them, and serves.
-    pub fn serve<S: Service + Drop>(
+    /// Opens them: a server, and a pass for each that it was put together for. `H` says in types which zones are served, and on which tables.
+    /// Whoever calls a function that is generic in it picks it there, as `Brand`, by two lines of its proof. No clause says how many passes
+    /// come, or that none has seen more than version 0.
+    pub fn open<H: Home>(
         self,
         alloc: Global,
-        service: S,
-    ) -> Result<S::Output, OpenRefusal>
-        requires { S.serves service self.zones }
+    ) -> Result<(Server<H>, Vec<ServerPass<H>>), OpenRefusal>
+        requires tables { H.tables ≡ self.tables }
+        requires zones { H.zones ≡ self.zones }
     {
         let Opening {
             table,
@@ -244,6 +228,6 @@ impl Opening {
         if zones.is_empty() {
             return Err(OpenRefusal::Zones);
         }
-        open::<Brand, S>(alloc, table, blanks, &zones, service)
+        open::<H>(alloc, table, blanks, &zones)
     }
 }

@@ -9,7 +9,7 @@ use dns_name::Name;
 use job_commands::ZoneLaw;
 use outer_io::Sink;
 use qp_multi::{Index, Named, Pass};
-use std::alloc::Global;
+use std::alloc::{AllocError, AllocFailed, Global};
 use thiserror::Error;
 use trie_read::Reading;
 use zone_dump::{DumpRefusal, dump_to};
@@ -32,6 +32,18 @@ pub enum TransferRefusal {
     /// A fault of the sink, which has taken a front of the text, or want of memory.
     #[error("{0}")]
     Dump(DumpRefusal),
+}
+
+impl From<AllocError> for TransferRefusal {
+    fn from(_: AllocError) -> TransferRefusal {
+        TransferRefusal::Dump(DumpRefusal::Memory)
+    }
+}
+
+impl<T: Drop> From<AllocFailed<T>> for TransferRefusal {
+    fn from(_: AllocFailed<T>) -> TransferRefusal {
+        TransferRefusal::Dump(DumpRefusal::Memory)
+    }
 }
 
 // What is told of a dump.

@@ -1,7 +1,6 @@
-use Rattle.std.proofs.Common.{sym, subst}
+use Rattle.std.proofs.Common.{subst}
 use Rattle.zone_answer.specs.Answers.{answer}
 use Rattle.zone_answer.specs.Parts.{IsGiven}
-use Rattle.zone_answer.specs.declared.kind.Kind.{Kind}
 use Rattle.qp_multi.specs.Passes.{version_seen}
 use Rattle.zone_table.specs.Locations.{IsZoneOf}
 use Rattle.zone_table.specs.Passes.{table_known}

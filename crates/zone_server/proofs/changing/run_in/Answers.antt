@@ -1,5 +1,4 @@
-use Rattle.std.proofs.Common.{refl, ◌<◌, length}
-use Rattle.std.specs.List.{slice_get}
+use Rattle.std.proofs.Common.{refl}
 use Rattle.std.proofs.lemmas.Option.{slice_get_within}
 use Rattle.job_script.specs.Views.{asked_view}
 use Rattle.qp_multi.specs.Passes.{known_at}

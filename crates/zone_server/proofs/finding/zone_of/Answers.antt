@@ -1,7 +1,5 @@
-use Rattle.std.proofs.Common.{◌≡◌, ◌∙◌, inl, inr, ◌<◌, ℕ, true, Some, arith, sym, ap, subst}
-use Rattle.std.specs.List.{slice_get}
+use Rattle.std.proofs.Common.{◌∙◌, Some, arith, ap}
 use Rattle.std.proofs.lemmas.Option.{slice_get_within}
-use Rattle.zone_model.specs.Names.{Name, same_name}
 use Rattle.zone_model.proofs.NameLemmas.{same_name-true}
 use Rattle.zone_server.proofs.FindLaws.{differs, none_further}
 use Rattle.zone_server.proofs.finding.zone_of.Goals as goal

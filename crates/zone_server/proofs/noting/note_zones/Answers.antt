@@ -1,6 +1,3 @@
-use Rattle.std.proofs.Common.{ap, subst}
-use Rattle.std.proofs.Common.{List}
-use Rattle.zone_model.specs.Names.{Name}
 use Rattle.zone_server.proofs.NoteLaws.{is_note, tells}
 use Rattle.zone_server.proofs.ServingLaws.{knows_same, pass_in, serving_same}
 use Rattle.zone_server.proofs.noting.note_zones.Goals as goal

@@ -6,7 +6,6 @@ use Rattle.qp_multi.specs.Meanings.{Holds}
 use Rattle.qp_multi.specs.Passes.{Known, known_at}
 use Rattle.zone_answer.specs.Standing.{Shows, ShowsSome}
 use Rattle.job_commands.proofs.ShowLaws.{shown, shown_some}
-use Rattle.zone_server.specs.Replies.{IsShown}
 use Rattle.zone_server.specs.Transfers.{Dumps, IsDumped, transferred}
 use Rattle.zone_server.proofs.ShowLaws.{last_seen, shown_by}
 use Rattle.zone_server.proofs.TransferLaws.{dumps_by, version_told}

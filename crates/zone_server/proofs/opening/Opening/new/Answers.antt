@@ -1,4 +1,4 @@
-use Rattle.std.proofs.Common.{◌≡◌, [], List, arith, ap, map, refl, sym, subst}
+use Rattle.std.proofs.Common.{[], List, arith, ap, map, sym, subst}
 use Rattle.shared_cells.specs.declared.view.TableSize.{TableSize}
 use Rattle.zone_table.specs.declared.opening.ZoneItems.{ZoneItems}
 use Rattle.zone_server.specs.Openings.{IsOpening}

@@ -1,4 +1,4 @@
-use Rattle.std.proofs.Common.{arith, ap, length, map, sym, ◌∙◌}
+use Rattle.std.proofs.Common.{arith, ap, map}
 use Rattle.zone_server.specs.Openings.{OpeningView}
 use Rattle.zone_server.proofs.OpeningLaws.{has_one_more, many_served, more_opening, one_has, none_has}
 use Rattle.zone_server.proofs.opening.Opening.with.Goals as goal

@@ -1,3 +1,0 @@
-mod ShowLaws
-mod WriteLaws
-mod OpeningLaws
