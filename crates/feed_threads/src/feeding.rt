@@ -68,6 +68,7 @@ fn serve<R: Wait, N: Named, G: Gate>(
     ensures ran { (s : Setup) (number : ℕ) → IsSetup s origin.now (table_size index.now) (known_at pass.seat)
         → IsNew number s.opening (known_at pass.seat) → IfOk result (DoneRan s number (known_at pass.seat) (map command_view turnstile.old.commands.now)) }
     ensures heard { IfOk result (λ d. AllByRecursion (IsHeard (G.hears turnstile.old.gate.now) turnstile.old.worker) d.served.numbers.items) }
+    ensures left { IfOk result (λ _. turnstile.new.entered ≡ None) }
     ensures told { IfOk result (λ d. turnstile.new.told ≡ length d.served.numbers.items) }
 {
     let mut room = Room::new(alloc)?;

@@ -34,8 +34,8 @@ pub fn run_alone<R: Wait, N: Named>(
     ensures place { pass.new.place ≡ pass.old.place }
     ensures steps { (s : Setup) → IsSetup s origin.now index.now.shared.table.shared.key (known_at pass.old.seat)
         → (spare : Option (Option Seat)) (held : Option Pinned) → IsPlaced spare held → IsUnder (known_at pass.old.seat) (holder_view spare held)
-        → IfOk result (λ o. Step s (command_view entered.command.now) o (station pass.old.seat spare held) (station pass.new.seat spare held)) }
-    ensures weight { (block : _) → entered.command.now ≡ Command.Block block
+        → IfOk result (λ o. Step s (command_view entered.entry.command.now) o (station pass.old.seat spare held) (station pass.new.seat spare held)) }
+    ensures weight { (block : _) → entered.entry.command.now ≡ Command.Block block
         → IfOk result (RanByWeight block.weight (known_at pass.old.seat) (known_at pass.new.seat)) }
 {
     match entered.command() {

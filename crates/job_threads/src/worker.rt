@@ -45,10 +45,10 @@ pub fn run_command<'i, R: Wait, N: Named>(
     ensures placed { IfOk result (λ _. ArePlaced passes.new) }
     ensures held_at { IfOk result (λ _. IfSome passes.new.held (λ s. s.place ≡ index.now.place)) }
     ensures opens { IfOk result (λ _. OpensAt origin.now (known_at passes.new.asks.seat)) }
-    ensures held { IfOk result (λ _. holds_one passes.new ≡ held_after (holds_one passes.old) (command_view entered.command.now)) }
+    ensures held { IfOk result (λ _. holds_one passes.new ≡ held_after (holds_one passes.old) (command_view entered.entry.command.now)) }
     ensures steps { (s : Setup) → IsSetup s origin.now (table_size index.now) (known_at passes.old.asks.seat)
         → IsUnder (known_at passes.old.asks.seat) (holder_of passes.old)
-        → IfOk result (λ o. Step s (command_view entered.command.now) o (station_of passes.old) (station_of passes.new)) }
+        → IfOk result (λ o. Step s (command_view entered.entry.command.now) o (station_of passes.old) (station_of passes.new)) }
 {
     match entered.command() {
         Command::Hold => Ok(take_snapshot(index, passes)),
@@ -86,6 +86,7 @@ pub fn run_worker<R: Wait, N: Named, G: Gate>(
         → Begins s numbers (known_at asks.seat) (known_at spare.seat)
         → IfOk result (DoneRan s numbers (map command_view turnstile.old.commands.now)) }
     ensures heard { IfOk result (λ _. AreHeard (G.hears turnstile.old.gate.now) turnstile.old.worker (length (map command_view turnstile.old.commands.now))) }
+    ensures left { IfOk result (λ _. turnstile.new.entered ≡ None) }
     ensures told { IfOk result (λ _. turnstile.new.told ≡ length turnstile.old.commands.now) }
 {
     let mut room = Room::new(alloc)?;

@@ -32,7 +32,7 @@ fn run_command<R: Wait, N: Named>(
     requires pass { IsPassOf zones.now.origins.items pass.old }
     requires opens { Opens zones.now pass.old }
     requires said { IsSaid zones.now.origins.items (command_view entered.command.now) }
-    ensures { IfOk result (λ d. Goes zones.now (command_view entered.command.now) d pass.old pass.new) }
+    ensures { IfOk result (λ d. Goes zones.now (command_view entered.entry.command.now) d pass.old pass.new) }
 {
     match entered.command() {
         Command::Get(name, rtype) => get(alloc, zones, pass, name, *rtype, room),
@@ -55,6 +55,7 @@ pub fn run_worker<R: Wait, N: Named, G: Gate>(
     requires may { MayWork zones.now pass (map command_view turnstile.old.commands.now) }
     ensures done { IfOk result (λ e. HasWorked zones.now pass e.pass (map command_view turnstile.old.commands.now) e.done.list.items) }
     ensures heard { IfOk result (λ _. AreHeard (G.hears turnstile.old.gate.now) turnstile.old.worker (length (map command_view turnstile.old.commands.now))) }
+    ensures left { IfOk result (λ _. turnstile.new.entered ≡ None) }
     ensures told { IfOk result (λ _. turnstile.new.told ≡ length turnstile.old.commands.now) }
 {
     let mut room = Room::new(alloc)?;
