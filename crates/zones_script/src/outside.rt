@@ -11,7 +11,9 @@ use crate::phrases::Phrase;
 use crate::script::{Chosen, OpenBlock, Script};
 use dns_name::Name;
 use job_model::{Listing, ScriptKind, Weight};
-use job_script::{COMMAND_LIMIT, JobRefusal, Script as Alone, Unfinished, WORKER_LIMIT, demand, refused, too_many};
+use job_script::{
+    COMMAND_LIMIT, JobRefusal, Script as Alone, Unfinished, WORKER_LIMIT, demand, refused, too_many,
+};
 use master_file::{name_word, type_word};
 use std::alloc::Global;
 use std::mem;
