@@ -1,4 +1,4 @@
-use Rattle.std.proofs.Common.{Some, None, refl, sym, subst}
+use Rattle.std.proofs.Common.{◌∙◌, Some, None, refl, sym, subst}
 use Rattle.std.specs.Option.{option_map}
 use Rattle.job_model.specs.Commands.{AskHeld}
 use Rattle.qp_multi.specs.Passes.{first_version, known_at}
@@ -12,7 +12,7 @@ use Rattle.job_commands.proofs.ZoneLaws.{opens_still}
 use Rattle.job_threads.proofs.worker.run_command.Goals as goal
 
 pub returns-in-Hold-clause-steps : goal.returns-in-Hold-clause-steps
-returns-in-Hold-clause-steps g c = λ s setup under. step_is s c.take_snapshot.result _ _ c.args.entered.command.now _ c.in-Hold.is (c.take_snapshot.ensures.steps s setup.opening under)
+returns-in-Hold-clause-steps g c = λ s setup under. step_is s c.take_snapshot.result _ _ c.args.entered.command.now _ (sym c.command.ensures ∙ c.in-Hold.is) (c.take_snapshot.ensures.steps s setup.opening under)
 
 pub returns-in-Hold-clause-opens : goal.returns-in-Hold-clause-opens
 returns-in-Hold-clause-opens g c =
@@ -27,12 +27,12 @@ returns-in_ok-outcome-in-Ask-clause-opens g c =
 
 pub returns-in_ok-outcome-in-AskHeld-clause-steps : goal.returns-in_ok-outcome-in-AskHeld-clause-steps
 returns-in_ok-outcome-in-AskHeld-clause-steps g c = λ s setup under.
-    step_is s c.in_ok-outcome-in-AskHeld.outcome _ _ c.args.entered.command.now _ c.in-AskHeld.is
+    step_is s c.in_ok-outcome-in-AskHeld.outcome _ _ c.args.entered.command.now _ (sym c.command.ensures ∙ c.in-AskHeld.is)
     (subst (λ p. Step s (AskHeld c.in-AskHeld.question) c.in_ok-outcome-in-AskHeld.outcome (station c.args.passes.now.asks.seat (option_map (λ p. p.seat) c.args.passes.now.spare) (option_map (λ h. h.seat) c.args.passes.now.held)) (station p.asks.seat (option_map (λ p. p.seat) p.spare) (option_map (λ h. h.seat) p.held))) (sym c.in_ok-outcome-in-AskHeld.ensures.same)
     (c.in_ok-outcome-in-AskHeld.ensures.steps s setup.index.origin_is setup.opening under))
 
 pub returns-in-Release-clause-steps : goal.returns-in-Release-clause-steps
-returns-in-Release-clause-steps g c = λ s setup under. step_is s c.give_back.result _ _ c.args.entered.command.now _ c.in-Release.is (c.give_back.ensures.steps s setup.opening under)
+returns-in-Release-clause-steps g c = λ s setup under. step_is s c.give_back.result _ _ c.args.entered.command.now _ (sym c.command.ensures ∙ c.in-Release.is) (c.give_back.ensures.steps s setup.opening under)
 
 pub returns-in_ok-outcome-in-Ask-clause-steps : goal.returns-in_ok-outcome-in-Ask-clause-steps
 returns-in_ok-outcome-in-Ask-clause-steps g c = λ s setup under.
