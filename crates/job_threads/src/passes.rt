@@ -97,6 +97,29 @@ pub fn give_back<N: Named>(passes: &mut Passes<'_, N>) -> Outcome
     outcome
 }
 
+/// Takes the second pass, wherever it is. A snapshot that is held is given back.
+pub fn take_second<N: Named>(passes: &mut Passes<'_, N>) -> Pass<N>
+    requires placed { ArePlaced passes.old }
+    requires place { IfSome passes.old.spare (λ p. p.place ≡ passes.old.asks.place) }
+    requires held_at { IfSome passes.old.held (λ s. s.place ≡ passes.old.asks.place) }
+    ensures same { passes.new.asks ≡ passes.old.asks }
+    ensures free { (passes.new.spare ≡ None) × (passes.new.held ≡ None) }
+    ensures here { IsSome result.seat }
+    ensures place { result.place ≡ passes.old.asks.place }
+    ensures seen { (known_at result.seat).seen ≡ (holder_of passes.old).seen }
+    ensures pass { (known_at result.seat).pass ≡ (holder_of passes.old).pass }
+{
+    if let Some(snapshot) = passes.held.take() {
+        let (second, _) = release(snapshot);
+        return second;
+    }
+    let Some(second) = passes.spare.take() else {
+        // The second pass is spare unless it is held.
+        unreachable!();
+    };
+    second
+}
+
 /// Both passes. A snapshot that is still held is given back.
 pub fn second_pass<N: Named>(passes: Passes<'_, N>) -> (Pass<N>, Pass<N>)
     requires placed { ArePlaced passes }
@@ -108,14 +131,8 @@ pub fn second_pass<N: Named>(passes: Passes<'_, N>) -> (Pass<N>, Pass<N>)
     ensures seen { (known_at result.1.seat).seen ≡ (holder_of passes.entry).seen }
     ensures pass { (known_at result.1.seat).pass ≡ (holder_of passes.entry).pass }
 {
-    let Passes { asks, spare, held } = passes;
-    if let Some(snapshot) = held {
-        let (second, _) = release(snapshot);
-        return (asks, second);
-    }
-    let Some(second) = spare else {
-        // The second pass is spare unless it is held.
-        unreachable!();
-    };
+    let mut passes = passes;
+    let second = take_second(&mut passes);
+    let Passes { asks, .. } = passes;
     (asks, second)
 }

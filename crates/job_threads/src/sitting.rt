@@ -6,7 +6,7 @@ ghost use Rattle.job_threads.specs.Prelude.{cells_in_trie, entries_of_items, roo
 ghost use Rattle.job_threads.specs.Prelude.{Sits, ComesTo, EndsAt, versions_by, table_size, AreAt, holder_of, holds_one, station_of};
 ghost use Rattle.job_threads.specs.Prelude.{AllSeen, Accounts, IsPartOf, with_note};
 
-use crate::passes::{Passes, second_pass};
+use crate::passes::{Passes, take_second};
 use crate::worker::run_command;
 use dns_name::Name;
 use job_commands::{Entered, Last, Room, ZoneLaw, measure};
@@ -141,16 +141,18 @@ pub fn tell_all<N: Named>(index: &Index<ZoneLaw, N>, passes: &mut Passes<'_, N>)
     account_second(index, passes, seen);
 }
 
-/// Measures the last version, and accounts for both passes. The worker is done: a snapshot that is held is given back.
-pub fn measure_last<N: Named>(index: &Index<ZoneLaw, N>, passes: Passes<'_, N>) -> Last
-    requires { AreAt index.now.place passes }
-    ensures { (s : Setup) (zone : Version) (commands : _) (os : _) → IsIndex s s.origin (table_size index.now) → StandsAs s.opening zone
-        → Sits s (station_of passes.entry) commands os → EndsAt s zone commands os result }
+/// Measures the last version, and accounts for both passes. A snapshot that is held is given back.
+pub fn measure_last<N: Named>(index: &Index<ZoneLaw, N>, passes: &mut Passes<'_, N>) -> Last
+    requires { AreAt index.now.place passes.old }
+    ensures free { holds_one passes.new ≡ false }
+    ensures ends { (s : Setup) (zone : Version) (commands : _) (os : _) → IsIndex s s.origin (table_size index.now) → StandsAs s.opening zone
+        → Sits s (station_of passes.old) commands os → EndsAt s zone commands os result }
 {
-    let (mut asks, mut spare) = second_pass(passes);
-    let last = measure(index, &mut asks);
-    asks.account(index);
-    let seen = asks.note(index);
-    spare.account_beside(index, seen);
+    let mut second = take_second(passes);
+    let last = measure(index, &mut passes.asks);
+    passes.asks.account(index);
+    let seen = passes.asks.note(index);
+    second.account_beside(index, seen);
+    passes.spare = Some(second);
     last
 }

@@ -51,8 +51,8 @@ impl<R: Wait, N: Named> Worker for Seat<'_, R, N> {
         tell_all(self.index, &mut self.passes)
     }
 
-    fn end(self) -> LastVersion {
-        let last = measure_last(self.index, self.passes);
+    fn end(&mut self) -> LastVersion {
+        let last = measure_last(self.index, &mut self.passes);
         LastVersion {
             version: last.version,
             names: last.names,

@@ -1,8 +1,8 @@
 //! What one line of a session says.
 ghost use Rattle.std.specs.Prelude.{◌≡◌, ◌<◌, ◌≤◌, ◌∷◌, ◌++◌, ◌^◌, [], ℕ, Bool, true, false, List, length, map, IfOk, Some, None, Option};
 ghost use Rattle.session_lines.specs.Prelude.{is_some, lines_of, script_view, first_session, left_open, passed_over, refused_in, script_at, session_line, went_on};
-ghost use Rattle.session_lines.specs.Views.{StepsTo, open_view, said_view, session_view};
-ghost use Rattle.session_lines.specs.Prelude.{Asked, State, command_view, completed, held_by, is_last_word as ends_line};
+ghost use Rattle.session_lines.specs.Views.{StepsTo, open_view, session_view};
+ghost use Rattle.session_lines.specs.Prelude.{State, command_view, held_by, is_last_word as ends_line};
 
 use crate::words::is_last_word;
 use dns_name::Name;
@@ -13,23 +13,24 @@ use std::mem::replace;
 use zone_text::Token;
 
 /// What a session is between two lines: whether it holds a snapshot; the transaction that is open, and the number of its first line;
-/// and whether a refused line gave one up, whose last word is still to come. The memory for a line's commands goes from line to line.
+/// and whether a refused line gave one up, whose last word is still to come. The commands are those that the last line completed, one at
+/// most: they are run where they lie, and their memory goes from line to line.
 #[derive(Drop)]
 pub struct Session {
     pub held: bool,
     pub block: Option<Unfinished>,
     pub opened: u64,
     pub given_up: bool,
-    room: Vec<Command>,
+    pub commands: Vec<Command>,
 }
 
 /// What a line says.
-#[derive(Drop)]
+#[derive(Clone, Copy)]
 pub enum Said {
     /// Nothing is to be done or told.
     Nothing,
-    /// This is to be run.
-    Runs(Command),
+    /// What the session has as the line's commands is to be run.
+    Runs,
     /// The line is refused.
     Refuses(ScriptKind),
     /// The last word has come of a transaction that a refused line gave up.
@@ -38,23 +39,13 @@ pub enum Said {
     RefusesLastWord(ScriptKind),
 }
 
-// A line's command is run. It is taken out.
-fn said_by(commands: &mut Vec<Command>) -> Said
-    ensures { (n : ℕ) → said_view n result ≡ completed (map command_view commands.old.items) }
+// Whether a snapshot is held behind a line's commands.
+fn held_behind(held: bool, commands: &[Command]) -> bool
+    ensures { result ≡ held_by held (map command_view commands.now) }
 {
-    if commands.is_empty() {
-        return Said::Nothing;
-    }
-    Said::Runs(commands.swap_remove(0))
-}
-
-// Whether a snapshot is held behind what a line says.
-fn held_behind(held: bool, said: &Said) -> bool
-    ensures { (n : ℕ) (commands : List Asked) → said_view n said.now ≡ completed commands → result ≡ held_by held commands }
-{
-    match said {
-        Said::Runs(Command::Hold) => true,
-        Said::Runs(Command::Release) => false,
+    match commands.first() {
+        Some(Command::Hold) => true,
+        Some(Command::Release) => false,
         _ => held,
     }
 }
@@ -69,7 +60,7 @@ impl Session {
             block: None,
             opened: 0,
             given_up: false,
-            room: Vec::new(alloc),
+            commands: Vec::new(alloc),
         }
     }
 
@@ -78,7 +69,7 @@ impl Session {
         ensures script { script_view result ≡ script_at (session_view self.old) }
         ensures block { session_view self.new ≡ record (session_view self.old) { block = None } }
     {
-        let mut commands = replace(&mut self.room, Vec::new(alloc));
+        let mut commands = replace(&mut self.commands, Vec::new(alloc));
         commands.clear();
         Script {
             listing: Listing::Live,
@@ -99,16 +90,15 @@ impl Session {
             listing: _,
             earlier: _,
             begun: _,
-            mut commands,
+            commands,
             held: _,
             block,
         } = script;
-        let said = said_by(&mut commands);
-        self.held = held_behind(self.held, &said);
+        self.held = held_behind(self.held, &commands);
         self.block = block;
         self.opened = if was_open { self.opened } else { number };
-        self.room = commands;
-        said
+        self.commands = commands;
+        Said::Runs
     }
 
     // A line is refused. What was open is given up.

@@ -8,6 +8,7 @@ ghost use Rattle.session_talk.specs.Workers.{Opened};
 
 use crate::worker::Worker;
 use dns_name::Name;
+use job_script::Command;
 use outer_io::{Failed, Sink, write_all};
 use session_lines::{Replies, Said, Session};
 use std::alloc::{AllocError, Global};
@@ -25,33 +26,34 @@ pub struct Answering<'a, W: Worker> {
     pub lent: Vec<Token>,
 }
 
-// Runs what a line says, or puts down that the line is refused.
+// Runs what a line says, which completed these commands, or puts down that the line is refused.
 fn reply<W: Worker>(
     worker: &mut W,
     replies: &mut Replies,
     line: u64,
-    said: &Said,
+    commands: &[Command],
+    said: Said,
 ) -> Result<(), AllocError>
     requires ready { W.is_ready worker.old }
     requires few { replies.old.next < 2 ^ 64 - 1 }
-    requires well { (now : Bool) × RunsWell (W.origin worker.old) (W.holds worker.old) now (said_view line said.now) }
+    requires well { (now : Bool) × RunsWell (W.origin worker.old) (W.holds worker.old) now (said_view line commands.now said) }
     ensures ready { OnOk result (W.is_ready worker.new) }
     ensures origin { OnOk result (W.origin worker.new ≡ W.origin worker.old) }
-    ensures held { (now : Bool) → RunsWell (W.origin worker.old) (W.holds worker.old) now (said_view line said.now) → OnOk result (W.holds worker.new ≡ now) }
+    ensures held { (now : Bool) → RunsWell (W.origin worker.old) (W.holds worker.old) now (said_view line commands.now said) → OnOk result (W.holds worker.new ≡ now) }
     ensures few { OnOk result (replies.new.next ≤ replies.old.next + 1) }
     ensures replied { (o : Opened) (entries : List Entry) → Ran (W.has_run worker.old o) entries
-        → OnOk result (Replied (W.has_run worker.new o) entries (said_view line said.now) (printing replies.old) (printing replies.new)) }
+        → OnOk result (Replied (W.has_run worker.new o) entries (said_view line commands.now said) (printing replies.old) (printing replies.new)) }
 {
-    match said {
-        Said::Nothing => Ok(()),
-        Said::Runs(command) => {
+    match (said, commands) {
+        (Said::Runs, [command, ..]) => {
             let outcome = worker.run(command)?;
             replies.push_ran(command, &outcome)
         }
-        Said::Refuses(kind) => replies.push_refused(line, *kind),
-        Said::GivesUp => replies.push_given_up(),
-        Said::RefusesLastWord(kind) => {
-            replies.push_refused(line, *kind)?;
+        (Said::Nothing | Said::Runs, _) => Ok(()),
+        (Said::Refuses(kind), _) => replies.push_refused(line, kind),
+        (Said::GivesUp, _) => replies.push_given_up(),
+        (Said::RefusesLastWord(kind), _) => {
+            replies.push_refused(line, kind)?;
             replies.push_given_up()
         }
     }
@@ -107,7 +109,13 @@ impl<W: Worker> Answering<'_, W> {
         let said = self
             .session
             .take_line(self.alloc, line, self.lines, self.origin, &mut self.lent)?;
-        reply(&mut self.worker, &mut self.replies, self.lines, &said)
+        reply(
+            &mut self.worker,
+            &mut self.replies,
+            self.lines,
+            &self.session.commands,
+            said,
+        )
     }
 
     /// Writes what is to be written.

@@ -172,7 +172,7 @@ fn end<W: Worker, K: Sink>(answering: Answering<'_, W>, sink: &mut K) -> Result<
     let Answering {
         alloc: _,
         origin: _,
-        worker,
+        mut worker,
         session,
         mut replies,
         lines: _,

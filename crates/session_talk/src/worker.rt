@@ -1,5 +1,5 @@
 //! Who runs the commands of a session.
-ghost use Rattle.std.specs.Prelude.{◌≡◌, ◌++◌, ◌∷◌, [], ℕ, Bool, List, IfOk};
+ghost use Rattle.std.specs.Prelude.{◌≡◌, ◌++◌, ◌∷◌, [], ℕ, Bool, List, IfOk, false};
 ghost use Rattle.session_talk.specs.Prelude.{AllAsked, Command as Asked, Labels, MayCome, command_view, held_after};
 ghost use Rattle.session_talk.specs.Workers.{ComesTo, EndsAt, Opened};
 
@@ -51,7 +51,8 @@ pub trait Worker: Drop {
         ensures told { (o : Opened) (commands : List Asked) (os : List Ran) → has_run self.old o commands os → (last : ℕ) × ComesTo o commands os last };
 
     /// Measures the last version. A snapshot that is held is given back.
-    fn end(self) -> LastVersion
-        requires { is_ready self }
-        ensures { (o : Opened) (commands : List Asked) (os : List Ran) → has_run self o commands os → EndsAt o commands os result };
+    fn end(&mut self) -> LastVersion
+        requires ready { is_ready self.old }
+        ensures free { holds self.new ≡ false }
+        ensures ends { (o : Opened) (commands : List Asked) (os : List Ran) → has_run self.old o commands os → EndsAt o commands os result };
 }

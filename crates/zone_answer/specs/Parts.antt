@@ -1,6 +1,6 @@
 -- Parts of an answer as the code has them.
 use Rattle.std.specs.Prelude.{◌≡◌, ℕ, ◌-◌, ◌<◌, ◌≤◌, true, false, List, ◌++◌, length, map, take, if◌then◌else◌, Option, Some, None, Result, Ok, Err}
-use Rattle.std.specs.Option.{is_some}
+use Rattle.std.specs.Option.{is_some, option_map}
 use Rattle.std.specs.declared.alloc.AllocError.{AllocError}
 use Rattle.zone_model.specs.Names.{Name, ancestor}
 use Rattle.zone_model.specs.Records.{Entry, rrset_of}
@@ -9,6 +9,7 @@ use Rattle.zone_model.specs.Rows.{Row}
 use Rattle.rr_data.specs.ItemViews.{SaysEntry}
 use Rattle.zone_answer.specs.Answers as answers
 use Rattle.zone_answer.specs.Answers.{Answer, Step, is_cut, cut_above, ns_type}
+use Rattle.zone_answer.specs.declared.cut.Cut.{Cut}
 use Rattle.zone_answer.specs.declared.kind.Kind.{Kind}
 use Rattle.zone_answer.specs.declared.records.Held.{Held}
 use Rattle.zone_answer.specs.declared.rows.Row.{Row as CodeRow}
@@ -39,6 +40,10 @@ abbrev pub IsNodeOf : List ℕ → Option Entry → Option Held → Type 0
 IsNodeOf octets node None = node ≡ None
 IsNodeOf octets node (Some held) = (entry : Entry) × (node ≡ Some entry) × IsHeld octets held entry
 
+-- the octets in front are those of a name, if anything was read
+abbrev pub held_as : Name → Option ℕ → Option Held
+held_as name len = option_map (λ n. record { name = name; len = n }) len
+
 -- what a name owns, if it exists
 abbrev pub own_node : Version → Name → Option Entry
 own_node version name = if exists name version then Some (owned name version) else None
@@ -61,6 +66,10 @@ NoneTo origin name version labels = (k : ℕ) → k ≤ labels → is_cut origin
 -- the names above a name have no cut
 abbrev pub NoneOver : Name → Name → Version → Type 0
 NoneOver origin name version = NoneTo origin name version (length name - 1)
+
+-- the name of a cut above a name, with what was read
+abbrev pub held_at : Name → Cut → Held
+held_at name cut = record { name = ancestor cut.labels name; len = cut.len }
 
 -- the first cut, where one of the names above a name is a cut
 abbrev pub IsCutOver : Name → Name → Version → List ℕ → Option Held → Type 0

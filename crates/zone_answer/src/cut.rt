@@ -1,14 +1,34 @@
 //! Cuts: names below which another zone begins.
 
-ghost use Rattle.std.specs.Prelude.{◌≡◌, ◌≤◌, ◌+◌, ◌==◌, length, true};
+ghost use Rattle.std.specs.Prelude.{◌≡◌, ◌≤◌, ◌+◌, ◌==◌, IfSome, length, true};
 ghost use Rattle.zone_answer.specs.Prelude.{find, option_map, most_item_octets, is_under, ancestor, Version};
-ghost use Rattle.zone_answer.specs.Prelude.{owned, Ancestor, is_cut, IsCutOf, IsCutOver, delegated, ShowsAbove};
+ghost use Rattle.zone_answer.specs.Prelude.{owned, Ancestor, is_cut, IsCutOf, IsCutOver, delegated, held_as, held_at, ShowsAbove};
 
 use crate::records::Held;
 use dns_name::Name;
 use packed_node::Leaf;
 use rr_data::{ItemView, NS};
 use trie_read::{Ancestor, Reading};
+
+/// A cut above a name: how many labels it has, and how many octets of its item were read.
+#[derive(Clone, Copy)]
+pub struct Cut {
+    labels: u8,
+    len: usize,
+}
+
+impl Cut {
+    /// Its name, by a name that is under it.
+    pub fn held(self, name: &Name) -> Held
+        requires { self.labels ≤ length name.now }
+        ensures { result ≡ held_at name.now self }
+    {
+        Held {
+            name: name.cut(self.labels),
+            len: self.len,
+        }
+    }
+}
 
 /// The leaf of the name of so many labels, if that is there.
 fn leaf_of(above: &[Ancestor], labels: u8) -> Option<Leaf>
@@ -33,31 +53,31 @@ pub fn is_cut(origin: &Name, name: &Name, entry: &ItemView<'_>) -> bool
     entry.find_set(NS).is_some()
 }
 
-/// The name of so many labels at or above a name, if it owns an NS set. What it owns is read into a buffer.
+/// Reads what the name of so many labels at or above a name owns into a buffer, and gives its length, if it owns an NS set. It stands by
+/// itself, since a function clears the room for all names that it may read.
+#[inline(never)]
 fn delegated<V: Reading>(
     version: &mut V,
     name: &Name,
     labels: u8,
     above: &[Ancestor],
     item: &mut [u8],
-) -> Option<Held>
+) -> Option<usize>
     requires shown { (zone : Version) × ShowsAbove (V.holds version.old) (V.lies version.old) name.now above.now zone }
     requires few { labels ≤ length name.now }
     requires room { most_item_octets ≤ length item.old }
     ensures same { version.new ≡ version.old }
     ensures cut { (zone : Version) → ShowsAbove (V.holds version.old) (V.lies version.old) name.now above.now zone
-        → IsCutOf zone item.new (delegated zone (ancestor labels name.now)) result }
+        → IsCutOf zone item.new (delegated zone (ancestor labels name.now)) (held_as (ancestor labels name.now) result) }
 {
     let _wire = name.wire(); // for the proof
     let leaf = leaf_of(above, labels)?;
-    let held = Held {
-        name: name.cut(labels),
-        len: version.read(leaf, item),
-    };
+    let len = version.read(leaf, item);
+    let held = Cut { labels, len }.held(name);
     if held.view(item).find_set(NS).is_none() {
         return None;
     }
-    Some(held)
+    Some(len)
 }
 
 /// Whether a name at or under another has one label more at most, which its octets tell.
@@ -78,18 +98,22 @@ pub fn cut_over<V: Reading>(
     name: &Name,
     above: &[Ancestor],
     item: &mut [u8],
-) -> Option<Held>
+) -> Option<Cut>
     requires shown { (zone : Version) × ShowsAbove (V.holds version.old) (V.lies version.old) name.now above.now zone }
     requires under { is_under name.now origin.now ≡ true }
     requires room { most_item_octets ≤ length item.old }
     ensures same { version.new ≡ version.old }
+    ensures few { IfSome result (λ cut. cut.labels ≤ length name.now) }
     ensures cut { (zone : Version) → ShowsAbove (V.holds version.old) (V.lies version.old) name.now above.now zone
-        → IsCutOver origin.now name.now zone item.new result }
+        → IsCutOver origin.now name.now zone item.new (option_map (held_at name.now) result) }
 {
     let last = name.labels().saturating_sub(1);
     for labels in origin.labels()..last {
-        if let Some(cut) = delegated(version, name, labels + 1, above, item) {
-            return Some(cut);
+        if let Some(len) = delegated(version, name, labels + 1, above, item) {
+            return Some(Cut {
+                labels: labels + 1,
+                len,
+            });
         }
     }
     None

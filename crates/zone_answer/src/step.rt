@@ -1,11 +1,11 @@
 //! What one name gives to an answer.
 
 ghost use Rattle.std.specs.Prelude.{◌≡◌, ◌≤◌, length, Option, Some, None, MatchOption, true};
-ghost use Rattle.zone_answer.specs.Prelude.{option_map, key_of, most_item_octets, Labels, is_under, rrset_of, rows_of};
+ghost use Rattle.zone_answer.specs.Prelude.{option_map, key_of, Records, IsHeld, held_at, most_item_octets, Labels, is_under, rrset_of, rows_of};
 ghost use Rattle.zone_answer.specs.Prelude.{split_name, Version, exists, owned, Ends, LeadsTo, alias_in, by_alias, step, target_of};
 ghost use Rattle.zone_answer.specs.Prelude.{set_rows, ns_type, Gives, GivesAtOnce, NoneOver, IsApart, Shows, ShowsSome};
 
-use crate::cut::{cut_over, is_cut, is_right_under};
+use crate::cut::{Cut, cut_over, is_cut, is_right_under};
 use crate::kind::Kind;
 use crate::node::absent_node;
 use crate::records::read_owned;
@@ -111,6 +111,25 @@ fn refer<S: RowSink>(
     Ok(Next::Ends(Kind::Referral))
 }
 
+/// A referral to the servers of a cut above a name, by what was read of it. It stands by itself, since a function clears the room for all names
+/// that it may read.
+#[inline(never)]
+fn refer_above<S: RowSink>(
+    alloc: Global,
+    name: &Name,
+    cut: Cut,
+    item: &[u8],
+    rows: &mut S,
+) -> Result<Next, AllocError>
+    requires few { cut.labels ≤ length name.now }
+    requires held { (entry : Records) × IsHeld item.now (held_at name.now cut) entry }
+    ensures { (target : Option Labels) (entry : Records) → IsHeld item.now (held_at name.now cut) entry
+        → Gives (record { rows = set_rows (held_at name.now cut).name (rrset_of ns_type entry); next = Ends Kind.Referral }) (S.has rows.old) (S.has rows.new) target result }
+{
+    let held = cut.held(name);
+    refer(alloc, &held.name, &held.view(item), rows)
+}
+
 /// What a name that is there gives, where none above it is a cut.
 fn give_own<S: RowSink>(
     alloc: Global,
@@ -189,7 +208,7 @@ fn search<V: Reading, S: RowSink>(
     version.restart(&mut walker.iter);
     let reached = version.reach(&mut walker.iter, &walker.key, &mut walker.above);
     if let Some(cut) = cut_over(version, origin, name, walker.above.as_slice(), item) {
-        return refer(alloc, &cut.name, &cut.view(item), rows);
+        return refer_above(alloc, name, cut, item, rows);
     }
     let Some(met) = reached else {
         return Ok(Next::Ends(Kind::Nxdomain));

@@ -1,4 +1,5 @@
-use Rattle.std.proofs.Common.{◌∙◌, refl, sym, ap, subst, arith, ℕ, ◌-◌}
+use Rattle.std.proofs.Common.{◌∙◌, refl, sym, ap, subst, arith, ℕ, ◌+◌, ◌-◌}
+use Rattle.zone_model.specs.Names.{ancestor}
 use Rattle.zone_answer.specs.Standing.{ShowsAbove}
 use Rattle.zone_answer.proofs.CutLaws.{none_to_origin, none_to_next, cut_found, none_over}
 use Rattle.zone_answer.proofs.cut.cut_over.Goals as goal
@@ -13,7 +14,7 @@ delegated-requires-clause-shown g c =
 pub returns-in-Some-clause-cut : goal.returns-in-Some-clause-cut
 returns-in-Some-clause-cut g c zone shows =
     let now = subst (λ s. ShowsAbove (g.V.Reading.holds s) (g.V.Reading.lies s) c.args.name.now c.args.above.now zone) (sym c.loop-labels.invariant.same) shows in
-    cut_found c.args.origin.now c.args.name.now zone c.delegated.new.item c.loop-labels.labels c.in-Some.cut c.requires.under (omega arith) (omega arith) (c.loop-labels.invariant.none zone shows) (c.in-Some.ensures.cut zone now)
+    cut_found c.args.origin.now c.args.name.now zone c.delegated.new.item c.loop-labels.labels (record { name = ancestor (c.loop-labels.labels + 1) c.args.name.now; len = c.in-Some.len }) c.requires.under (omega arith) (omega arith) (c.loop-labels.invariant.none zone shows) (c.in-Some.ensures.cut zone now)
 
 pub loop-labels-preserved : goal.loop-labels-preserved
 loop-labels-preserved g c = record {

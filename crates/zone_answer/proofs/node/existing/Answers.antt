@@ -1,8 +1,8 @@
-use Rattle.std.proofs.Common.{◌∙◌, ℕ, List, ◌++◌, length, map, sym, ap, subst, arith}
+use Rattle.std.proofs.Common.{◌∙◌, ℕ, List, ◌++◌, length, map, sym, ap, subst, arith, Option}
 use Rattle.zone_model.specs.Keys.{key_of}
 use Rattle.zone_model.specs.Versions.{owned}
 use Rattle.trie_model.specs.Keys as trie
-use Rattle.zone_answer.specs.Parts.{IsNodeOf, own_node}
+use Rattle.zone_answer.specs.Parts.{IsNodeOf, held_as, own_node}
 use Rattle.zone_answer.specs.Standing.{PartsAt, trie_entry}
 use Rattle.zone_answer.proofs.NodeLaws.{no_own, some_own}
 use Rattle.zone_answer.proofs.AncestorLaws.{self_under}
@@ -23,7 +23,7 @@ read-len-requires-clause-there g c =
 pub returns-in_err-met-clause-node : goal.returns-in_err-met-clause-node
 returns-in_err-met-clause-node g c zone on =
     let none = no_own zone c.args.name.now (none_exists c.args.name.now zone (on.whole ∙ c.in_err-met.ensures.nearest on.before on.after on.standing)) in
-    subst (IsNodeOf c.args.item.now (own_node zone c.args.name.now)) (sym c.from_residual.ensures) (sym none)
+    subst (λ (o : Option ℕ). IsNodeOf c.args.item.now (own_node zone c.args.name.now) (held_as c.args.name.now o)) (sym c.from_residual.ensures) (sym none)
 
 pub returns-in_default-clause-node : goal.returns-in_default-clause-node
 returns-in_default-clause-node g c zone on =

@@ -1,13 +1,14 @@
-use Rattle.std.proofs.Common.{rules, ◌∙◌, [], ◌++◌, map, sym, ap, subst, append-nil, None}
+use Rattle.std.proofs.Common.{◌∙◌, [], ◌++◌, map, sym, ap, subst, append-nil, refl, None}
 use Rattle.zone_model.specs.Versions.{owned}
 use Rattle.trie_model.specs.Order.{chain}
 use Rattle.trie_read.specs.Above.{AreAncestors}
 use Rattle.zone_answer.specs.Answers.{Step}
+use Rattle.zone_answer.specs.Parts.{Gives}
 use Rattle.zone_answer.specs.Standing.{Shows, trie_entry}
 use Rattle.zone_answer.proofs.ChainLaws.{there_exists}
 use Rattle.zone_answer.proofs.HeldLaws.{read_of}
 use Rattle.zone_answer.proofs.ReachLaws.{above_at, apart_at, found_at, none_owned, no_node}
-use Rattle.zone_answer.proofs.StepLaws.{step_absent}
+use Rattle.zone_answer.proofs.StepLaws.{step_absent, step_cut}
 use Rattle.zone_answer.proofs.step.search.Goals as goal
 
 pub read-len-requires-clause-there : goal.read-len-requires-clause-there
@@ -40,8 +41,27 @@ give_absent-requires-clause-apart g c =
     let stands = subst (λ s. g.V.Reading.stands s c.reach-reached.new.iter [] all) (sym (c.cut_over.ensures.same ∙ c.reach-reached.ensures.same)) (c.in-Some-reached.ensures.start [] all start) in
     (zone, apart_at (g.V.Reading.stands c.cut_over.new.version c.reach-reached.new.iter) (g.V.Reading.lies c.restart.new.self) c.args.walker.now.key c.args.name.now zone c.in-Some-reached.met c.in-Some-difference.first c.requires.key c.in-Some-difference.is near now stands)
 
+pub refer_above-requires-clause-held : goal.refer_above-requires-clause-held
+refer_above-requires-clause-held g c =
+    let zone = c.requires.shown.0 in
+    let shows = c.requires.shown.1 in
+    let all = map trie_entry zone in
+    let start = subst (λ s. g.V.Reading.stands s c.restart.new.iter [] all) (sym c.restart.ensures.same) (c.restart.ensures.start all shows.held) in
+    let names = subst (λ s. AreAncestors (g.V.Reading.lies s) (chain c.args.walker.now.key all) c.reach-reached.new.above) (sym c.reach-reached.ensures.same) (c.reach-reached.ensures.above [] all start) in
+    let above = above_at (g.V.Reading.lies c.reach-reached.new.self) c.args.walker.now.key c.args.name.now zone c.reach-reached.new.above c.as_slice.result.now c.requires.key c.as_slice.ensures.names
+    (subst (λ s. Shows (g.V.Reading.holds s) zone) (sym (c.reach-reached.ensures.same ∙ c.restart.ensures.same)) shows) names in
+    (_, (c.in-Some.ensures.cut zone above).1)
+
 pub returns-in-Some-clause-gives : goal.returns-in-Some-clause-gives
-returns-in-Some-clause-gives g c = let referred = c.refer.ensures c.args.walker.now.target in search (rules, referred)
+returns-in-Some-clause-gives g c zone shows =
+    let all = map trie_entry zone in
+    let start = subst (λ s. g.V.Reading.stands s c.restart.new.iter [] all) (sym c.restart.ensures.same) (c.restart.ensures.start all shows.held) in
+    let names = subst (λ s. AreAncestors (g.V.Reading.lies s) (chain c.args.walker.now.key all) c.reach-reached.new.above) (sym c.reach-reached.ensures.same) (c.reach-reached.ensures.above [] all start) in
+    let above = above_at (g.V.Reading.lies c.reach-reached.new.self) c.args.walker.now.key c.args.name.now zone c.reach-reached.new.above c.as_slice.result.now c.requires.key c.as_slice.ensures.names
+    (subst (λ s. Shows (g.V.Reading.holds s) zone) (sym (c.reach-reached.ensures.same ∙ c.restart.ensures.same)) shows) names in
+    let cut = c.in-Some.ensures.cut zone above in
+    subst (λ (s : Step). Gives s (g.S.RowSink.has c.args.rows.now) (g.S.RowSink.has c.refer_above.new.rows) c.args.walker.now.target c.refer_above.result)
+    (step_cut c.args.origin.now c.args.name.now zone c.args.rtype _ _ cut.0 refl) (c.refer_above.ensures c.args.walker.now.target _ cut.1)
 
 pub returns-in_default-reached-clause-gives : goal.returns-in_default-reached-clause-gives
 returns-in_default-reached-clause-gives g c zone shows =

@@ -13,4 +13,4 @@ returns c = λ s e o.
       | then-was_open w ↦ (rw (w.self-is, o, w.if-was_open.true) before)
       | else-was_open w ↦ (rw (w.self-is, o, w.if-was_open.false) refl)
     ] in
-    went c.args.number s _ (script_view c.args.script) _ (c.held_behind-self.ensures c.args.number (script_view c.args.script).commands (c.said_by-said.ensures c.args.number) ∙ ap (λ (b : Bool). held_by b (script_view c.args.script).commands) (ap (λ x. x.held) e)) refl number (ap (λ x. x.given_up) e) (sym (c.said_by-said.ensures c.args.number))
+    went c.args.number s _ (script_view c.args.script) _ (c.held_behind-self.ensures ∙ ap (λ (b : Bool). held_by b (script_view c.args.script).commands) (ap (λ x. x.held) e)) refl number (ap (λ x. x.given_up) e) refl
