@@ -1,4 +1,4 @@
-use Rattle.std.proofs.Common.{◌≡◌, ◌∙◌, ℕ, false, true, map, refl, rules, sym, ap, subst, Option}
+use Rattle.std.proofs.Common.{◌∙◌, ℕ, map, refl, rules, sym, ap, subst, Option}
 use Rattle.std.specs.Option.{is_some}
 use Rattle.zone_model.specs.Names.{ancestor}
 use Rattle.zone_model.specs.Keys.{key_of}

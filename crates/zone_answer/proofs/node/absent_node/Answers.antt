@@ -1,6 +1,6 @@
-use Rattle.std.proofs.Common.{◌≡◌, ◌∙◌, ◌<◌, ℕ, List, [], true, take, length, map, refl, sym, ap, subst, arith, Option, Some, MatchOption}
+use Rattle.std.proofs.Common.{◌≡◌, ◌∙◌, ◌<◌, ℕ, List, [], true, take, length, map, refl, sym, ap, subst, arith, Option, Some}
 use Rattle.std.specs.List.{AllByRecursion}
-use Rattle.zone_model.specs.Names.{Name, IsName, ancestor, star_under, wire}
+use Rattle.zone_model.specs.Names.{Name, IsName, ancestor, star_under}
 use Rattle.zone_model.specs.Keys.{key_of}
 use Rattle.zone_model.specs.Records.{Entry}
 use Rattle.zone_model.specs.Versions.{Version, exists}
