@@ -50,10 +50,13 @@ def graph(title, lines, xs, ys, left, top, width, height, show):
         out.append(text(left + 54, y + 4, show(rule * step), "end", 11, "#666666"))
     for x in xs:
         out.append(text(across(x), top + height - 10, f"{x:,}", "middle", 11, "#666666"))
-    for name, colour, dash, points in lines:
+    for _, colour, dash, points in lines:
         out.append(line([(across(x), up(y)) for x, y in points], colour, dash))
+    above = top
+    for name, colour, _, points in sorted(lines, key=lambda drawn: -drawn[3][-1][1]):
         x, y = points[-1]
-        out.append(text(across(x) + 8, up(y) + 4, name, size=11, colour=colour))
+        above = max(above + 13, up(y) + 4)  # a label under the one before it
+        out.append(text(across(x) + 8, above, name, size=11, colour=colour))
     return out
 
 
@@ -91,24 +94,33 @@ def readers(rows, folder):
     picture(folder, "readers.svg", 672, 320, parts)
 
 
-def commits(rows, folder):
+def commit_lines(rows, snapshot):
     lines = []
     for who, dash in (("qpzone", ""), ("LMDB", "5 4")):
         for kind, colour, words in (("four", "#1b6ca8", "four changes"), ("exchange", "#c46a1b", "one item")):
             points = [
                 (int(row["names"]), int(row["mean ns"]) / 1000)
                 for row in rows
-                if row["index"] == who and row["kind"] == kind and row["snapshot"] == "none" and row["mean ns"]
+                if row["index"] == who and row["kind"] == kind and row["snapshot"] == snapshot and row["mean ns"]
             ]
             if len(points) > 1:
                 lines.append((f"{who}, {words}", colour, dash, points))
-    if not lines:
-        return
-    most = max(y for _, _, _, points in lines for _, y in points)
-    step = 10 if most > 20 else 5
-    parts = graph("Microseconds of a commit, by the number of names", lines, [10000, 100000, 500000],
-                  (math.ceil(most / step) * step, step), 16, 26, 640, 280, lambda y: f"{y:.0f}")
-    picture(folder, "commits.svg", 672, 320, parts)
+    return lines
+
+
+def commits(rows, folder):
+    parts, top = [], 26
+    for snapshot, beside in (("none", ""), ("held", ", while a snapshot is held")):
+        lines = commit_lines(rows, snapshot)
+        if not lines:
+            continue
+        most = max(y for _, _, _, points in lines for _, y in points)
+        step = 10 if most > 20 else 5
+        parts += graph(f"Microseconds of a commit{beside}, by the number of names", lines, [10000, 100000, 500000],
+                       (math.ceil(most / step) * step, step), 16, top, 640, 280, lambda y: f"{y:.0f}")
+        top += 310
+    if parts:
+        picture(folder, "commits.svg", 672, top - 16, parts)
 
 
 def main():
