@@ -148,11 +148,11 @@ pub fn measure_last<N: Named>(index: &Index<ZoneLaw, N>, passes: &mut Passes<'_,
     ensures ends { (s : Setup) (zone : Version) (commands : _) (os : _) → IsIndex s s.origin (table_size index.now) → StandsAs s.opening zone
         → Sits s (station_of passes.old) commands os → EndsAt s zone commands os result }
 {
-    let mut second = take_second(passes);
+    let mut spare = take_second(passes);
     let last = measure(index, &mut passes.asks);
     passes.asks.account(index);
     let seen = passes.asks.note(index);
-    second.account_beside(index, seen);
-    passes.spare = Some(second);
+    spare.account_beside(index, seen);
+    passes.spare = Some(spare);
     last
 }
