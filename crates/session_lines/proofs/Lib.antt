@@ -1,4 +1,5 @@
 pub mod SearchLaws
 pub mod StepLaws
 pub mod SoundLaws
+pub mod FirstLaws
 pub mod Examples

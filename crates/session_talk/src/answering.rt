@@ -44,15 +44,18 @@ fn reply<W: Worker>(
     ensures replied { (o : Opened) (entries : List Entry) → Ran (W.has_run worker.old o) entries
         → OnOk result (Replied (W.has_run worker.new o) entries (said_view line commands.now said) (printing replies.old) (printing replies.new)) }
 {
-    match (said, commands) {
-        (Said::Runs, [command, ..]) => {
-            let outcome = worker.run(command)?;
-            replies.push_ran(command, &outcome)
-        }
-        (Said::Nothing | Said::Runs, _) => Ok(()),
-        (Said::Refuses(kind), _) => replies.push_refused(line, kind),
-        (Said::GivesUp, _) => replies.push_given_up(),
-        (Said::RefusesLastWord(kind), _) => {
+    match said {
+        Said::Nothing => Ok(()),
+        Said::Runs => match commands.first() {
+            Some(command) => {
+                let outcome = worker.run(command)?;
+                replies.push_ran(command, &outcome)
+            }
+            None => Ok(()),
+        },
+        Said::Refuses(kind) => replies.push_refused(line, kind),
+        Said::GivesUp => replies.push_given_up(),
+        Said::RefusesLastWord(kind) => {
             replies.push_refused(line, kind)?;
             replies.push_given_up()
         }

@@ -1,5 +1,5 @@
-use Rattle.std.proofs.Common.{◌≡◌, refl, ap}
-use Rattle.job_script.specs.Scripts.{ScriptSteps, script_view, unfinished_view}
+use Rattle.std.proofs.Common.{refl}
+use Rattle.job_script.specs.Scripts.{unfinished_view}
 use Rattle.session_lines.specs.Views.{session_view}
 use Rattle.session_lines.proofs.StepLaws.{if_refuses, is_there, takes}
 use Rattle.session_lines.proofs.session.Session.take_line.Goals as goal
