@@ -1,7 +1,6 @@
-use Rattle.std.proofs.Common.{sym}
 use Rattle.std.specs.Option.{option_map}
 use Rattle.job_threads.proofs.StationLaws.{held_there}
 use Rattle.job_threads.proofs.passes.take_second.Goals as goal
 
 pub release-second-requires : goal.release-second-requires
-release-second-requires g c = held_there (λ h. h.seat) (option_map (λ p. p.seat) c.args.passes.spare) c.args.passes.held c.in-Some.snapshot (sym c.in-Some.is) c.requires.placed
+release-second-requires g c = held_there (λ h. h.seat) (option_map (λ p. p.seat) c.args.passes.now.spare) c.args.passes.now.held c.in-Some.snapshot c.in-Some.ensures.value c.requires.placed
