@@ -20,10 +20,7 @@ const ZONE: &str =
 
 /// The name that a text says, with a dot at its end.
 fn name(text: &str) -> Result<Name, Failure> {
-    match Name::read(text.as_bytes(), &Name::root()) {
-        Ok(name) => Ok(name),
-        Err(_) => Err(Failure::Text),
-    }
+    Name::read(text.as_bytes(), &Name::root()).map_err(|_| Failure::Text)
 }
 
 // Reads the zones, and serves them: on 16 chunks each, for three threads.

@@ -8,39 +8,59 @@ use std::alloc::{AllocError, Global};
 use std::sync::Wait;
 use std::thread::{Threads, join};
 use zone_model::Style;
-use zone_server::{Answered, Home, Opening, Reply, Server, ServerNote, ServerPass, Update};
+use zone_server::{Answered, Home, Opening, Reply, Server, ServerPass as Pass, Update};
 
 /// The number of the type A (RFC 1035, section 3.2.2).
 const A: u16 = 1;
 
-/// What the server needs of its surroundings.
+/// A server, and what it needs of its surroundings.
 #[derive(Drop)]
-struct Small<'a, R> {
+struct Small<'a, R, H: Home> {
     rt: &'a R,
     alloc: Global,
+    server: &'a Server<H>,
 }
 
-/// What a thread is to answer: by a pass, a note that it learns before, and a name.
-type Task<H> = (ServerPass<H>, Option<ServerNote<H>>, &'static str);
+/// The passes of three threads.
+#[derive(Drop)]
+struct Passes<H: Home> {
+    one: Pass<H>,
+    two: Pass<H>,
+    writer: Pass<H>,
+}
 
-/// How many records a thread was told, the reply in short, and its pass.
-type Done<H> = (usize, String, ServerPass<H>);
+// What both threads gave, or why one failed.
+fn both<A: Drop, B: Drop>(
+    results: (Result<A, Failure>, Result<B, Failure>),
+) -> Result<(A, B), Failure> {
+    let (one, two) = results;
+    Ok((one?, two?))
+}
 
-/// The versions of the zone and the table that were made, a note of that for each thread that answers, and the pass.
-type Changed<H> = (u64, u64, ServerNote<H>, ServerNote<H>, ServerPass<H>);
+// What was done next is told behind a text.
+fn add(text: &mut String, next: Result<String, Failure>) -> Result<(), Failure> {
+    text.push_str(&next?)?;
+    Ok(())
+}
 
-// How many records a reply has, and the reply in short.
-fn told(alloc: Global, host: &str, reply: &Reply<Answered>) -> Result<(usize, String), AllocError> {
-    let table = reply.table;
-    let Some(from) = &reply.from else {
-        return Ok((0, format!(in alloc; "{host}: table v{table}, no zone\n")?));
-    };
-    let records = from.told.rows.as_slice().len();
-    let line = format!(in alloc;
-        "{host}: table v{table}, zone {} v{}, {:?} {records}\n",
-        from.zone, from.version, from.told.kind
-    )?;
-    Ok((records, line))
+// How many records a reply has.
+fn records(reply: &Reply<Answered>) -> usize {
+    match &reply.from {
+        Some(from) => from.told.rows.as_slice().len(),
+        None => 0,
+    }
+}
+
+// A reply in short.
+fn told(alloc: Global, host: &str, reply: &Reply<Answered>) -> Result<String, AllocError> {
+    let (table, records) = (reply.table, records(reply));
+    match &reply.from {
+        None => format!(in alloc; "{host}: table v{table}, no zone\n"),
+        Some(from) => format!(in alloc;
+            "{host}: table v{table}, zone {} v{}, {:?} {records}\n",
+            from.zone, from.version, from.told.kind
+        ),
+    }
 }
 
 // An address is put into the upper zone.
@@ -51,111 +71,94 @@ fn addition(alloc: Global) -> Result<Update, Failure> {
     Ok(update)
 }
 
-impl<R: Threads + Wait + Sync> Small<'_, R> {
-    // A thread answers. What it answers is no older than what it learns.
-    fn answer<H: Home>(&self, server: &Server<H>, task: Task<H>) -> Result<Done<H>, Failure> {
-        let (mut pass, note, host) = task;
-        if let Some(note) = note {
-            server.learn(&mut pass, note);
-        }
-        let reply = server.ask(self.alloc, &mut pass, &name(host)?, A)?;
-        let (records, line) = told(self.alloc, host, &reply)?;
-        Ok((records, line, pass))
+// A pass for each thread.
+fn three<H: Home>(mut passes: Vec<Pass<H>>) -> Result<Passes<H>, Failure> {
+    let one = passes.pop().ok_or(Failure::Passes)?;
+    let two = passes.pop().ok_or(Failure::Passes)?;
+    let writer = passes.pop().ok_or(Failure::Passes)?;
+    Ok(Passes { one, two, writer })
+}
+
+impl<R: Threads + Wait + Sync, H: Home + Send + Sync> Small<'_, R, H> {
+    // Asks for the addresses of a host.
+    fn ask(&self, pass: &mut Pass<H>, host: &str) -> Result<Reply<Answered>, Failure> {
+        let host = name(host)?;
+        Ok(self.server.ask(self.alloc, pass, &host, A)?)
     }
 
-    // The thread that changes makes an update of the upper zone, and detaches the lower one.
-    fn change<H: Home>(
-        &self,
-        server: &Server<H>,
-        mut pass: ServerPass<H>,
-    ) -> Result<Changed<H>, Failure> {
-        let (rt, alloc) = (self.rt, self.alloc);
-        let update = addition(alloc)?;
+    // The same, told in short.
+    fn answer(&self, pass: &mut Pass<H>, host: &str) -> Result<String, Failure> {
+        let reply = self.ask(pass, host)?;
+        Ok(told(self.alloc, host, &reply)?)
+    }
+
+    // What one pass has seen, another one is to see too.
+    fn tell(&self, from: &mut Pass<H>, to: &mut Pass<H>) -> Result<(), Failure> {
+        let note = self.server.note(self.alloc, from)?;
+        self.server.learn(to, note);
+        Ok(())
+    }
+
+    // The thread that changes makes an update of the upper zone, and detaches the lower one: both versions.
+    fn change(&self, pass: &mut Pass<H>) -> Result<(u64, u64), Failure> {
+        let update = addition(self.alloc)?;
+        let version = self.server.change(self.rt, self.alloc, pass, &update)?;
         let lower = name("sub.example.")?;
-        let version = server.change(rt, alloc, &mut pass, &update)?;
-        let table = server.detach(rt, &mut pass, &lower)?.version;
-        let first = server.note(alloc, &mut pass)?;
-        let second = server.note(alloc, &mut pass)?;
-        Ok((version, table, first, second, pass))
+        Ok((version, self.server.detach(self.rt, pass, &lower)?.version))
     }
 
-    // Two threads answer beside each other: their lines, and their passes.
-    fn answer_both<H: Home + Send + Sync>(
+    // Two threads answer beside each other.
+    fn answer_both(
         &self,
-        server: &Server<H>,
-        first: Task<H>,
-        second: Task<H>,
-    ) -> Result<(String, ServerPass<H>, ServerPass<H>), Failure> {
-        let here = move || self.answer(server, first);
-        let there = move || self.answer(server, second);
-        let (first, second) = join(self.rt, here, there);
-        let ((_, one, first), (_, two, second)) = (first?, second?);
-        Ok((format!(in self.alloc; "{one}{two}")?, first, second))
+        one: &mut Pass<H>,
+        two: &mut Pass<H>,
+        host: &'static str,
+    ) -> Result<String, Failure> {
+        let here = move || self.answer(one, host);
+        let there = move || self.answer(two, "www.sub.example.");
+        let (here, there) = both(join(self.rt, here, there))?;
+        Ok(format!(in self.alloc; "{here}{there}")?)
     }
 
-    // One thread changes, and one answers.
-    fn change_beside<H: Home + Send + Sync>(
-        &self,
-        server: &Server<H>,
-        writer: ServerPass<H>,
-        task: Task<H>,
-    ) -> Result<(Changed<H>, Done<H>), Failure> {
-        let changes = move || self.change(server, writer);
-        let answers = move || self.answer(server, task);
-        let (changed, answered) = join(self.rt, changes, answers);
-        Ok((changed?, answered?))
+    // One thread changes, and one asks.
+    fn change_beside(&self, writer: &mut Pass<H>, pass: &mut Pass<H>) -> Result<String, Failure> {
+        let changes = move || self.change(writer);
+        let asks = move || self.ask(pass, "www.example.");
+        let ((zone, table), reply) = both(join(self.rt, changes, asks))?;
+        let count = records(&reply);
+        Ok(format!(in self.alloc;
+            "v{zone} of example. was made, and v{table} of the table\nwhile these were made, www.example. had {count} record\n"
+        )?)
     }
 
-    // Holds a version of the upper zone while one thread changes it and one answers. It is written down then.
-    fn hold<H: Home + Send + Sync>(
-        &self,
-        server: &Server<H>,
-        pass: &mut ServerPass<H>,
-        writer: ServerPass<H>,
-        task: Task<H>,
-    ) -> Result<(Changed<H>, Done<H>, String), Failure> {
-        let alloc = self.alloc;
+    // Holds a version of the upper zone while one thread changes it and one asks. It is written down then.
+    fn hold(&self, passes: &mut Passes<H>) -> Result<String, Failure> {
+        let (alloc, server) = (self.alloc, self.server);
+        let Passes { one, two, writer } = passes;
         let origin = name("example.")?;
         let mut sink = MemSink::new(alloc, 1024, 1024, Vec::new(alloc))?;
-        let work = move || self.change_beside(server, writer, task);
-        let (done, transfer) = server.transfer_after(
-            alloc,
-            pass,
-            &origin,
-            Style::Full,
-            &mut sink,
-            work,
-        );
-        let (changed, answered) = done?;
-        let version = transfer?.version;
+        let work = move || self.change_beside(writer, two);
+        let (done, held) = server.transfer_after(alloc, one, &origin, Style::Full, &mut sink, work);
+        let (made, held) = both((done, held.map_err(Failure::Transfer)))?;
+        let version = held.version;
         let text = String::from_utf8_lossy(alloc, sink.held().unwrap_or(&[]))?;
-        let held = format!(in alloc; "held for a transfer, v{version}:\n{text}")?;
-        Ok((changed, answered, held))
+        Ok(format!(in alloc; "{made}held for a transfer, v{version}:\n{text}")?)
     }
 
-    // Both threads that answer learn of what is made while the first one holds a version. The lower zone is attached again then.
-    fn serve<H: Home + Send + Sync>(
-        &self,
-        server: &Server<H>,
-        first: Task<H>,
-        second: Task<H>,
-        writer: ServerPass<H>,
-    ) -> Result<String, Failure> {
-        let (before, mut first, second) = self.answer_both(server, first, second)?;
-        let task = (second, None, "www.example.");
-        let (changed, (count, _line, second), held) = self.hold(server, &mut first, writer, task)?;
-        let (version, table, note, other, mut writer) = changed;
-        let first = (first, Some(note), "new.example.");
-        let second = (second, Some(other), "www.sub.example.");
-        let (after, _first, _second) = self.answer_both(server, first, second)?;
-        server.attach(self.rt, &mut writer, &name("sub.example.")?)?;
-        let (_, last, _writer) = self.answer(server, (writer, None, "www.sub.example."))?;
-        let made = format!(in self.alloc;
-            "v{version} of example. was made, and v{table} of the table"
-        )?;
-        Ok(format!(in self.alloc;
-            "{before}{made}\nwhile these were made, www.example. had {count} record\n{held}{after}attached again, {last}"
-        )?)
+    // Both threads that answer learn of what was made. They answer then.
+    fn answer_again(&self, passes: &mut Passes<H>) -> Result<String, Failure> {
+        let Passes { one, two, writer } = passes;
+        self.tell(writer, one)?;
+        self.tell(writer, two)?;
+        self.answer_both(one, two, "new.example.")
+    }
+
+    // All of it, in turn.
+    fn serve(&self, passes: &mut Passes<H>) -> Result<String, Failure> {
+        let mut text = self.answer_both(&mut passes.one, &mut passes.two, "www.example.")?;
+        add(&mut text, self.hold(passes))?;
+        add(&mut text, self.answer_again(passes))?;
+        Ok(text)
     }
 }
 
@@ -168,11 +171,12 @@ pub fn open_and_serve<R: Threads + Wait + Sync, H: Home + Send + Sync>(
     requires tables { H.tables ≡ opening.tables }
     requires zones { H.zones ≡ opening.zones }
 {
-    let (server, mut passes) = opening.open::<H>(alloc)?;
-    let first = passes.pop().ok_or(Failure::Passes)?;
-    let second = passes.pop().ok_or(Failure::Passes)?;
-    let writer = passes.pop().ok_or(Failure::Passes)?;
-    let first = (first, None, "www.example.");
-    let second = (second, None, "www.sub.example.");
-    Small { rt, alloc }.serve(&server, first, second, writer)
+    let (server, passes) = opening.open::<H>(alloc)?;
+    let mut passes = three(passes)?;
+    let small = Small {
+        rt,
+        alloc,
+        server: &server,
+    };
+    small.serve(&mut passes)
 }
