@@ -12,17 +12,15 @@ use Rattle.trie_model.specs.Trees.Tree.{branch}
 use Rattle.trie_model.proofs.NodeLaws.{BranchTold, branch_told, places_left, fewer_left}
 use Rattle.trie_read.specs.Reads.{IsTop}
 use Rattle.chunk_usage.specs.Ledger.{Ledger}
-use Rattle.chunk_usage.specs.Rooms.{reserve_account_of}
-use Rattle.trie_space.specs.Spaces.{Ready, Fenced, IsWritable}
 use Rattle.trie_space.specs.Ways.{Fork, fork, plug, end_at}
-use Rattle.trie_space.proofs.SpaceLaws.{frame_refl, fenced_of, fenced_then}
 use Rattle.trie_space.proofs.WayLaws.{plug-append, end_at-append}
-use Rattle.evacuate.specs.Fillings.{Fills, Moves}
+use Rattle.evacuate.specs.declared.path_walk.Passage.{Passage}
+use Rattle.evacuate.specs.Moving.{CanMove, MovesCells, RearrangedNode}
 use Rattle.evacuate.specs.Places.{moved, Stood, Hung, HangsIn, IsStood, IsHung}
-use Rattle.evacuate.specs.Rearranging.{CanMove, OnWay, Rearranged}
-use Rattle.evacuate.specs.Trails.{TwigsAt}
+use Rattle.evacuate.specs.Rearranging.{CanWalkOn, OnWay, Rearranged}
+use Rattle.evacuate.specs.Trails.{PassedTo, TwigsAt}
 use Rattle.evacuate.proofs.DescentLaws.{begins, hung_there, hung_says, hung_read}
-use Rattle.evacuate.proofs.FillingLaws.{moves_none, moves_then}
+use Rattle.evacuate.proofs.MovingLaws.{cells_same, cells_then}
 use Rattle.evacuate.proofs.TrailLaws.{TwigAt, early, twig_here, row_inside, counted}
 use Rattle.evacuate.proofs.TreeLaws.{hung_hangs}
 
@@ -50,6 +48,12 @@ module _ {has : ℕ → Cell → Type 0} {n : Node} (h : IsAt has n) (b : Branch
       let p = ap places_left e in let q = ap places_left is in omega arith
 
 -- ---- a walk that writes
+
+-- a branch's twigs lie where they did
+pub twigs_stay : {S : Type 0} {has : S → ℕ → Cell → Type 0} {s : S} {l : Ledger} {r at i : ℕ} {es : List Entry} {way : List Fork} {t : Tree} {b : Branch} → Hung has s l r at es way t → node.Branch b ≡ node_of t → TwigsAt has s l r at es way t i (b.twigs + i)
+twigs_stay {has = has} {s} {l} {r} {at} {es = es} {way} {t} {b} h is =
+    let told = branch_told t b (sym is) in
+    record { to = b.twigs; hung = subst (Hung has s l r at es way) (sym (ap (λ t. moved t b.twigs) told.is ∙ sym told.is)) h; twig_is = refl }
 
 module _ {S : Type 0} {has : S → ℕ → Cell → Type 0} {s : S} {l : Ledger} {r at : ℕ} {es : List Entry} where
   pub hangs_first : {t : Tree} {n : Node} → r ≡ at → Stood has s l r es t → n ≡ node_of t → HangsIn has s l r at es n
@@ -91,11 +95,10 @@ module _ {S : Type 0} {has : S → ℕ → Cell → Type 0} {s : S} {l : Ledger}
         fork_is : h.t ≡ fork old_fork below
         fork_is = told_in.is ∙ ap (branch b.offset b.twigs) twig_in.is
 
-        -- its twigs lie where they did
         pub twigs_there : TwigsAt has s l r at es h.way h.t i (b.twigs + i)
-        twigs_there = record { to = b.twigs; hung = subst (Hung has s l r at es h.way) (sym (ap (λ t. moved t b.twigs) told_in.is ∙ sym told_in.is)) h.hung; twig_is = refl }
+        twigs_there = twigs_stay h.hung branch_in
 
-        -- there, or elsewhere
+        -- its twigs lie where they did, or elsewhere
         module _ {s1 : S} {l1 : Ledger} {next : ℕ} (at_twig : TwigsAt has s1 l1 r at es h.way h.t i next) where
           abbrev new_fork : Fork
           new_fork = record old_fork { first = at_twig.to }
@@ -130,43 +133,34 @@ module _ {S : Type 0} {has : S → ℕ → Cell → Type 0} {s : S} {l : Ledger}
         read_there same = subst (λ z. has z (b.twigs + i) (top_cell below)) (sym same) (further_in twigs_there)
 
 module _ {S : Type 0} {has : S → ℕ → Cell → Type 0} {kept : S → List ℕ} {given : S → List Bool} {r : ℕ} {s : S} {l : Ledger} where
-  pub way_begins : {s1 : S} {at : ℕ} {n : Node} → s1 ≡ s → ((es : List Entry) (t : Tree) → Stood has s l r es t → HangsIn has s l r at es n) → IsWritable given reserve_account_of s l at → Ready kept given reserve_account_of s l → OnWay has kept given r s l s1 l at n
-  way_begins {at = at} {n} same way writable ready = subst (λ z. OnWay has kept given r s l z l at n) (sym same)
-      (record { way = way; writable = writable; moves = λ old fills. moves_none old l fills; frame = fenced_of (frame_refl s l); ready = ready })
+  pub way_begins : {at : ℕ} {n : Node} → CanWalkOn has kept given r at n s l → OnWay has kept given r s l s l at n
+  way_begins can = record { way = can.hangs; writable = can.writable; cells = cells_same refl refl can.ready }
 
   module _ {s1 : S} {l1 : Ledger} {at : ℕ} {n : Node} (h : OnWay has kept given r s l s1 l1 at n) where
     pub way_ends : Rearranged has kept given r s l s1 l1
-    way_ends = record { stood = λ es t x. stood_in (h.way es t x); moves = h.moves; frame = h.frame; ready = h.ready }
+    way_ends = record { stood = λ es t x. stood_in (h.way es t x); cells = h.cells }
 
     pub way_can : IsStood has s l r → {m : Node} → n ≡ m → CanMove has kept given at m s1 l1
-    way_can can is = record { hung = is_hung (h.way _ _ can.stood) is; writable = h.writable; ready = h.ready }
+    way_can can is = record { hung = is_hung (h.way _ _ can.stood) is; writable = h.writable; ready = h.cells.ready }
 
     -- cells were read, and a path was noted
     pub way_read : {s2 : S} {l2 : Ledger} → s2 ≡ s1 → l2 ≡ l1 → OnWay has kept given r s l s2 l2 at n
     way_read {s2} e f = subst (λ z. OnWay has kept given r s l s2 z at n) (sym f) (subst (λ z. OnWay has kept given r s l z l1 at n) (sym e) h)
 
     -- at its end what hangs on the node is moved
-    pub way_moves : {s2 : S} {l2 : Ledger} {m : Node} → n ≡ m → ((q : ℕ) (es : List Entry) (way : List Fork) (t : Tree) → Hung has s1 l1 q at es way t → m ≡ node_of t → (u : Tree) × Stood has s2 l2 q es u) →
-        ((old : List Bool) → Fills old l1 → Moves old 0 l1 l2) → Fenced has kept given reserve_account_of s1 l1 s2 l2 → Ready kept given reserve_account_of s2 l2 → Rearranged has kept given r s l s2 l2
-    way_moves is stood moves frame ready = record {
-      stood = λ es t x. let u = h.way es t x in stood r es u.way u.t u.hung (sym is ∙ u.is);
-      moves = λ old fills. let a = h.moves old fills in moves_then a (moves old a.fills);
-      frame = fenced_then h.frame frame;
-      ready = ready;
-    }
+    pub way_moves : {s2 : S} {l2 : Ledger} {m : Node} → n ≡ m → RearrangedNode has kept given at m s1 l1 s2 l2 → Rearranged has kept given r s l s2 l2
+    way_moves is b = record { stood = λ es t x. let u = h.way es t x in b.stood r es u.way u.t u.hung (sym is ∙ u.is); cells = cells_then h.cells b.cells }
 
     -- to a twig, once there were moves
-    pub way_goes_on : (b : Branch) (is : n ≡ node.Branch b) (i : ℕ) → i < count_ones b.bitmap → {s2 s3 : S} {l2 : Ledger} {next : ℕ} {c : Cell} {m : Node} →
-        ((q : ℕ) (es : List Entry) (way : List Fork) (t : Tree) → Hung has s1 l1 q at es way t → node.Branch b ≡ node_of t → TwigsAt has s2 l2 q at es way t i next) →
-        IsWritable given reserve_account_of s2 l2 next → ((old : List Bool) → Fills old l1 → Moves old 0 l1 l2) → Fenced has kept given reserve_account_of s1 l1 s2 l2 → Ready kept given reserve_account_of s2 l2 →
-        s3 ≡ s2 → ((d : Cell) → has s2 next d → c ≡ d) → ((k : Node) → IsNode k → packed k ≡ c → m ≡ k) → OnWay has kept given r s l s3 l2 next m
-    way_goes_on b is i inside {l2 = l2} {next} {c} {m} twigs writable moves frame ready same read back = subst (λ z. OnWay has kept given r s l z l2 next m) (sym same) (record {
-      way = λ es t x. let u = h.way es t x in let w = twigs r es u.way u.t u.hung (branch_in u b is) in hangs_further u b is i inside w refl (read _ (further_in u b is i inside w)) back;
-      writable = writable;
-      moves = λ old fills. let a = h.moves old fills in moves_then a (moves old a.fills);
-      frame = fenced_then h.frame frame;
-      ready = ready;
-    })
+    pub way_goes_on : (p : Passage) (is : n ≡ node.Branch p.descent.branch) → p.descent.index < count_ones p.descent.branch.bitmap → {s2 s3 : S} {l2 : Ledger} {next : ℕ} {c : Cell} {m : Node} →
+        PassedTo has given at p s1 l1 s2 l2 next → MovesCells has kept given s1 l1 s2 l2 → s3 ≡ s2 → ((d : Cell) → has s2 next d → c ≡ d) → ((k : Node) → IsNode k → packed k ≡ c → m ≡ k) → OnWay has kept given r s l s3 l2 next m
+    way_goes_on p is inside {l2 = l2} {next} {c} {m} to cells same read back =
+        let b = p.descent.branch in let i = p.descent.index in
+        subst (λ z. OnWay has kept given r s l z l2 next m) (sym same) (record {
+          way = λ es t x. let u = h.way es t x in let w = to.hung r es u.way u.t u.hung (branch_in u b is) in hangs_further u b is i inside w refl (read _ (further_in u b is i inside w)) back;
+          writable = to.writable;
+          cells = cells_then h.cells cells;
+        })
 
 -- the way began once cells were read
 pub way_from : {S : Type 0} {has : S → ℕ → Cell → Type 0} {kept : S → List ℕ} {given : S → List Bool} {r : ℕ} {s s1 s2 : S} {l l2 : Ledger} {at : ℕ} {n : Node} → s1 ≡ s → OnWay has kept given r s1 l s2 l2 at n → OnWay has kept given r s l s2 l2 at n

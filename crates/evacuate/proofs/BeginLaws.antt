@@ -239,11 +239,11 @@ fills_there l l1 filled_on h unmixed e =
     subst (λ (flags : List Bool). Fills (old_chunks flags filled_on) l1) (sym (ap (λ (z : Ledger). z.given) e ∙ begun_given l filled_on)) (fills_then l l1 filled_on h unmixed e)
 
 -- the root's cell was moved, or lay there
-pub record RootCopied (l new : Ledger) (filled_on : Option ℕ) (at : ℕ) : Type 0 where
+pub record RootKept (l new : Ledger) (filled_on : Option ℕ) (at : ℕ) : Type 0 where
   pub moves : Moves (old_chunks l.given filled_on) 0 (begun l filled_on) new
   pub elsewhere : is_old (old_chunks l.given filled_on) at ≡ false
 
-pub root_copied : (l l1 new : Ledger) (filled_on : Option ℕ) (at : ℕ) → l1 ≡ begun l filled_on → Moves (old_chunks l1.given filled_on) 0 l1 new → is_old (old_chunks l1.given filled_on) at ≡ false → RootCopied l new filled_on at
+pub root_copied : (l l1 new : Ledger) (filled_on : Option ℕ) (at : ℕ) → l1 ≡ begun l filled_on → Moves (old_chunks l1.given filled_on) 0 l1 new → is_old (old_chunks l1.given filled_on) at ≡ false → RootKept l new filled_on at
 root_copied l l1 new filled_on at e m far = record {
   moves = subst (λ (flags : List Bool). Moves (old_chunks flags filled_on) 0 (begun l filled_on) new) (begun_given l filled_on) (subst (λ (z : Ledger). Moves (old_chunks z.given filled_on) 0 z new) e m);
   elsewhere = subst (λ (flags : List Bool). is_old (old_chunks flags filled_on) at ≡ false) (ap (λ (z : Ledger). z.given) e ∙ begun_given l filled_on) far;

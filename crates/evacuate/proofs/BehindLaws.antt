@@ -1,6 +1,5 @@
 -- From an extent to the one behind it.
-use Rattle.std.proofs.Common.{◌≡◌, inr, ℕ, ◌-◌, ◌/◌, ◌<◌, ◌≤◌, ◌++◌, true, Bool, List, [], ◌∷◌, length, Result, Ok, Err, arith, refl, sym, ◌∙◌, ap, subst}
-use Rattle.std.specs.Prelude.{IfOk, IfErr}
+use Rattle.std.proofs.Common.{◌≡◌, inr, ℕ, ◌-◌, ◌/◌, ◌<◌, ◌≤◌, ◌++◌, true, Bool, List, [], ◌∷◌, length, arith, refl, sym, ◌∙◌, ap, subst}
 use Rattle.packed_node.specs.declared.Cell.{Cell}
 use Rattle.packed_node.specs.declared.Leaf.{Leaf}
 use Rattle.packed_node.specs.declared.Node.TheVariants as node
@@ -14,24 +13,20 @@ use Rattle.trie_model.proofs.NodeLaws.{leaf_said}
 use Rattle.chunk_usage.specs.Counting.{is_sparse}
 use Rattle.chunk_usage.specs.Ledger.{Ledger}
 use Rattle.trie_space.specs.Ways.{Fork, plug, end_at}
-use Rattle.evacuate.specs.Chains.{chain, octets_behind, Goes, GoesOn}
+use Rattle.evacuate.specs.Chains.{chain, octets_behind, Goes}
 use Rattle.evacuate.specs.Evacuations.{HasSparse}
-use Rattle.evacuate.specs.Fillings.{Fills, Moves, Fewer}
+use Rattle.evacuate.specs.Fillings.{Fewer}
+use Rattle.evacuate.specs.Moving.{CanMoveBehind, MovesCells}
 use Rattle.evacuate.specs.Places.{moved, put_first, Stood, Hung}
 use Rattle.evacuate.specs.Sparse.{SparseExtents, LiesSparse}
 use Rattle.evacuate.proofs.ChainLaws.{goes_are}
 use Rattle.evacuate.proofs.SparseLaws.{lies_left}
 use Rattle.evacuate.proofs.TreeLaws.{hung_tree}
 
--- what holds of a result either way
-pub either_way : {T E A : Type 0} (r : Result T E) → IfOk r (λ _. A) → IfErr r (λ _. A) → A
-either_way (Ok x) a b = a
-either_way (Err e) a b = b
-
 -- ---- fewer cells of old chunks count
 
-pub fewer_then : {l l1 l2 : Ledger} → Fewer l l1 → ((given : List Bool) → Fills given l → Moves given 0 l l1) → ((given : List Bool) → Fills given l1 → Moves given 0 l1 l2) → Fewer l l2
-fewer_then f a b given fills = let x = f given fills in let y = (b given (a given fills).fills).fewer in omega arith
+pub fewer_then : {S : Type 0} {has : S → ℕ → Cell → Type 0} {kept : S → List ℕ} {given : S → List Bool} {s s1 s2 : S} {l l1 l2 : Ledger} → Fewer l l1 → MovesCells has kept given s l s1 l1 → MovesCells has kept given s1 l1 s2 l2 → Fewer l l2
+fewer_then f a b old fills = let x = f old fills in let y = (b.moves old (a.moves old fills).fills).fewer in omega arith
 
 -- ---- one more extent lies before
 
@@ -50,8 +45,9 @@ chain_sparse l (r ∷ front) x h = inr (chain_sparse l front x h)
 pub goes_same : {S : Type 0} {has : S → ℕ → Cell → Type 0} {s s1 : S} {l : Ledger} {r at n : ℕ} {es : List Entry} {way : List Fork} {e : Entry} {front : List ℕ} {rest : Extents} → s1 ≡ s → Goes has s l r at n es way e front rest → Goes has s1 l r at n es way e front rest
 goes_same {has = has} {l = l} {r} {at} {n} {es} {way} {e} {front} {rest} same g = subst (λ z. Goes has z l r at n es way e front rest) (sym same) g
 
-pub goes_on_same : {S : Type 0} {has : S → ℕ → Cell → Type 0} {s s1 : S} {l : Ledger} {at n : ℕ} → s1 ≡ s → GoesOn has s l at n → GoesOn has s1 l at n
-goes_on_same {has = has} {l = l} {at} {n} same g = subst (λ z. GoesOn has z l at n) (sym same) g
+-- cells were read
+pub can_behind_read : {S : Type 0} {has : S → ℕ → Cell → Type 0} {kept : S → List ℕ} {given : S → List Bool} {s s1 : S} {l : Ledger} {at n : ℕ} → s1 ≡ s → CanMoveBehind has kept given at n s l → CanMoveBehind has kept given at n s1 l
+can_behind_read {has = has} {kept} {given} {l = l} {at} {n} same can = subst (λ z. CanMoveBehind has kept given at n z l) (sym same) can
 
 -- the extent behind one, once it is where it is to be
 pub record Further {S : Type 0} (has : S → ℕ → Cell → Type 0) (s : S) (l : Ledger) (r n to : ℕ) (es : List Entry) (way : List Fork) (e : Entry) (front : List ℕ) (rest : Extents) : Type 0 where

@@ -166,8 +166,8 @@ module _ {S : Type 0} {has : S → ℕ → Cell → Type 0} {l0 : Ledger} {trail
     }
 
 -- what was reached hangs there
-pub reached_hung : {S : Type 0} {has : S → ℕ → Cell → Type 0} {l0 : Ledger} {s : S} {l : Ledger} {r at : ℕ} {es : List Entry} {n : Node} → Reached has l0 s l r at es n → IsHung has s l at n
-reached_hung {r = r} {es = es} x = record { r = r; es = es; way = x.way; t = x.end; hung = x.hung; is = x.node_is }
+pub reached_hung : {S : Type 0} {has : S → ℕ → Cell → Type 0} {l0 : Ledger} {s : S} {l : Ledger} {r at : ℕ} {es : List Entry} {n m : Node} → Reached has l0 s l r at es n → n ≡ m → IsHung has s l at m
+reached_hung {r = r} {es = es} x e = record { r = r; es = es; way = x.way; t = x.end; hung = x.hung; is = sym e ∙ x.node_is }
 
 -- where it isn't moved a sparse chunk is left
 pub underway_left : {S : Type 0} {has : S → ℕ → Cell → Type 0} {given : List Bool} {l0 : Ledger} {trail : Trail} {s : S} {l : Ledger} {r at : ℕ} {es : List Entry} {n : Node} →
@@ -178,5 +178,5 @@ underway_left {has = has} {l0 = l0} {s = s} {l} {r} {es = es} u m = lies_left en
     end_hung = record { stood = subst (Stood has s l r es) (sym (plug-append u.upper u.rest u.end)) u.hung.stood; at_is = refl }
 
 -- what was reached is still to be moved, since a sparse chunk stays so on the way
-pub reached_due : {S : Type 0} {has : S → ℕ → Cell → Type 0} {given : List Bool} {l0 : Ledger} {s : S} {l : Ledger} {r at : ℕ} {es : List Entry} {n : Node} → Reached has l0 s l r at es n → Moves given 0 l0 l → IsDue has s l at n
-reached_due {l0 = l0} {l = l} {r} {es = es} x m = record { hung = record { r = r; es = es; way = x.way; t = x.end; hung = x.hung; is = x.node_is }; sparse = lies_stay l0 l m.sparse x.end x.sparse }
+pub reached_due : {S : Type 0} {has : S → ℕ → Cell → Type 0} {given : List Bool} {l0 : Ledger} {s : S} {l : Ledger} {r at : ℕ} {es : List Entry} {n m : Node} → Reached has l0 s l r at es n → n ≡ m → Moves given 0 l0 l → IsDue has s l at m
+reached_due {l0 = l0} {l = l} x e m = record { hung = reached_hung x e; sparse = lies_stay l0 l m.sparse x.end x.sparse }

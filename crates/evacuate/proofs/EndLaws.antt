@@ -17,17 +17,17 @@ use Rattle.chunk_usage.specs.declared.bump.Bump.{Bump}
 use Rattle.chunk_usage.specs.Counting.{is_low, is_sparse, sparse_count}
 use Rattle.chunk_usage.specs.Handing.{consumed, unconsumed}
 use Rattle.chunk_usage.specs.Ledger.{Ledger, IsLedger, is_given, is_bump, is_used, left, free_count}
-use Rattle.chunk_usage.specs.Rooms.{reserve_account_of}
+use Rattle.chunk_usage.specs.Rooms.{account_of, reserve_account_of}
 use Rattle.chunk_sets.proofs.FlagLemmas.{set_within}
 use Rattle.trie_model.proofs.ExtentLaws.{first_true}
-use Rattle.trie_space.specs.Standing.{StandsIn}
+use Rattle.trie_space.specs.Standing.{HasTrie, StandsIn}
 use Rattle.trie_space.proofs.RootedLaws.{stands_rooted, rooted_stands}
 use Rattle.evacuate.specs.declared.evacuation.Done.{Done}
 use Rattle.evacuate.specs.declared.evacuation.Done.TheVariants.{Whole, Stopped}
-use Rattle.evacuate.specs.Evacuations.{IsDense, IsCleared, refused}
+use Rattle.evacuate.specs.Evacuations.{CarriesTrie, EmptiesChunks, Ended, HasSparse, IsDense, IsCleared, refused}
 use Rattle.evacuate.specs.Fillings.{Fills, IsUsedUp, is_old, old_live}
 use Rattle.evacuate.specs.Places.{Stood}
-use Rattle.evacuate.proofs.FillingLaws.{all_parts, sparse_old}
+use Rattle.evacuate.proofs.FillingLaws.{all_parts, fills_nothing, sparse_old}
 use Rattle.evacuate.proofs.SumLaws.{old_reached}
 
 -- ---- roots that stand
@@ -73,6 +73,30 @@ dense_of l h cleared k some shut = elim (cases_lt 256 (slice_index l.live k)) [
   | inl more ↦ more
   | inr few ↦ absurd (let z = cleared k (all_parts (is_given l k) (is_low (slice_index l.live k)) (is_bump l.bump k) (h.counts.in_given k some) (grind (arith, nat_tests)) shut) in omega arith)
 ]
+
+-- ---- what is told
+
+pub whole_so : {l : Ledger} → IsCleared l → Ended l Whole
+whole_so cleared = record { whole = λ e. cleared; full = λ e. absurd (differ e); left = λ e. absurd (differ e) }
+  where
+    differ : Whole ≡ Stopped → ⊥
+    differ e = cc
+
+pub stopped_so : {l : Ledger} → IsUsedUp l → HasSparse l → Ended l Stopped
+stopped_so full left = record { whole = λ e. absurd (differ e); full = λ e. full; left = λ e. left }
+  where
+    differ : Stopped ≡ Whole → ⊥
+    differ e = cc
+
+-- where nothing was done
+pub same_trie : {S : Type 0} {has : S → ℕ → Cell → Type 0} {s : S} {l : Ledger} {root new : Option ℕ} → new ≡ root → CarriesTrie has s l root s l new Whole
+same_trie {has = has} {s} {l} same = record { stands = λ version h. subst (λ (r : Option ℕ). HasTrie has account_of s l r version) (sym same) h; asks = λ version h. omega arith }
+
+pub same_chunks : {l : Ledger} → IsLedger l → IsDense l → EmptiesChunks l l Whole
+same_chunks {l} is dense = record { none = λ c. refl; fills = fills_nothing l is; whole = λ e. dense; stopped = λ e. absurd (differ e); left = λ e. absurd (differ e) }
+  where
+    differ : Whole ≡ Stopped → ⊥
+    differ e = cc
 
 -- ---- how many chunks were asked for
 

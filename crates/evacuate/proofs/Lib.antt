@@ -1,5 +1,6 @@
 pub mod ReserveLaws
 pub mod FillingLaws
+pub mod MovingLaws
 pub mod TreeLaws
 pub mod BeginLaws
 pub mod ChainLaws

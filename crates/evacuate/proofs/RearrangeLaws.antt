@@ -1,39 +1,38 @@
 -- What lies below a root is moved step by step.
-use Rattle.std.proofs.Common.{◌≡◌, ℕ, Bool, List, sym, ◌∙◌, subst}
+use Rattle.std.proofs.Common.{◌≡◌, ℕ, ◌+◌, ◌/◌, ◌<◌, ◌≤◌, Bool, List, sym, ◌∙◌, ap, subst, arith}
+use Rattle.packed_node.specs.declared.Branch.{Branch}
 use Rattle.packed_node.specs.declared.Cell.{Cell}
 use Rattle.packed_node.specs.declared.Node.{Node}
+use Rattle.packed_node.specs.declared.Node.TheVariants as node
 use Rattle.trie_model.specs.Keys.{Entry}
-use Rattle.trie_model.specs.Memory.{node_of}
 use Rattle.trie_model.specs.Trees.{Tree}
 use Rattle.chunk_usage.specs.Ledger.{Ledger}
 use Rattle.chunk_usage.specs.Rooms.{reserve_account_of}
 use Rattle.trie_read.specs.Reads.{IsTop}
-use Rattle.trie_space.specs.Spaces.{Fenced, Ready}
-use Rattle.trie_space.specs.Ways.{Fork, plug}
-use Rattle.trie_space.proofs.SpaceLaws.{frame_refl, fenced_of, fenced_then, writable_later}
+use Rattle.trie_space.specs.Spaces.{IsWritable, Ready}
+use Rattle.trie_space.specs.Ways.{plug}
+use Rattle.trie_space.proofs.SpaceLaws.{fenced_then, writable_later}
 use Rattle.evacuate.specs.declared.trail.Trail.{Trail}
-use Rattle.evacuate.specs.Fillings.{Fills, Moves}
-use Rattle.evacuate.specs.Places.{Stood, Hung, IsStood}
+use Rattle.evacuate.specs.Evacuations.{HasSparse}
+use Rattle.evacuate.specs.Fillings.{Fewer, Fills, Paid}
+use Rattle.evacuate.specs.Moving.{CanMove, LeavesRest, MovesCells, NodeMoved, RearrangedNode}
+use Rattle.evacuate.specs.Places.{IsStood, Stood, first_of, width_of}
 use Rattle.evacuate.specs.Rearranging.{CanRearrange, Rearranged}
-use Rattle.evacuate.specs.Trails.{Finds, Found, IsDue, Reached, Underway}
-use Rattle.evacuate.proofs.DescentLaws.{reached_due, stood_same}
+use Rattle.evacuate.specs.Trails.{Finds, Found, IsDue, Reaches, Underway}
+use Rattle.evacuate.proofs.DescentLaws.{reached_due, reached_hung, stood_same}
 use Rattle.evacuate.proofs.EndLaws.{node_top}
-use Rattle.evacuate.proofs.FillingLaws.{moves_none, moves_then}
+use Rattle.evacuate.proofs.FillingLaws.{moves_then, sparse_old}
+use Rattle.evacuate.proofs.MovingLaws.{cells_same, cells_then}
+use Rattle.evacuate.proofs.SparseLaws.{branch_sparse, lies_left}
+use Rattle.evacuate.proofs.TreeLaws.{hung_cells}
 
 module _ {S : Type 0} {has : S → ℕ → Cell → Type 0} {kept : S → List ℕ} {given : S → List Bool} {r : ℕ} where
   -- nothing was moved
   pub rearranged_same : {s s1 : S} {l l1 : Ledger} → s1 ≡ s → l1 ≡ l → Ready kept given reserve_account_of s l → Rearranged has kept given r s l s1 l1
-  rearranged_same {s} {s1} {l} {l1} e f ready =
-      subst (λ z. Rearranged has kept given r s l z l1) (sym e) (subst (λ z. Rearranged has kept given r s l s z) (sym f)
-      (record { stood = λ es t h. (t, h); moves = λ old fills. moves_none old l fills; frame = fenced_of (frame_refl s l); ready = ready }))
+  rearranged_same e f ready = record { stood = λ es t h. (t, stood_same e f h); cells = cells_same e f ready }
 
   pub rearranged_then : {s s1 s2 : S} {l l1 l2 : Ledger} → Rearranged has kept given r s l s1 l1 → Rearranged has kept given r s1 l1 s2 l2 → Rearranged has kept given r s l s2 l2
-  rearranged_then a b = record {
-    stood = λ es t h. let x = a.stood es t h in b.stood es x.0 x.1;
-    moves = λ old fills. let m = a.moves old fills in moves_then m (b.moves old m.fills);
-    frame = fenced_then a.frame b.frame;
-    ready = b.ready;
-  }
+  rearranged_then a b = record { stood = λ es t h. let x = a.stood es t h in b.stood es x.0 x.1; cells = cells_then a.cells b.cells }
 
   -- more may be moved
   pub can_again : {s s1 : S} {l l1 : Ledger} → Rearranged has kept given r s l s1 l1 → CanRearrange has kept given r s l → CanRearrange has kept given r s1 l1
@@ -41,8 +40,8 @@ module _ {S : Type 0} {has : S → ℕ → Cell → Type 0} {kept : S → List �
       let x = a.stood can.stands.es can.stands.t can.stands.stood in
       record {
         stands = record { es = can.stands.es; t = x.0; stood = x.1 };
-        writable = writable_later can.writable a.frame.grows a.frame.given_stays;
-        ready = a.ready;
+        writable = writable_later can.writable a.cells.frame.grows a.cells.frame.given_stays;
+        ready = a.cells.ready;
       }
 
   -- cells were read
@@ -50,20 +49,45 @@ module _ {S : Type 0} {has : S → ℕ → Cell → Type 0} {kept : S → List �
   can_read e f can = can_again (rearranged_same e f can.ready) can
 
   -- on the way along a trail
-  pub underway_ends : {s s1 : S} {l l1 : Ledger} {trail : Trail} {at : ℕ} {n : Node} → ((es : List Entry) (t : Tree) → Stood has s l r es t → Underway has l trail s1 l1 r at es n) →
-      ((old : List Bool) → Fills old l → Moves old 0 l l1) → Fenced has kept given reserve_account_of s l s1 l1 → Ready kept given reserve_account_of s1 l1 → Rearranged has kept given r s l s1 l1
-  underway_ends way moves frame ready = record { stood = λ es t h. let u = way es t h in (plug u.upper (plug u.rest u.end), u.hung.stood); moves = moves; frame = frame; ready = ready }
+  pub underway_ends : {s s1 : S} {l l1 : Ledger} {trail : Trail} {at : ℕ} {n : Node} → ((es : List Entry) (t : Tree) → Stood has s l r es t → Underway has l trail s1 l1 r at es n) → MovesCells has kept given s l s1 l1 → Rearranged has kept given r s l s1 l1
+  underway_ends way cells = record { stood = λ es t h. let u = way es t h in (plug u.upper (plug u.rest u.end), u.hung.stood); cells = cells }
 
-  -- what it leads to was moved too
-  pub found_moved : {s s1 s2 : S} {l l1 l2 : Ledger} {at : ℕ} {n : Node} → Rearranged has kept given r s l s1 l1 → IsStood has s l r → ((es : List Entry) (t : Tree) → Stood has s l r es t → Reached has l s1 l1 r at es n) →
-      ((q : ℕ) (es : List Entry) (way : List Fork) (t : Tree) → Hung has s1 l1 q at es way t → n ≡ node_of t → (u : Tree) × Stood has s2 l2 q es u) →
-      (IsDue has s1 l1 at n → (old : List Bool) → Fills old l1 → Moves old 0 l1 l2) → Fenced has kept given reserve_account_of s1 l1 s2 l2 → Ready kept given reserve_account_of s2 l2 → Rearranged has kept given r s l s2 l2
-  found_moved a can reached stood moves frame ready = record {
-    stood = λ es t h. let x = reached es t h in stood r es x.way x.end x.hung x.node_is;
-    moves = λ old fills. let m = a.moves old fills in moves_then m (moves (reached_due (reached _ _ can.stood) m) old m.fills);
-    frame = fenced_then a.frame frame;
-    ready = ready;
-  }
+  -- what it leads to is moved too
+  module _ {s s1 : S} {l l1 : Ledger} {at : ℕ} {n : Node} (a : Rearranged has kept given r s l s1 l1) (reached : Reaches has r s l s1 l1 at n) (can : IsStood has s l r) {m : Node} (is : n ≡ m) where
+    pub found_can : IsWritable given reserve_account_of s1 l1 at → CanMove has kept given at m s1 l1
+    found_can writable = record { hung = reached_hung (reached _ _ can.stood) is; writable = writable; ready = a.cells.ready }
+
+    pub found_due : (old : List Bool) → Fills old l → IsDue has s1 l1 at m
+    found_due old fills = reached_due (reached _ _ can.stood) is (a.cells.moves old fills)
+
+    pub found_left : (old : List Bool) → Fills old l → HasSparse l1
+    found_left old fills = let due = found_due old fills in lies_left due.hung.hung due.sparse
+
+    pub found_item : {s2 : S} {l2 : Ledger} → RearrangedNode has kept given at m s1 l1 s2 l2 → Rearranged has kept given r s l s2 l2
+    found_item b = record { stood = λ es t h. let x = reached es t h in b.stood r es x.way x.end x.hung (sym is ∙ x.node_is); cells = cells_then a.cells b.cells }
+
+    pub fewer_found : {l2 : Ledger} → (IsDue has s1 l1 at m → Fewer l1 l2) → Fewer l l2
+    fewer_found less old fills = let x = a.cells.moves old fills in let y = less (found_due old fills) old x.fills in let z = x.fewer in omega arith
+
+  -- a row of twigs
+  module _ {s s1 s2 : S} {l l1 l2 : Ledger} {at to : ℕ} {n : Node} (a : Rearranged has kept given r s l s1 l1) (reached : Reaches has r s l s1 l1 at n) (can : IsStood has s l r) (b : Branch) (is : n ≡ node.Branch b) (moved : NodeMoved has given at (node.Branch b) s1 l1 s2 l2 to) where
+    paid : (old : List Bool) → Fills old l → Paid old (width_of (node.Branch b)) l1 l2
+    paid old fills =
+        let x = a.cells.moves old fills in
+        let due = found_due a reached can is old fills in
+        moved.paid old x.fills (sparse_old old l1 x.fills (b.twigs / 1024) (branch_sparse l1 due.hung.t b due.hung.is due.sparse))
+
+    pub found_row : LeavesRest has kept given reserve_account_of s1 l1 s2 l2 → Rearranged has kept given r s l s2 l2
+    found_row rest = record {
+      stood = λ es t h. let x = reached es t h in (_, (moved.hung r es x.way x.end x.hung (sym is ∙ x.node_is)).stood);
+      cells = record { moves = λ old fills. moves_then (a.cells.moves old fills) (paid old fills).moves; frame = fenced_then a.cells.frame rest.frame; ready = rest.ready };
+    }
+
+    pub fewer_row : Fewer l l2
+    fewer_row old fills =
+        let due = found_due a reached can is old fills in
+        let some = (hung_cells due.hung.hung (ap first_of due.hung.is) (ap width_of due.hung.is)).row.some in
+        let x = (a.cells.moves old fills).fewer in let y = (paid old fills).less in omega arith
 
 module _ {S : Type 0} {has : S → ℕ → Cell → Type 0} {r : ℕ} where
   -- the root's cell was read, and from there the trail was laid

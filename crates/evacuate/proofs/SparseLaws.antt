@@ -1,10 +1,10 @@
 -- Items and twigs that lie in sparse chunks.
-use Rattle.std.proofs.Common.{◌≡◌, inl, inr, ℕ, ◌-◌, ◌/◌, ◌<◌, true, false, List, length, arith, sym, ◌∙◌, ap, subst}
+use Rattle.std.proofs.Common.{◌≡◌, inl, inr, ℕ, ◌-◌, ◌/◌, ◌<◌, ◌≤◌, true, false, List, length, arith, sym, ◌∙◌, ap, subst}
 use Rattle.std.proofs.lemmas.Bool.{true≢false}
 use Rattle.packed_node.specs.declared.Branch.{Branch}
 use Rattle.packed_node.specs.declared.Cell.{Cell}
 use Rattle.packed_node.specs.declared.Node.TheVariants as node
-use Rattle.trie_model.specs.Extents.{Extents, first_of as first_cell_of, linked_cells, content_cells, AreExtents, IsRow, row, weigh_extents}
+use Rattle.trie_model.specs.Extents.{Extents, first_of as first_cell_of, linked_cells, content_cells, AreExtents, IsRow, LiesAt, row, weigh_extents}
 use Rattle.trie_model.specs.Extents.Extents.{last, linked}
 use Rattle.trie_model.specs.Keys.{Entry}
 use Rattle.trie_model.specs.Memory.{node_of}
@@ -83,6 +83,11 @@ sparse_behind l r x none (inr h) = h
 pub sparse_here : (l : Ledger) (r : ℕ) (x : Extents) → first_cell_of x ≡ r → is_sparse l (r / 1024) ≡ true → SparseExtents l x
 sparse_here l r (last q) e h = ap (λ (p : ℕ). is_sparse l (p / 1024)) e ∙ h
 sparse_here l r (linked q x) e h = inl (ap (λ (p : ℕ). is_sparse l (p / 1024)) e ∙ h)
+
+-- an item of one extent, which isn't sparse
+pub lone_clear : {has : ℕ → Cell → Type 0} {l : Ledger} {at n : ℕ} {item : List ℕ} (x : Extents) → LiesAt has at n item x → n ≤ 4096 → is_sparse l (at / 1024) ≡ false → SparseExtents l x → ⊥
+lone_clear {l = l} (last q) lies short clear h = true≢false (sym h ∙ ap (λ (p : ℕ). is_sparse l (p / 1024)) lies.from ∙ clear)
+lone_clear (linked q x) lies short clear h = let a = lies.are.0 in omega arith
 
 -- a branch lies in a sparse chunk by its twigs
 pub branch_sparse : (l : Ledger) (t : Tree) (b : Branch) → node.Branch b ≡ node_of t → LiesSparse l t → is_sparse l (b.twigs / 1024) ≡ true

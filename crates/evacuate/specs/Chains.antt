@@ -1,7 +1,7 @@
 -- The extents of an item, one behind the other.
-use Rattle.std.specs.Prelude.{◌≡◌, ℕ, ◌-◌, List, [], ◌∷◌, length}
+use Rattle.std.specs.Prelude.{◌≡◌, ℕ, ◌-◌, ◌<◌, List, [], ◌∷◌, length}
 use Rattle.packed_node.specs.declared.Cell.{Cell}
-use Rattle.trie_model.specs.Extents.{Extents, LiesAt, first_of}
+use Rattle.trie_model.specs.Extents.{Extents, HasItem, LiesAt, first_of}
 use Rattle.trie_model.specs.Extents.Extents.{linked}
 use Rattle.trie_model.specs.Keys.{Entry}
 use Rattle.trie_model.specs.Trees.{Tree}
@@ -66,3 +66,9 @@ pub record LiesBehind (has : ℕ → Cell → Type 0) (at : ℕ) (x : Extents) (
 -- however an item lies here, others lie behind its first extent
 abbrev pub GoesBehind : {S : Type 0} → (S → ℕ → Cell → Type 0) → ℕ → ℕ → S → S → ℕ → ℕ → Type 0
 GoesBehind has at n s s_new next next_n = (item : List ℕ) (x : Extents) → LiesAt (has s) at n item x → LiesBehind (has s_new) at x next next_n
+
+-- there is one, with so many octets of the item from there on
+pub record IsBehind {S : Type 0} (has : S → ℕ → Cell → Type 0) (at n : ℕ) (s s_new : S) (next next_n : ℕ) : Type 0 where
+  pub fewer : next_n < n
+  pub item : (item : List ℕ) × HasItem (has s_new) next next_n item
+  pub behind : GoesBehind has at n s s_new next next_n

@@ -1,8 +1,13 @@
 -- What an evacuation promises.
-use Rattle.std.specs.Prelude.{◌≡◌, ℕ, ◌<◌, ◌≤◌, true, false, Bool, List, Option, Some, slice_index}
+use Rattle.std.specs.Prelude.{◌≡◌, ℕ, ◌+◌, ◌/◌, ◌<◌, ◌≤◌, true, false, Bool, List, Option, Some, slice_index}
+use Rattle.packed_node.specs.declared.Cell.{Cell}
 use Rattle.trie_model.specs.Capacity.{filled_cells}
+use Rattle.trie_model.specs.Keys.{Entry}
+use Rattle.trie_model.specs.Shape.{cells}
 use Rattle.chunk_usage.specs.Counting.{is_sparse}
-use Rattle.chunk_usage.specs.Ledger.{Ledger, filled, is_given, is_bump}
+use Rattle.chunk_usage.specs.Ledger.{Ledger, filled, free_count, is_given, is_bump}
+use Rattle.chunk_usage.specs.Rooms.{account_of}
+use Rattle.trie_space.specs.Standing.{HasTrie}
 use Rattle.evacuate.specs.declared.evacuation.Done.{Done}
 use Rattle.evacuate.specs.declared.evacuation.Done.TheVariants.{Whole, Stopped}
 use Rattle.evacuate.specs.Fillings.{Fills, IsUsedUp}
@@ -37,3 +42,27 @@ pub record ListsEnd (l new : Ledger) (done : Option Done) : Type 0 where
   pub whole : done ≡ Some Whole → IsCleared new
   pub full : done ≡ Some Stopped → IsUsedUp new
   pub left : done ≡ Some Stopped → (given : List Bool) → Fills given l → HasSparse new
+
+-- how emptying them ended: what is told is so
+pub record Ended (new : Ledger) (done : Done) : Type 0 where
+  pub whole : done ≡ Whole → IsCleared new
+  pub full : done ≡ Stopped → IsUsedUp new
+  pub left : done ≡ Stopped → HasSparse new
+
+-- ---- what an evacuation says
+
+-- the trie is the same, at the root that is answered
+pub record CarriesTrie {S : Type 0} (has : S → ℕ → Cell → Type 0) (s : S) (l : Ledger) (root : Option ℕ) (s_new : S) (l_new : Ledger) (new : Option ℕ) (done : Done) : Type 0 where
+  pub stands : (version : List Entry) → HasTrie has account_of s l root version → HasTrie has account_of s_new l_new new version
+  -- for each `filled_cells` of its cells a chunk was asked for at most, and one more
+  pub asks : (version : List Entry) → HasTrie has account_of s l root version → free_count l + refused done ≤ free_count l_new + (cells version / filled_cells + 1)
+
+-- what became of the chunks
+pub record EmptiesChunks (old new : Ledger) (done : Done) : Type 0 where
+  -- where no cell of a sparse chunk counted nothing was done
+  pub none : IsCleared old → new ≡ old
+  pub fills : FillsNew old new
+  -- no cell of a sparse chunk counts any more, or no chunk was free
+  pub whole : done ≡ Whole → IsDense new
+  pub stopped : done ≡ Stopped → IsUsedUp new
+  pub left : done ≡ Stopped → HasSparse new

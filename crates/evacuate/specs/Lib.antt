@@ -1,6 +1,7 @@
 pub mod Chains
 pub mod Evacuations
 pub mod Fillings
+pub mod Moving
 pub mod Places
 pub mod Rearranging
 pub mod Sparse

@@ -12,14 +12,15 @@ pub use Rattle.trie_read.specs.Reads.{IsTop}
 pub use Rattle.chunk_usage.specs.Counting.{is_sparse, is_unmixed}
 pub use Rattle.chunk_usage.specs.Handing.{allocated, consumed}
 pub use Rattle.chunk_usage.specs.Ledger.{free_count, is_mutable, is_used}
-pub use Rattle.chunk_usage.specs.Rooms.{Grows, Handed, account_of, reserve_account_of}
-pub use Rattle.trie_space.specs.Spaces.{Fenced, Frame, IsWritable, MayWrite, Ready}
+pub use Rattle.chunk_usage.specs.Rooms.{Grows, account_of, reserve_account_of}
+pub use Rattle.trie_space.specs.Spaces.{IsWritable, Ready}
 pub use Rattle.trie_space.specs.Standing.{HasTrie}
 pub use Rattle.trie_space.specs.Ways.{NotBefore}
-pub use Rattle.evacuate.specs.Chains.{GoesBehind, GoesOn, GoesSparse, HoldsBehind, StandsAboveItem, StillGoesOn}
-pub use Rattle.evacuate.specs.Evacuations.{FillsNew, HasSparse, IsCleared, IsDense, ListsEnd, refused}
-pub use Rattle.evacuate.specs.Fillings.{Fewer, Fills, IsUsedUp, Moves, MovedIfDue, PaidIfOld, begun, filled_on, is_filled_on, is_old, old_chunks}
-pub use Rattle.evacuate.specs.Places.{Hangs, IsHung, IsStood, StandsAboveNode, StillHangs, Stood, first_of, first_width, width_of}
-pub use Rattle.evacuate.specs.Rearranging.{CanMove, CanRearrange, Emptied, OnWay, Rearranged, Unmoved}
-pub use Rattle.evacuate.specs.Sparse.{AvoidsSparse, SparseExtents}
-pub use Rattle.evacuate.specs.Trails.{Finds, Found, IsDue, MayPass, Passed, Reaches, TrailKept}
+pub use Rattle.evacuate.specs.Chains.{GoesSparse, IsBehind}
+pub use Rattle.evacuate.specs.Evacuations.{CarriesTrie, EmptiesChunks, Ended, HasSparse, IsCleared, ListsEnd}
+pub use Rattle.evacuate.specs.Fillings.{Fewer, IsUsedUp, begun, filled_on, is_filled_on}
+pub use Rattle.evacuate.specs.Places.{Hangs, IsStood, first_of, first_width, put_at, width_of}
+pub use Rattle.evacuate.specs.Moving.{AsksRoom, CanCopy, CanMove, CanMoveBehind, ExtentMoved, FirstLies, IsCopied, IsLength, IsRoom, LeavesRest, MovesCells, NextLies, NodeMoved, RearrangedItem, RearrangedNode, RootMoved, TakesCells, Unmoved}
+pub use Rattle.evacuate.specs.Rearranging.{CanBegin, CanRearrange, CanWalkOn, Emptied, OnWay, Rearranged, RootCopied, StopsShort}
+pub use Rattle.evacuate.specs.Sparse.{TellsSparse}
+pub use Rattle.evacuate.specs.Trails.{Finds, Found, FoundBelow, IsDue, MayPass, NoneBelow, PassedTo, SpotReached, TrailKept}

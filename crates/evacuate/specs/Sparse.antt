@@ -1,6 +1,7 @@
 -- What lies in sparse chunks.
-use Rattle.std.specs.Prelude.{◌≡◌, ◌⊎◌, ℕ, ◌/◌, true}
-use Rattle.trie_model.specs.Extents.{Extents}
+use Rattle.std.specs.Prelude.{◌≡◌, ◌⊎◌, ℕ, ◌/◌, Bool, true, false, List}
+use Rattle.packed_node.specs.declared.Cell.{Cell}
+use Rattle.trie_model.specs.Extents.{Extents, LiesAt}
 use Rattle.trie_model.specs.Extents.Extents.{last, linked}
 use Rattle.trie_model.specs.Reach.{in_chunk, weigh_tree}
 use Rattle.trie_model.specs.Trees.{Tree}
@@ -12,6 +13,11 @@ use Rattle.chunk_usage.specs.Ledger.{Ledger}
 abbrev pub SparseExtents : Ledger → Extents → Type 0
 SparseExtents l (last r) = is_sparse l (r / 1024) ≡ true
 SparseExtents l (linked r x) = (is_sparse l (r / 1024) ≡ true) ⊎ SparseExtents l x
+
+-- the answer is whether some does, however an item of so many octets lies here
+pub record TellsSparse (has : ℕ → Cell → Type 0) (l : Ledger) (at n : ℕ) (answer : Bool) : Type 0 where
+  pub some : answer ≡ true → (item : List ℕ) (x : Extents) → LiesAt has at n item x → SparseExtents l x
+  pub none : answer ≡ false → (item : List ℕ) (x : Extents) → LiesAt has at n item x → SparseExtents l x → ⊥
 
 -- what hangs on a tree's top node does: its twigs, or some extent of its item
 abbrev pub LiesSparse : Ledger → Tree → Type 0

@@ -1,5 +1,5 @@
 -- The way to a row of twigs, or an item, that lies in a sparse chunk.
-use Rattle.std.specs.Prelude.{◌≡◌, ◌⊎◌, ℕ, ◌+◌, ◌/◌, ◌<◌, List, [], ◌∷◌, true, false, count_ones, slice_index}
+use Rattle.std.specs.Prelude.{◌≡◌, ◌⊎◌, ℕ, ◌+◌, ◌/◌, ◌<◌, ◌≤◌, Bool, List, [], ◌∷◌, true, false, count_ones, slice_index}
 use Rattle.packed_node.specs.declared.Cell.{Cell}
 use Rattle.packed_node.specs.declared.Node.{Node}
 use Rattle.packed_node.specs.declared.Node.TheVariants as node
@@ -8,11 +8,14 @@ use Rattle.trie_model.specs.Memory.{node_of}
 use Rattle.trie_model.specs.Trees.{Tree, count}
 use Rattle.chunk_usage.specs.Counting.{is_sparse}
 use Rattle.chunk_usage.specs.Ledger.{Ledger, is_mutable}
+use Rattle.chunk_usage.specs.Rooms.{reserve_account_of}
+use Rattle.trie_read.specs.Reads.{IsTop}
+use Rattle.trie_space.specs.Spaces.{IsWritable}
 use Rattle.trie_space.specs.Ways.{NotBefore, Fork, plug}
-use Rattle.evacuate.specs.declared.along.Passage.{Passage}
+use Rattle.evacuate.specs.declared.path_walk.Passage.{Passage}
 use Rattle.evacuate.specs.declared.trail.Trail.{Trail}
 use Rattle.evacuate.specs.Places.{moved, Stood, Hung, IsHung}
-use Rattle.evacuate.specs.Sparse.{LiesSparse}
+use Rattle.evacuate.specs.Sparse.{AvoidsSparse, LiesSparse}
 
 -- the way takes the twigs that the trail says, at offsets before its end
 abbrev pub Steps : Trail → List Fork → Type 0
@@ -34,6 +37,15 @@ pub record Found (l : Ledger) (trail : Trail) (t : Tree) : Type 0 where
 -- however a trie stands at a root, the trail leads there
 abbrev pub Finds : {S : Type 0} → (S → ℕ → Cell → Type 0) → S → Ledger → ℕ → Trail → Type 0
 Finds has s l r trail = (es : List Entry) (t : Tree) → Stood has s l r es t → Found l trail t
+
+-- a walk came to such a node below an offset: however a tree lies there, the trail leads to it
+pub record FoundBelow (has : ℕ → Cell → Type 0) (l : Ledger) (low : ℕ) (top : Cell) (trail : Trail) : Type 0 where
+  pub leads : (t : Tree) → IsTop has low top t → Found l trail t
+  pub late : low ≤ trail.end
+
+-- or there is none
+abbrev pub NoneBelow : (ℕ → Cell → Type 0) → Ledger → ℕ → Cell → Type 0
+NoneBelow has l low top = (t : Tree) → IsTop has low top t → AvoidsSparse l t
 
 -- a walk below an offset only read, and left the trail above it
 pub record TrailKept {S : Type 0} (s s_new : S) (low : ℕ) (trail new : Trail) : Type 0 where
@@ -62,6 +74,11 @@ pub record Reached {S : Type 0} (has : S → ℕ → Cell → Type 0) (l0 : Ledg
 abbrev pub Reaches : {S : Type 0} → (S → ℕ → Cell → Type 0) → ℕ → S → Ledger → S → Ledger → ℕ → Node → Type 0
 Reaches has r s l s_new l_new at n = (es : List Entry) (t : Tree) → Stood has s l r es t → Reached has l s_new l_new r at es n
 
+-- and the cell may be written
+pub record SpotReached {S : Type 0} (has : S → ℕ → Cell → Type 0) (given : S → List Bool) (r : ℕ) (s : S) (l : Ledger) (s_new : S) (l_new : Ledger) (at : ℕ) (n : Node) : Type 0 where
+  pub reached : Reaches has r s l s_new l_new at n
+  pub writable : IsWritable given reserve_account_of s_new l_new at
+
 -- some tree with this node hangs on the cell, and what hangs on the node lies in a sparse chunk
 pub record IsDue {S : Type 0} (has : S → ℕ → Cell → Type 0) (s : S) (l : Ledger) (at : ℕ) (n : Node) : Type 0 where
   pub hung : IsHung has s l at n
@@ -77,6 +94,11 @@ pub record TwigsAt {S : Type 0} (has : S → ℕ → Cell → Type 0) (s : S) (l
 abbrev pub Passed : {S : Type 0} → (S → ℕ → Cell → Type 0) → ℕ → Passage → S → Ledger → S → Ledger → ℕ → Type 0
 Passed has at p s l s_new l_new twig = (r : ℕ) (es : List Entry) (way : List Fork) (t : Tree)
     → Hung has s l r at es way t → node.Branch p.descent.branch ≡ node_of t → TwigsAt has s_new l_new r at es way t p.descent.index twig
+
+-- and it may be written
+pub record PassedTo {S : Type 0} (has : S → ℕ → Cell → Type 0) (given : S → List Bool) (at : ℕ) (p : Passage) (s : S) (l : Ledger) (s_new : S) (l_new : Ledger) (twig : ℕ) : Type 0 where
+  pub hung : Passed has at p s l s_new l_new twig
+  pub writable : IsWritable given reserve_account_of s_new l_new twig
 
 -- A branch's twigs may stay if the one that is passed to may be written. Else they lie in a sparse chunk, or it may not be.
 pub record MayPass (l : Ledger) (p : Passage) : Type 0 where

@@ -1,19 +1,15 @@
 //! The way down to what is to be moved. On the way each row of twigs that may not be written is moved first, so that a cell above what
 //! was moved can say where it is.
 
-ghost use Rattle.std.specs.Prelude.{◌≡◌, ◌^◌, ◌<◌, ◌≤◌, List, Bool, IfOk, IfErr, IfSome, None};
-ghost use Rattle.evacuate.specs.Prelude.{branch_node, node_of, Tree, reserve_account_of, Ready, Fenced, IsWritable, NotBefore};
-ghost use Rattle.evacuate.specs.Prelude.{HasSparse, Fills, Moves, Fewer, IsUsedUp, CanMove, CanRearrange, Rearranged};
-ghost use Rattle.evacuate.specs.Prelude.{Finds, IsDue, Reaches, StandsAboveNode};
+ghost use Rattle.std.specs.Prelude.{◌≡◌, ◌<◌, List, Bool, true, None, IfOk, IfErr, IfSome};
+ghost use Rattle.evacuate.specs.Prelude.{branch_node, node_of, Tree, NotBefore, Fewer, IsUsedUp, CanRearrange, Rearranged, StopsShort};
+ghost use Rattle.evacuate.specs.Prelude.{Finds, SpotReached};
 
-use super::along::{Passage, pass};
-use super::items::move_item;
-use super::moves::move_node;
-use super::node_cells::first_cell;
-use super::path_walk::Descent;
-use super::trail::Trail;
+use super::moves::{move_item, move_node};
+use super::path_walk::{Descent, Passage, pass};
+use super::trail::{Trail, last_sparse};
 use chunk_cells::CellWrite;
-use chunk_usage::{Shortage, Usage};
+use chunk_usage::{Path, Shortage, Usage};
 use packed_node::{Branch, Node, Ref};
 
 /// The branch that a node is, where its offset comes before a place.
@@ -50,11 +46,9 @@ pub fn reach<C: CellWrite>(
 ) -> Result<Spot, Shortage>
     requires can { CanRearrange C.has C.kept C.given root cells.old usage.old }
     requires found { Finds C.has cells.old usage.old root trail.now }
-    ensures reached { IfOk result (λ spot. Reaches C.has root cells.old usage.old cells.new usage.new spot.at spot.node) }
-    ensures writable { IfOk result (λ spot. IsWritable C.given reserve_account_of cells.new usage.new spot.at) }
+    ensures reached { IfOk result (λ spot. SpotReached C.has C.given root cells.old usage.old cells.new usage.new spot.at spot.node) }
     ensures rearranged { Rearranged C.has C.kept C.given root cells.old usage.old cells.new usage.new }
-    ensures full { IfErr result (λ _. IsUsedUp usage.new) }
-    ensures left { IfErr result (λ _. (given : List Bool) → Fills given usage.old → HasSparse usage.new) }
+    ensures short { IfErr result (λ _. StopsShort usage.old usage.new) }
 {
     let mut at = root;
     let mut node = Node::of(cells.cell(root));
@@ -66,27 +60,6 @@ pub fn reach<C: CellWrite>(
         node = Node::of(cells.cell(at));
     }
     Ok(Spot { at, node })
-}
-
-/// Moves what hangs on a spot's node: the twigs of a branch, or the extents of an item as far as some lie in sparse chunks. Where there is
-/// no room, what was moved before stays so.
-fn move_spot<C: CellWrite>(cells: &mut C, usage: &mut Usage, spot: Spot) -> Result<(), Shortage>
-    requires { CanMove C.has C.kept C.given spot.at spot.node cells.old usage.old }
-    ensures stood { StandsAboveNode C.has spot.at spot.node cells.old usage.old cells.new usage.new }
-    ensures moves { IsDue C.has cells.old usage.old spot.at spot.node → (given : List Bool) → Fills given usage.old → Moves given 0 usage.old usage.new }
-    ensures less { IfOk result (λ _. IsDue C.has cells.old usage.old spot.at spot.node → Fewer usage.old usage.new) }
-    ensures full { IfErr result (λ _. IsUsedUp usage.new) }
-    ensures left { IfErr result (λ _. IsDue C.has cells.old usage.old spot.at spot.node → HasSparse usage.new) }
-    ensures frame { Fenced C.has C.kept C.given reserve_account_of cells.old usage.old cells.new usage.new }
-    ensures ready { Ready C.kept C.given reserve_account_of cells.new usage.new }
-{
-    match spot.node {
-        Node::Leaf(leaf) => move_item(cells, usage, spot.at, leaf),
-        Node::Branch(branch) => {
-            move_node(cells, usage, spot.at, Node::Branch(branch))?;
-            Ok(())
-        }
-    }
 }
 
 /// Moves what the trail leads to, and tells where the first of it lay. Where there is no room for it, or for twigs on the way, what was moved before
@@ -101,11 +74,66 @@ pub fn move_found<C: CellWrite>(
     requires found { Finds C.has cells.old usage.old root trail.now }
     ensures rearranged { Rearranged C.has C.kept C.given root cells.old usage.old cells.new usage.new }
     ensures less { IfOk result (λ _. Fewer usage.old usage.new) }
-    ensures full { IfErr result (λ _. IsUsedUp usage.new) }
-    ensures left { IfErr result (λ _. (given : List Bool) → Fills given usage.old → HasSparse usage.new) }
+    ensures short { IfErr result (λ _. StopsShort usage.old usage.new) }
 {
     let spot = reach(cells, usage, root, trail)?;
-    let from = first_cell(spot.node);
-    move_spot(cells, usage, spot)?;
-    Ok(from)
+    match spot.node {
+        Node::Leaf(leaf) => {
+            move_item(cells, usage, spot.at, leaf)?;
+            Ok(leaf.at)
+        }
+        Node::Branch(branch) => {
+            move_node(cells, usage, spot.at, Node::Branch(branch))?;
+            Ok(branch.twigs)
+        }
+    }
+}
+
+/// So many rows and items are moved on one path at most.
+const MOST_MOVES: u32 = 300;
+
+/// Makes the twigs mutable that are above the last on a path that lies in a sparse chunk. Tells whether there is one.
+pub fn copy_forked<C: CellWrite>(
+    cells: &mut C,
+    usage: &mut Usage,
+    root: Ref,
+    path: Path,
+) -> Result<bool, Shortage>
+    requires { CanRearrange C.has C.kept C.given root cells.old usage.old }
+    ensures rearranged { Rearranged C.has C.kept C.given root cells.old usage.old cells.new usage.new }
+    ensures full { IfErr result (λ _. IsUsedUp usage.new) }
+{
+    let mut trail = Trail::new();
+    let mut leaf = path;
+    let top = cells.cell(root);
+    if last_sparse(cells, usage, &mut trail, top, path, &mut leaf) {
+        usage.note(leaf);
+        reach(cells, usage, root, &trail)?;
+        return Ok(true);
+    }
+    Ok(false)
+}
+
+/// Moves what lies in sparse chunks along a path, the last first.
+pub fn move_forked<C: CellWrite>(
+    cells: &mut C,
+    usage: &mut Usage,
+    root: Ref,
+    path: Path,
+) -> Result<(), Shortage>
+    requires { CanRearrange C.has C.kept C.given root cells.old usage.old }
+    ensures rearranged { Rearranged C.has C.kept C.given root cells.old usage.old cells.new usage.new }
+    ensures full { IfErr result (λ _. IsUsedUp usage.new) }
+{
+    let mut trail = Trail::new();
+    let mut leaf = path;
+    for _ in 0..MOST_MOVES {
+        let top = cells.cell(root);
+        if !last_sparse(cells, usage, &mut trail, top, path, &mut leaf) {
+            return Ok(());
+        }
+        usage.note(leaf);
+        move_found(cells, usage, root, &trail)?;
+    }
+    Ok(())
 }

@@ -1,19 +1,19 @@
 //! Evacuation: sparse chunks are emptied.
 
-ghost use Rattle.std.specs.Prelude.{◌≡◌, ◌+◌, ◌/◌, ◌≤◌, List, true, false};
-ghost use Rattle.evacuate.specs.Prelude.{Entry, account_of, reserve_account_of, Ready, Fenced, HasTrie, FillsNew, IsDense};
-ghost use Rattle.evacuate.specs.Prelude.{IsCleared, HasSparse, ListsEnd, IsUsedUp, IsStood, CanRearrange, Emptied, Rearranged};
-ghost use Rattle.evacuate.specs.Prelude.{cells_of, filled_cells, free_count, refused};
+ghost use Rattle.std.specs.Prelude.{◌≡◌, ◌/◌, List, Option, true, false, IfOk, IfErr, IfSome};
+ghost use Rattle.evacuate.specs.Prelude.{Entry, is_unmixed, is_mutable, is_used, Grows, account_of, reserve_account_of, Ready, HasTrie};
+ghost use Rattle.evacuate.specs.Prelude.{CarriesTrie, EmptiesChunks, Ended, HasSparse, IsCleared, ListsEnd, begun, filled_on};
+ghost use Rattle.evacuate.specs.Prelude.{is_filled_on, IsStood, LeavesRest, Unmoved, CanBegin, CanRearrange, Emptied, Rearranged};
+ghost use Rattle.evacuate.specs.Prelude.{RootCopied};
 
-use super::beginning::{begin, copy_root};
 use super::descent::move_found;
-use super::listed::move_listed;
-use super::marks::Search;
+use super::finding::{Search, survey};
+use super::moves::move_root;
+use super::path_list::move_listed;
 use super::sparse::is_any_sparse;
-use super::survey::survey;
 use super::trail::{Trail, next_sparse};
 use chunk_cells::CellWrite;
-use chunk_usage::Usage;
+use chunk_usage::{Shortage, Usage};
 use packed_node::{Ref, chunk_of};
 use trie_read::Root;
 
@@ -34,17 +34,9 @@ pub enum Done {
 pub fn evacuate<C: CellWrite>(cells: &mut C, usage: &mut Usage, root: Root) -> (Root, Done)
     requires stands { (version : List Entry) × HasTrie C.has account_of cells.old usage.old root version }
     requires ready { Ready C.kept C.given account_of cells.old usage.old }
-    ensures stands { (version : List Entry) → HasTrie C.has account_of cells.old usage.old root version
-        → HasTrie C.has account_of cells.new usage.new result.0 version }
-    ensures none { IsCleared usage.old → usage.new ≡ usage.old }
-    ensures fills { FillsNew usage.old usage.new }
-    ensures whole { result.1 ≡ Done.Whole → IsDense usage.new }
-    ensures stopped { result.1 ≡ Done.Stopped → IsUsedUp usage.new }
-    ensures left { result.1 ≡ Done.Stopped → HasSparse usage.new }
-    ensures asks { (version : List Entry) → HasTrie C.has account_of cells.old usage.old root version
-        → free_count usage.old + refused result.1 ≤ free_count usage.new + (cells_of version / filled_cells + 1) }
-    ensures frame { Fenced C.has C.kept C.given reserve_account_of cells.old usage.old cells.new usage.new }
-    ensures ready { Ready C.kept C.given account_of cells.new usage.new }
+    ensures trie { CarriesTrie C.has cells.old usage.old root cells.new usage.new result.0 result.1 }
+    ensures chunks { EmptiesChunks usage.old usage.new result.1 }
+    ensures rest { LeavesRest C.has C.kept C.given account_of cells.old usage.old cells.new usage.new }
 {
     usage.known(); // for the proof
     match root {
@@ -68,9 +60,7 @@ fn empty_sparse<C: CellWrite>(cells: &mut C, usage: &mut Usage, root: Ref) -> (R
     requires sparse { HasSparse usage.old }
     requires ready { Ready C.kept C.given reserve_account_of cells.old usage.old }
     ensures emptied { Emptied C.has C.kept C.given root cells.old usage.old result.0 cells.new usage.new }
-    ensures whole { result.1 ≡ Done.Whole → IsCleared usage.new }
-    ensures stopped { result.1 ≡ Done.Stopped → IsUsedUp usage.new }
-    ensures left { result.1 ≡ Done.Stopped → HasSparse usage.new }
+    ensures ended { Ended usage.new result.1 }
 {
     usage.known(); // for the proof
     let chunk = begin(usage);
@@ -130,6 +120,9 @@ fn known_lists<C: CellWrite>(cells: &mut C, usage: &mut Usage, root: Ref) -> Opt
 }
 
 /// The same with the lists that there are. What is moved away may leave further chunks sparse, so there are some rounds.
+///
+/// Lists are guesses: what a path led to may have moved, or a branch have come between. So rounds go from likely paths to all ways. Counts alone
+/// end them, so a wrong list costs time and loses nothing.
 fn try_lists<C: CellWrite>(cells: &mut C, usage: &mut Usage, root: Ref) -> Option<Done>
     requires { CanRearrange C.has C.kept C.given root cells.old usage.old }
     ensures rearranged { Rearranged C.has C.kept C.given root cells.old usage.old cells.new usage.new }
@@ -163,4 +156,45 @@ fn begins_again(usage: &Usage, partial: bool) -> bool
         return is_any_sparse(usage);
     }
     false
+}
+
+/// The bump chunk is filled on, and told, where its transaction has it to itself and nothing in it has ceased to count. Else what is
+/// moved goes to chunks that are free now.
+fn begin(usage: &mut Usage) -> Option<u32>
+    ensures value { result ≡ filled_on usage.old }
+    ensures unmixed { IfSome result (λ chunk. is_unmixed usage.old chunk ≡ true) }
+    ensures after { usage.new ≡ begun usage.old result }
+    ensures grows { Grows (is_used usage.old) (is_used usage.new) (is_mutable usage.old) (is_mutable usage.new) }
+{
+    if let Some(chunk) = usage.unmixed_bump() {
+        return Some(chunk);
+    }
+    usage.fresh();
+    None
+}
+
+/// Whether a cell lies in the chunk that is filled on.
+fn is_there(at: Ref, chunk: Option<u32>) -> bool
+    ensures { result ≡ is_filled_on chunk (at / 1024) }
+{
+    chunk.is_some_and(|chunk| chunk == chunk_of(at))
+}
+
+/// Moves the root's cell, unless it lies in the chunk that is filled on.
+fn copy_root<C: CellWrite>(
+    cells: &mut C,
+    usage: &mut Usage,
+    root: Ref,
+    chunk: Option<u32>,
+) -> Result<Ref, Shortage>
+    requires { CanBegin C.has C.kept C.given root chunk cells.old usage.old }
+    ensures copied { IfOk result (λ at. RootCopied C.has C.given root chunk cells.old usage.old cells.new usage.new at) }
+    ensures unmoved { IfErr result (λ _. Unmoved cells.old usage.old cells.new usage.new) }
+    ensures rest { LeavesRest C.has C.kept C.given reserve_account_of cells.old usage.old cells.new usage.new }
+{
+    usage.known(); // for the proof
+    if is_there(root, chunk) {
+        return Ok(root);
+    }
+    move_root(cells, usage, root)
 }

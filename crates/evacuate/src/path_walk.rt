@@ -1,12 +1,15 @@
-//! The way along a path as far as it doesn't fork, and how far down something on it lies in a chunk.
+//! The way down along a path that doesn't fork, on which twigs are made mutable, or what lies in sparse chunks is moved.
 
-ghost use Rattle.std.specs.Prelude.{◌≡◌, ◌<◌, ℕ, List, IfSome, count_ones};
-ghost use Rattle.evacuate.specs.Prelude.{branch_node, HasItem, node_of, top_cell, Tree, IsTop};
+ghost use Rattle.std.specs.Prelude.{◌≡◌, ◌+◌, ◌/◌, ◌^◌, ◌<◌, ◌≤◌, List, Bool, true, IfOk, IfErr, IfSome, count_ones};
+ghost use Rattle.evacuate.specs.Prelude.{Branch, branch_node, is_sparse, is_mutable, IsUsedUp, CanMove, MovesCells, Unmoved};
+ghost use Rattle.evacuate.specs.Prelude.{CanRearrange, CanWalkOn, OnWay, Rearranged, MayPass, PassedTo};
 
-use super::behind::extent_behind;
-use chunk_cells::CellRead;
-use chunk_usage::Path;
-use packed_node::{Branch, Node, Ref, chunk_of};
+use super::moves::{move_item, move_node};
+use super::sparse::{is_chunk_sparse, is_item_sparse};
+use chunk_cells::CellWrite;
+use chunk_cells::extents::LAST_OCTETS;
+use chunk_usage::{Path, Shortage, Usage};
+use packed_node::{Branch, Leaf, Node, Ref, chunk_of};
 
 /// No branch has such an offset, nor a higher one.
 pub const NO_OFFSET: u16 = 504;
@@ -35,102 +38,218 @@ pub fn descent_on(node: Node, path: Path) -> Option<Descent>
     Some(Descent { branch, index })
 }
 
-/// The position of a branch's twig: the first from a place on.
-pub fn position_from(branch: Branch, place: u8) -> u8 {
-    let later = (branch.bitmap >> (place & 63)) << (place & 63);
-    (later.trailing_zeros() & 63) as u8
-}
-
-/// What is left on a path that lies in a chunk, once twigs above it were made mutable.
-#[derive(Clone, Copy, PartialEq, Eq)]
-pub enum Rest {
-    /// Nothing.
-    Nothing,
-    /// Twigs of a branch.
-    Twigs,
-    /// An item.
-    Item,
-}
-
-/// What there is on a path that lies in a chunk.
+/// A branch on the way, and whether its twigs stay where they are.
 #[derive(Clone, Copy)]
-pub enum Last {
-    /// There is nothing.
-    None,
-    /// There is something. The twigs of branches before an offset are to be made mutable first, and what is left then.
-    Below { end: u16, rest: Rest },
-    /// The path forks.
-    Forks,
+pub struct Passage {
+    pub descent: Descent,
+    pub stays: bool,
 }
 
-/// More twigs than these change so often that they are to lie with those above them.
-const FEW_TWIGS: u32 = 12;
+/// Where a way ended, and behind how many steps the last twigs lie that were moved on it.
+#[derive(Clone, Copy)]
+pub struct WayEnd {
+    pub at: Ref,
+    pub node: Node,
+    pub moved: Option<u32>,
+}
 
-/// The offset behind the last branch of many twigs, where this is that of the branches above.
+/// Whether twigs lie in a chunk that is sparse.
 #[inline]
-fn end_of_many(branch: Branch, above: u16) -> u16 {
-    if branch.twig_count() > FEW_TWIGS {
-        return branch.offset.saturating_add(1);
-    }
-    above
-}
-
-/// Twigs of a branch are the last on a path that lies in a chunk. All above them is made mutable first, and they are too where they are many.
-fn last_at(branch: Branch) -> Last {
-    if branch.twig_count() > FEW_TWIGS {
-        return Last::Below {
-            end: branch.offset.saturating_add(1),
-            rest: Rest::Nothing,
-        };
-    }
-    Last::Below {
-        end: branch.offset,
-        rest: Rest::Twigs,
-    }
-}
-
-/// Whether some extent of an item lies in a chunk. It begins here, and has so many octets.
-fn is_item_in<C: CellRead>(cells: &mut C, chunk: u32, at: Ref, len: u16) -> bool
-    requires { (item : List ℕ) × HasItem (C.has cells.old) at len item }
-    ensures { cells.new ≡ cells.old }
+fn lie_in(usage: &Usage, branch: Branch, chunk: u32) -> bool
+    ensures { result ≡ true → is_sparse usage.now (branch.twigs / 1024) ≡ true }
 {
-    if chunk_of(at) == chunk {
-        return true;
+    chunk_of(branch.twigs) == chunk && is_chunk_sparse(usage, chunk)
+}
+
+/// How a way goes on at a node: twigs that lie in a chunk are moved if it is sparse, and others stay where they may be written. Where they may
+/// not, the way ends, or it is to move them too. It ends at a leaf, where the path forks, and at an offset.
+#[inline(always)]
+fn passage_at(
+    usage: &Usage,
+    node: Node,
+    path: Path,
+    chunk: u32,
+    end: u16,
+    others: bool,
+) -> Option<Passage>
+    requires { (b : Branch) → node ≡ branch_node b → b.twigs + count_ones b.bitmap ≤ 2 ^ 22 }
+    ensures branch { IfSome result (λ passage. node ≡ branch_node passage.descent.branch) }
+    ensures may_pass { IfSome result (λ passage. MayPass usage.now passage) }
+{
+    let descent = descent_on(node, path)?;
+    if descent.branch.offset >= end {
+        return None;
     }
-    match extent_behind(cells, at, len) {
-        None => false,
-        Some(next) => is_item_in(cells, chunk, next.at, next.len),
+    if lie_in(usage, descent.branch, chunk) {
+        return Some(Passage {
+            descent,
+            stays: false,
+        });
+    }
+    let stays = usage.is_mutable(descent.branch.twigs + descent.index);
+    if stays || others {
+        return Some(Passage { descent, stays });
+    }
+    None
+}
+
+/// Behind how many steps the last twigs lie that were moved, where these are behind so many.
+fn last_moved(before: Option<u32>, passage: Passage, steps: u32) -> Option<u32> {
+    if passage.stays {
+        return before;
+    }
+    Some(steps)
+}
+
+/// Goes on to a twig of a branch that the cell at a place says.
+pub fn pass<C: CellWrite>(
+    cells: &mut C,
+    usage: &mut Usage,
+    at: Ref,
+    passage: Passage,
+) -> Result<Ref, Shortage>
+    requires may_pass { MayPass usage.old passage }
+    requires can { CanMove C.has C.kept C.given at (branch_node passage.descent.branch) cells.old usage.old }
+    ensures passed { IfOk result (λ twig. PassedTo C.has C.given at passage cells.old usage.old cells.new usage.new twig) }
+    ensures unmoved { IfErr result (λ _. Unmoved cells.old usage.old cells.new usage.new) }
+    ensures cells { MovesCells C.has C.kept C.given cells.old usage.old cells.new usage.new }
+{
+    usage.known(); // for the proof
+    let descent = passage.descent;
+    if passage.stays {
+        return Ok(descent.branch.twigs + descent.index);
+    }
+    let to = move_node(cells, usage, at, Node::Branch(descent.branch))?;
+    Ok(to + descent.index)
+}
+
+/// Notes the path of an item that may fill several chunks before it is moved, so that these list it.
+fn note_long(usage: &mut Usage, leaf: Leaf, path: Path)
+    ensures { usage.new ≡ usage.old }
+{
+    if leaf.len as usize > LAST_OCTETS {
+        usage.note(path);
     }
 }
 
-/// Goes down from a node along a path, to find the last on it whose twigs, or some extent of whose item, lie in a chunk. Above an item the
-/// twigs down to the last many are made mutable first: the few below them live as long as the item, and are moved with it.
-pub fn last_along<C: CellRead>(cells: &mut C, chunk: u32, from: Node, path: Path) -> Last
-    requires { (t : Tree) × IsTop (C.has cells.old) 0 (top_cell t) t × (from ≡ node_of t) }
-    ensures { cells.new ≡ cells.old }
+/// Goes on down from a foothold along what the path says from there on, before an offset. Twigs that lie in a sparse chunk are moved, and others that
+/// may not be written too, or the way ends there. Where there is no room for that, what was moved before stays so.
+#[inline(always)]
+pub fn go_on<C: CellWrite>(
+    cells: &mut C,
+    usage: &mut Usage,
+    root: Ref,
+    from: Foothold,
+    chunk: u32,
+    end: u16,
+    others: bool,
+) -> Result<WayEnd, Shortage>
+    requires { CanWalkOn C.has C.kept C.given root from.at from.node cells.old usage.old }
+    ensures way { IfOk result (λ to. OnWay C.has C.kept C.given root cells.old usage.old cells.new usage.new to.at to.node) }
+    ensures rearranged { Rearranged C.has C.kept C.given root cells.old usage.old cells.new usage.new }
+    ensures full { IfErr result (λ _. IsUsedUp usage.new) }
 {
-    let mut last = Last::None;
-    let mut many = 0;
-    let mut on = path;
-    let mut node = from;
-    while let Some(descent) = descent_on(node, on) {
-        many = end_of_many(descent.branch, many);
-        if chunk_of(descent.branch.twigs) == chunk {
-            last = last_at(descent.branch);
-        }
+    let mut on = from.on;
+    let mut at = from.at;
+    let mut node = from.node;
+    let mut moved = None;
+    let mut steps = from.steps;
+    while let Some(passage) = passage_at(usage, node, on, chunk, end, others) {
+        at = pass(cells, usage, at, passage)?;
+        moved = last_moved(moved, passage, steps);
+        steps = steps.saturating_add(1);
         on = on.rest();
-        node = Node::of(cells.cell(descent.branch.twigs + descent.index));
+        node = Node::of(cells.cell(at));
     }
-    match node {
-        Node::Branch(_) => Last::Forks,
-        Node::Leaf(leaf) => {
-            if is_item_in(cells, chunk, leaf.at, leaf.len) {
-                return Last::Below {
-                    end: many,
-                    rest: Rest::Item,
-                };
-            }
-            last
-        }
+    Ok(WayEnd { at, node, moved })
+}
+
+/// Goes down from a root along a path, and moves what lies in a sparse chunk, as far as the twigs above it are mutable, or to the item with
+/// those that aren't. Tells whether anything was moved. Where there is no room for that, what was moved before stays so.
+pub fn empty_along<C: CellWrite>(
+    cells: &mut C,
+    usage: &mut Usage,
+    root: Ref,
+    path: Path,
+    chunk: u32,
+    to_item: bool,
+) -> Result<bool, Shortage>
+    requires { CanRearrange C.has C.kept C.given root cells.old usage.old }
+    ensures rearranged { Rearranged C.has C.kept C.given root cells.old usage.old cells.new usage.new }
+    ensures full { IfErr result (λ _. IsUsedUp usage.new) }
+{
+    let from = Foothold {
+        at: root,
+        node: Node::of(cells.cell(root)),
+        on: path,
+        steps: 0,
+    };
+    let way = go_on(cells, usage, root, from, chunk, NO_OFFSET, to_item)?;
+    let Node::Leaf(leaf) = way.node else {
+        return Ok(way.moved.is_some());
+    };
+    if is_item_sparse(cells, usage, leaf.at, leaf.len) {
+        note_long(usage, leaf, path);
+        move_item(cells, usage, way.at, leaf)?;
+        return Ok(true);
+    }
+    Ok(way.moved.is_some())
+}
+
+/// A cell on the way down from a root that may be written, the node that it says, what a path says from there on, and how many steps lead there.
+#[derive(Clone, Copy)]
+pub struct Foothold {
+    pub at: Ref,
+    pub node: Node,
+    pub on: Path,
+    pub steps: u32,
+}
+
+/// The branch at a node, where a path says one of its twigs that may be written. None where they lie in a chunk.
+#[inline]
+fn mutable_descent(usage: &Usage, node: Node, path: Path, chunk: u32) -> Option<Descent>
+    requires { (b : Branch) → node ≡ branch_node b → b.twigs + count_ones b.bitmap ≤ 2 ^ 22 }
+    ensures branch { IfSome result (λ descent. node ≡ branch_node descent.branch) }
+    ensures index { IfSome result (λ descent. descent.index < count_ones descent.branch.bitmap) }
+    ensures mutable { IfSome result (λ descent. is_mutable usage.now (descent.branch.twigs + descent.index) ≡ true) }
+{
+    let descent = descent_on(node, path)?;
+    if chunk_of(descent.branch.twigs) == chunk {
+        return None;
+    }
+    if usage.is_mutable(descent.branch.twigs + descent.index) {
+        return Some(descent);
+    }
+    None
+}
+
+/// Goes down from a root along a path, as far as the twigs on it may be written and don't lie in a chunk.
+pub fn descend<C: CellWrite>(
+    cells: &mut C,
+    usage: &Usage,
+    root: Ref,
+    path: Path,
+    chunk: u32,
+) -> Foothold
+    requires { CanRearrange C.has C.kept C.given root cells.old usage.now }
+    ensures same { cells.new ≡ cells.old }
+    ensures walks_on { CanWalkOn C.has C.kept C.given root result.at result.node cells.old usage.now }
+{
+    usage.known(); // for the proof
+    let mut on = path;
+    let mut steps: u32 = 0;
+    let mut at = root;
+    let mut node = Node::of(cells.cell(root));
+    while let Some(descent) = mutable_descent(usage, node, on, chunk) {
+        at = descent.branch.twigs + descent.index;
+        on = on.rest();
+        steps = steps.saturating_add(1);
+        node = Node::of(cells.cell(at));
+    }
+    Foothold {
+        at,
+        node,
+        on,
+        steps,
     }
 }

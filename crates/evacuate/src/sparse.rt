@@ -1,12 +1,37 @@
-//! Whether there is anything to be moved.
+//! Whether something lies in sparse chunks.
 
-ghost use Rattle.std.specs.Prelude.{◌≡◌, true, false, ℕ, List};
-ghost use Rattle.evacuate.specs.Prelude.{Extents, HasItem, LiesAt, is_sparse, IsCleared, HasSparse, SparseExtents};
+ghost use Rattle.std.specs.Prelude.{◌≡◌, ◌≤◌, ℕ, List, true, false, None, IfSome};
+ghost use Rattle.evacuate.specs.Prelude.{HasItem, is_sparse, IsBehind, HasSparse, IsCleared, TellsSparse};
 
-use super::behind::extent_behind;
 use chunk_cells::CellRead;
+use chunk_cells::extents::{LAST_OCTETS, LINKED_OCTETS, next_extent};
 use chunk_usage::Usage;
 use packed_node::{Ref, chunk_of};
+
+/// Where an extent begins, and how many octets its item has from there on.
+#[derive(Clone, Copy)]
+pub struct Behind {
+    pub at: Ref,
+    pub len: u16,
+}
+
+/// The extent behind the one that begins here, where its item has so many octets from there on.
+#[inline]
+pub fn extent_behind<C: CellRead>(cells: &mut C, at: Ref, len: u16) -> Option<Behind>
+    requires there { (item : List ℕ) × HasItem (C.has cells.old) at len item }
+    ensures same { cells.new ≡ cells.old }
+    ensures behind { IfSome result (λ next. IsBehind C.has at len cells.old cells.new next.at next.len) }
+    ensures last { result ≡ None → len ≤ 4096 }
+{
+    if len as usize <= LAST_OCTETS {
+        return None;
+    }
+    let next = next_extent(cells, at);
+    Some(Behind {
+        at: next,
+        len: len - LINKED_OCTETS as u16,
+    })
+}
 
 /// Whether cells of some sparse chunk count.
 pub fn is_any_sparse(usage: &Usage) -> bool
@@ -34,8 +59,7 @@ pub fn is_chunk_sparse(usage: &Usage, chunk: u32) -> bool
 pub fn is_item_sparse<C: CellRead>(cells: &mut C, usage: &Usage, at: Ref, len: u16) -> bool
     requires there { (item : List ℕ) × HasItem (C.has cells.old) at len item }
     ensures same { cells.new ≡ cells.old }
-    ensures some { result ≡ true → (item : List ℕ) (x : Extents) → LiesAt (C.has cells.old) at len item x → SparseExtents usage.now x }
-    ensures none { result ≡ false → (item : List ℕ) (x : Extents) → LiesAt (C.has cells.old) at len item x → ¬ SparseExtents usage.now x }
+    ensures tells { TellsSparse (C.has cells.old) usage.now at len result }
 {
     if is_chunk_sparse(usage, chunk_of(at)) {
         return true;

@@ -1,12 +1,13 @@
-//! The walk through a trie to what lies in sparse chunks.
+//! Walks through a trie to what lies in sparse chunks.
 
-ghost use Rattle.std.specs.Prelude.{◌≡◌, ◌≢◌, ◌<◌, ◌≤◌, ℕ, List, true, false, slice_index};
-ghost use Rattle.evacuate.specs.Prelude.{Extents, HasItem, LiesAt, Tree, IsTop, SparseExtents, Found, TrailKept, AvoidsSparse};
+ghost use Rattle.std.specs.Prelude.{◌≡◌, ◌≢◌, ◌<◌, ◌≤◌, ℕ, List, true, false, count_ones, slice_index};
+ghost use Rattle.evacuate.specs.Prelude.{HasItem, Tree, IsTop, TellsSparse, Found, FoundBelow, NoneBelow, TrailKept};
 
-use super::path_walk::NO_OFFSET;
-use super::sparse::is_item_sparse;
+use super::finding::position_from;
+use super::path_walk::{NO_OFFSET, descent_on};
+use super::sparse::{is_chunk_sparse, is_item_sparse};
 use chunk_cells::CellRead;
-use chunk_usage::Usage;
+use chunk_usage::{Path, Usage};
 use packed_node::{Branch, Cell, Leaf, Node, chunk_of};
 
 /// The way to a node. Offsets rise along it, so each has a place of its own.
@@ -73,9 +74,8 @@ pub fn next_sparse<C: CellRead>(
     requires top { (t : Tree) × IsTop (C.has cells.old) low node t }
     requires low { low ≤ 504 }
     ensures kept { TrailKept cells.old cells.new low trail.old trail.new }
-    ensures found { result ≡ true → (t : Tree) → IsTop (C.has cells.old) low node t → Found usage.now trail.new t }
-    ensures late { result ≡ true → low ≤ trail.new.end }
-    ensures none { result ≡ false → resumed ≡ false → before ≡ 0 → (t : Tree) → IsTop (C.has cells.old) low node t → AvoidsSparse usage.now t }
+    ensures found { result ≡ true → FoundBelow (C.has cells.old) usage.now low node trail.new }
+    ensures none { result ≡ false → resumed ≡ false → before ≡ 0 → NoneBelow (C.has cells.old) usage.now low node }
 {
     match Node::of(node) {
         Node::Leaf(leaf) => ends_at_leaf(cells, usage, trail, leaf),
@@ -111,8 +111,7 @@ pub fn ends_at_leaf<C: CellRead>(
 ) -> bool
     requires there { (item : List ℕ) × HasItem (C.has cells.old) leaf.at leaf.len item }
     ensures same { cells.new ≡ cells.old }
-    ensures some { result ≡ true → (item : List ℕ) (x : Extents) → LiesAt (C.has cells.old) leaf.at leaf.len item x → SparseExtents usage.now x }
-    ensures none { result ≡ false → (item : List ℕ) (x : Extents) → LiesAt (C.has cells.old) leaf.at leaf.len item x → ¬ SparseExtents usage.now x }
+    ensures tells { TellsSparse (C.has cells.old) usage.now leaf.at leaf.len result }
     ensures end { result ≡ true → trail.new.end ≡ 504 }
     ensures indices { trail.new.indices ≡ trail.old.indices }
 {
@@ -121,4 +120,140 @@ pub fn ends_at_leaf<C: CellRead>(
         trail.end = NO_OFFSET;
     }
     sparse
+}
+
+/// So many nodes are passed before a path is given up.
+const MOST_NODES: u32 = 300;
+
+/// A way down: the path from the root to a node, of so many steps, and what it is to go on along.
+#[derive(Clone, Copy)]
+struct Course {
+    gone: Path,
+    steps: u32,
+    on: Path,
+}
+
+impl Course {
+    /// From the root along a path.
+    fn along(path: Path) -> Course {
+        Course {
+            gone: Path::none(),
+            steps: 0,
+            on: path,
+        }
+    }
+
+    /// It goes on to the twig of a position, and along a path from there.
+    fn to(self, position: u8, on: Path) -> Course {
+        Course {
+            gone: self.gone.then(self.steps, position),
+            steps: self.steps.saturating_add(1),
+            on,
+        }
+    }
+}
+
+/// What a walk may pass yet, and the path of the leaf that it passed last. That leads past all twigs above the leaf, and doesn't fork.
+#[derive(Clone, Copy)]
+struct Search {
+    nodes: u32,
+    leaf: Path,
+}
+
+/// The twigs that a path goes on to: those before `end` from `first` on, which has a position.
+#[derive(Clone, Copy)]
+struct Onward {
+    first: u32,
+    end: u32,
+    position: u8,
+    path: Path,
+}
+
+/// Which twigs of a branch a path goes on to.
+fn twigs_on(branch: Branch, path: Path) -> Onward
+    ensures { result.end ≤ count_ones branch.bitmap }
+{
+    match descent_on(Node::Branch(branch), path) {
+        Some(descent) => Onward {
+            first: descent.index,
+            end: descent.index + 1,
+            position: path.first().unwrap_or(0),
+            path: path.rest(),
+        },
+        None => Onward {
+            first: 0,
+            end: branch.twig_count(),
+            position: position_from(branch, 0),
+            path: Path::none(),
+        },
+    }
+}
+
+/// Goes down from a node on a course, to the last node whose twigs, or some extent of whose item, lie in a sparse chunk; the trail then leads
+/// there, and the leaf that was passed last lies there or below. The walk passes no more than so many nodes. Offsets are at least `low`.
+fn last_below<C: CellRead>(
+    cells: &mut C,
+    usage: &Usage,
+    trail: &mut Trail,
+    node: Cell,
+    low: u16,
+    course: Course,
+    search: &mut Search,
+) -> bool
+    requires top { (t : Tree) × IsTop (C.has cells.old) low node t }
+    requires low { low ≤ 504 }
+    ensures kept { TrailKept cells.old cells.new low trail.old trail.new }
+    ensures found { result ≡ true → FoundBelow (C.has cells.old) usage.now low node trail.new }
+{
+    if search.nodes == 0 {
+        return false;
+    }
+    search.nodes -= 1;
+    match Node::of(node) {
+        Node::Leaf(leaf) => {
+            search.leaf = course.gone;
+            ends_at_leaf(cells, usage, trail, leaf)
+        }
+        Node::Branch(branch) => {
+            let on = twigs_on(branch, course.on);
+            let mut position = on.position;
+            for i in on.first..on.end {
+                trail.take(branch.offset, i);
+                let twig = cells.cell(branch.twigs + i);
+                let next = course.to(position, on.path);
+                if last_below(cells, usage, trail, twig, branch.offset + 1, next, search) {
+                    return true;
+                }
+                position = position_from(branch, position.saturating_add(1));
+            }
+            let sparse = is_chunk_sparse(usage, chunk_of(branch.twigs));
+            if sparse {
+                trail.end = branch.offset;
+            }
+            sparse
+        }
+    }
+}
+
+/// The same from the cell of a root along a path, and that of the leaf is told.
+pub fn last_sparse<C: CellRead>(
+    cells: &mut C,
+    usage: &Usage,
+    trail: &mut Trail,
+    top: Cell,
+    path: Path,
+    leaf: &mut Path,
+) -> bool
+    requires { (t : Tree) × IsTop (C.has cells.old) 0 top t }
+    ensures same { cells.new ≡ cells.old }
+    ensures found { result ≡ true → (t : Tree) → IsTop (C.has cells.old) 0 top t → Found usage.now trail.new t }
+{
+    let mut search = Search {
+        nodes: MOST_NODES,
+        leaf: path,
+    };
+    let course = Course::along(path);
+    let found = last_below(cells, usage, trail, top, 0, course, &mut search);
+    *leaf = search.leaf;
+    found
 }

@@ -1,21 +1,16 @@
 -- What lies in sparse chunks, moved on lent cells, as the seat that lent them knows it.
-use Rattle.std.proofs.Common.{◌≡◌, ℕ, ◌+◌, ◌/◌, ◌≤◌, nat_lt, Bool, true, false, not, cond, ◌&&◌, List, [], ◌∷◌, length, slice_index, Option, refl, sym, arith}
+use Rattle.std.proofs.Common.{◌≡◌, ℕ, ◌≤◌, nat_lt, Bool, true, false, not, cond, ◌&&◌, List, [], ◌∷◌, length, slice_index, Option, refl, sym, arith}
 use Rattle.std.specs.Prelude.{count_by}
 use Rattle.std.specs.List.{range_with_len}
 use Rattle.std.proofs.lemmas.Bool.{true≢false}
 use Rattle.std.proofs.lemmas.Bool.Decides.{nat_tests}
 use Rattle.std.proofs.lemmas.List.Sums.{sum_by-cons}
-use Rattle.trie_model.specs.Keys.{Entry}
-use Rattle.trie_model.specs.Shape.{cells}
 use Rattle.chunk_usage.specs.Counting.{is_low, is_sparse, sparse_count}
-use Rattle.chunk_usage.specs.Ledger.{Ledger, IsLedger, free_count, is_given, is_bump, is_used}
-use Rattle.chunk_usage.specs.Rooms.{account_of, reserve_account_of}
-use Rattle.trie_space.specs.Spaces.{Ready, Fenced}
-use Rattle.trie_space.specs.Standing.{Standing}
+use Rattle.chunk_usage.specs.Ledger.{Ledger, IsLedger, is_given, is_bump}
+use Rattle.chunk_usage.specs.Rooms.{account_of}
 use Rattle.evacuate.specs.declared.evacuation.Done.{Done}
-use Rattle.evacuate.specs.declared.evacuation.Done.TheVariants.{Whole, Stopped}
-use Rattle.evacuate.specs.Evacuations.{FillsNew, IsCleared, IsDense, HasSparse, refused}
-use Rattle.evacuate.specs.Fillings.{IsUsedUp}
+use Rattle.evacuate.specs.Evacuations.{CarriesTrie, EmptiesChunks, IsDense}
+use Rattle.evacuate.specs.Moving.{LeavesRest}
 use Rattle.shared_cells.specs.Cells.{Cells, given_chunks, kept_references, HasCell}
 use Rattle.qp_multi.specs.Passes.{Known}
 use Rattle.qp_multi.specs.Movings.{Moved, is_thin, FewThin}
@@ -78,24 +73,21 @@ thin_dense most u dense = let a = count_none (is_thin u) none (range_with_len 0 
 
 -- ---- the cells were lent by a seat that knew so much, and came back as they are now
 
-pub leaves_moved : {first lent : Cells} {u n : Ledger} → Fenced HasCell kept_references given_chunks reserve_account_of first u lent n → Ready kept_references given_chunks account_of lent n → Leaves first lent u n
-leaves_moved frame ready = record { given_stays = frame.given_stays; opens = frame.opens; grows = frame.grows; last = frame.last; meets = frame.meets; same = ready.same }
+pub leaves_moved : {first lent : Cells} {u n : Ledger} → LeavesRest HasCell kept_references given_chunks account_of first u lent n → Leaves first lent u n
+leaves_moved rest = let f = rest.frame in record { given_stays = f.given_stays; opens = f.opens; grows = f.grows; last = f.last; meets = f.meets; same = rest.ready.same }
 
 -- the trie stands for the same entries
-pub moved_of : {first lent : Cells} {v w : Known} {u n : Ledger} {count : ℕ} → Returned first lent v w u n count → (root new : Option ℕ) (done : Done) → IsLedger n
-    → ((es : List Entry) → Standing (HasCell first) (is_used u) (slice_index u.live) root es → Standing (HasCell lent) (is_used n) (slice_index n.live) new es)
-    → (IsCleared u → n ≡ u) → FillsNew u n → (done ≡ Whole → IsDense n) → (done ≡ Stopped → IsUsedUp n) → (done ≡ Stopped → HasSparse n)
-    → ((es : List Entry) → Standing (HasCell first) (is_used u) (slice_index u.live) root es → free_count u + refused done ≤ free_count n + (cells es / 769 + 1)) → Moved root v u w n new done
-moved_of l root new done known stands none fills whole stopped some asks = record {
-  stands = λ es s. let h = entered l root es s in left l new es (record { stands = stands es h.stands; tells = h.tells });
+pub moved_of : {first lent : Cells} {v w : Known} {u n : Ledger} {count : ℕ} → Returned first lent v w u n count → (root new : Option ℕ) (done : Done) → IsLedger n → CarriesTrie HasCell first u root lent n new done → EmptiesChunks u n done → Moved root v u w n new done
+moved_of l root new done known trie chunks = record {
+  stands = λ es s. let h = entered l root es s in left l new es (record { stands = trie.stands es h.stands; tells = h.tells });
   same = words_seat l;
   evacuates = record {
     ledger = known;
     grown = grown_now l;
-    fills = fills;
-    none = none;
-    whole = whole;
-    stopped = λ e. (stopped e, some e);
+    fills = chunks.fills;
+    none = chunks.none;
+    whole = chunks.whole;
+    stopped = λ e. (chunks.stopped e, chunks.left e);
   };
-  asks = λ es s. asks es (entered l root es s).stands;
+  asks = λ es s. trie.asks es (entered l root es s).stands;
 }

@@ -172,6 +172,8 @@ impl Draft {
     }
 
     // Makes room, moves what lies in sparse chunks, for which the reserve is there, and makes room again; then it tries the operation.
+    // The first round frees chunks that the evacuation can move into, the second those that it emptied. Readers may leave at any time, so each
+    // round asks anew, and what a refusal tells is of the last one.
     fn change_at_last<L: Law>(
         self,
         shared: &Shared<Version, Operations, Meaning<L>>,

@@ -120,6 +120,9 @@ impl<O, E> PinnedSeat<O, E> {
 }
 
 /// Enters, looks and settles. The answer is the pin.
+///
+/// The pass says that it enters before it loads the current version, and who publishes stores that before it looks at passes: so one of both
+/// sees the other. Were the version loaded first, it could be dropped before the pin stands.
 fn take_pin<O, E, L: Law<O, E>>(
     shared: &Shared<O, E, L>,
     place: &mut Place<O, E>,

@@ -137,6 +137,9 @@ fn make_round<O, E, L: Law<O, E>>(
 
 /// Marks a pass as idle or pinned by its pin, which is answered. One that is about to look is pinned at the current version,
 /// of this word, unless it went on by itself.
+///
+/// A round doesn't wait for a pass that has entered, which may have lost its processor. It pins it at the current version, which is kept anyway;
+/// the pass's own exchange fails then, and it reads that one.
 fn mark_pass<O, E, L: Law<O, E>>(
     shared: &Shared<O, E, L>,
     place: &mut Place<O, E>,

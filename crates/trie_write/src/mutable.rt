@@ -165,6 +165,8 @@ fn last_mutable<C: CellWrite, U: Space>(
 }
 
 /// A root that may be written stays: the way is made mutable from its last mutable cell on.
+///
+/// One cell in use is written, when all copies are made. Nothing leads to these until then, so where there is no room the trie is as it was.
 fn open_below<C: CellWrite, U: Space>(
     cells: &mut C,
     usage: &mut U,

@@ -37,6 +37,8 @@ fn nearest<C: CellRead>(cells: &mut C, node: Cell, low: u16, key: &Key) -> Leaf
 }
 
 /// The index of the key's twig, or of the first where it has none.
+///
+/// Any twig would do where the key has none: all keys below a branch agree before its offset, so the key parts from each at the same position.
 fn way(branch: Branch, key: &Key) -> u32
     requires { IsKey key.now }
     ensures present { bit_at branch.bitmap (at key.now branch.offset) ≡ 1 → result ≡ count_ones (branch.bitmap % 2 ^ at key.now branch.offset) }

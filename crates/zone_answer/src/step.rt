@@ -276,6 +276,7 @@ pub fn step<V: Reading, S: RowSink>(
         → Gives (step origin.now zone rtype name.now) (S.has rows.old) (S.has rows.new) walker.new.target result }
 {
     walker.key.set(name);
+    // Right under the origin no cut lies above, so a look-up without a path is enough; where it finds nothing the walk begins anew.
     match give_there(
         alloc,
         version,

@@ -12,6 +12,9 @@ use chunk_sets::ChunkSet;
 impl Usage {
     /// Gives back each given chunk that isn't the bump chunk and wasn't it at the last freeze, has no live cell and is in no kept
     /// version's chunk set. Tells how many.
+    ///
+    /// Each reason is of another moment: counts are of the working set, chunk sets of versions that are read, the bump chunk of what is handed
+    /// out next, and the bump chunk of the last freeze of where a rollback goes on.
     pub fn free_unreached<C: CellWrite>(&mut self, cells: &mut C) -> u32
         requires same { C.given cells.old ≡ self.old.given }
         requires in_rows { (q : ℕ) → Contains (C.kept cells.old) q → is_in_rows self.old.rows (q / 1024) ≡ true }

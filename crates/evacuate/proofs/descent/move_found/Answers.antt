@@ -1,26 +1,46 @@
-use Rattle.std.proofs.Common.{arith}
-use Rattle.evacuate.proofs.DescentLaws.{by_err, reached_hung, reached_due}
-use Rattle.evacuate.proofs.RearrangeLaws.{found_moved}
+use Rattle.std.proofs.Common.{sym, subst}
+use Rattle.evacuate.specs.Evacuations.{HasSparse}
+use Rattle.evacuate.proofs.DescentLaws.{by_err}
+use Rattle.evacuate.proofs.RearrangeLaws.{fewer_found, fewer_row, found_can, found_due, found_item, found_left, found_row, rearranged_same, rearranged_then}
 use Rattle.evacuate.proofs.descent.move_found.Goals as goal
 
-pub move_spot-requires : goal.move_spot-requires
-move_spot-requires g c = record { hung = reached_hung (c.in_ok-spot.ensures.reached _ _ c.requires.can.stands.stood); writable = c.in_ok-spot.ensures.writable; ready = c.in_ok-spot.ensures.rearranged.ready }
+pub move_item-requires : goal.move_item-requires
+move_item-requires g c = found_can c.in_ok-spot.ensures.rearranged c.in_ok-spot.ensures.reached.reached c.requires.can.stands c.in-Leaf.is c.in_ok-spot.ensures.reached.writable
 
-pub returns-in_err-move_spot-clause-rearranged : goal.returns-in_err-move_spot-clause-rearranged
-returns-in_err-move_spot-clause-rearranged g c =
-    found_moved c.in_ok-spot.ensures.rearranged c.requires.can.stands c.in_ok-spot.ensures.reached c.move_spot.ensures.stood c.move_spot.ensures.moves c.move_spot.ensures.frame c.move_spot.ensures.ready
+pub returns-in_err-move_item-in-Leaf-clause-rearranged : goal.returns-in_err-move_item-in-Leaf-clause-rearranged
+returns-in_err-move_item-in-Leaf-clause-rearranged g c = found_item c.in_ok-spot.ensures.rearranged c.in_ok-spot.ensures.reached.reached c.requires.can.stands c.in-Leaf.is c.move_item.ensures.rearranged
 
-pub returns-in_err-move_spot-clause-left : goal.returns-in_err-move_spot-clause-left
-returns-in_err-move_spot-clause-left g c = by_err c.from_residual-in_err-move_spot.result (λ given fills.
-    let x = c.in_ok-spot.ensures.reached _ _ c.requires.can.stands.stood in
-    c.in_err-move_spot.ensures.left (reached_due x (c.in_ok-spot.ensures.rearranged.moves given fills)))
+pub returns-in_err-move_item-in-Leaf-clause-short : goal.returns-in_err-move_item-in-Leaf-clause-short
+returns-in_err-move_item-in-Leaf-clause-short g c =
+    let no = c.in_err-move_item-in-Leaf.ensures in
+    by_err c.from_residual-in_err-move_item-in-Leaf.result (record { full = no.full; left = λ old fills. no.left (found_due c.in_ok-spot.ensures.rearranged c.in_ok-spot.ensures.reached.reached c.requires.can.stands c.in-Leaf.is old fills) })
 
-pub returns-clause-rearranged : goal.returns-clause-rearranged
-returns-clause-rearranged g c =
-    found_moved c.in_ok-spot.ensures.rearranged c.requires.can.stands c.in_ok-spot.ensures.reached c.move_spot.ensures.stood c.move_spot.ensures.moves c.move_spot.ensures.frame c.move_spot.ensures.ready
+pub returns-in_ok-move_item-in-Leaf-clause-rearranged : goal.returns-in_ok-move_item-in-Leaf-clause-rearranged
+returns-in_ok-move_item-in-Leaf-clause-rearranged g c = found_item c.in_ok-spot.ensures.rearranged c.in_ok-spot.ensures.reached.reached c.requires.can.stands c.in-Leaf.is c.move_item.ensures.rearranged
 
-pub returns-clause-less : goal.returns-clause-less
-returns-clause-less g c given fills =
-    let x = c.in_ok-spot.ensures.reached _ _ c.requires.can.stands.stood in
-    let m = c.in_ok-spot.ensures.rearranged.moves given fills in
-    let l = c.in_ok-move_spot.ensures.less (reached_due x m) given m.fills in let f = m.fewer in omega arith
+pub returns-in_ok-move_item-in-Leaf-clause-less : goal.returns-in_ok-move_item-in-Leaf-clause-less
+returns-in_ok-move_item-in-Leaf-clause-less g c = fewer_found c.in_ok-spot.ensures.rearranged c.in_ok-spot.ensures.reached.reached c.requires.can.stands c.in-Leaf.is c.in_ok-move_item-in-Leaf.ensures.less
+
+pub move_node-requires : goal.move_node-requires
+move_node-requires g c = found_can c.in_ok-spot.ensures.rearranged c.in_ok-spot.ensures.reached.reached c.requires.can.stands c.in-Branch.is c.in_ok-spot.ensures.reached.writable
+
+pub returns-in_err-move_node-in-Branch-clause-rearranged : goal.returns-in_err-move_node-in-Branch-clause-rearranged
+returns-in_err-move_node-in-Branch-clause-rearranged g c =
+    let stays = c.in_err-move_node-in-Branch.ensures.unmoved in
+    let a = c.in_ok-spot.ensures.rearranged in rearranged_then a (rearranged_same stays.same stays.unchanged a.cells.ready)
+
+pub returns-in_err-move_node-in-Branch-clause-short : goal.returns-in_err-move_node-in-Branch-clause-short
+returns-in_err-move_node-in-Branch-clause-short g c =
+    let stays = c.in_err-move_node-in-Branch.ensures.unmoved in
+    by_err c.from_residual-in_err-move_node-in-Branch.result (record {
+      full = stays.full;
+      left = λ old fills. subst HasSparse (sym stays.unchanged) (found_left c.in_ok-spot.ensures.rearranged c.in_ok-spot.ensures.reached.reached c.requires.can.stands c.in-Branch.is old fills);
+    })
+
+pub returns-in_ok-move_node-in-Branch-clause-rearranged : goal.returns-in_ok-move_node-in-Branch-clause-rearranged
+returns-in_ok-move_node-in-Branch-clause-rearranged g c =
+    let m = c.in_ok-move_node-in-Branch.ensures in
+    found_row c.in_ok-spot.ensures.rearranged c.in_ok-spot.ensures.reached.reached c.requires.can.stands c.in-Branch.branch c.in-Branch.is m.moved m.rest
+
+pub returns-in_ok-move_node-in-Branch-clause-less : goal.returns-in_ok-move_node-in-Branch-clause-less
+returns-in_ok-move_node-in-Branch-clause-less g c = fewer_row c.in_ok-spot.ensures.rearranged c.in_ok-spot.ensures.reached.reached c.requires.can.stands c.in-Branch.branch c.in-Branch.is c.in_ok-move_node-in-Branch.ensures.moved

@@ -1,13 +1,12 @@
-use Rattle.std.proofs.Common.{inr, Fits-lit, arith, sym, ◌∙◌, ap, subst}
+use Rattle.std.proofs.Common.{inr, Fits-lit, arith, refl, sym, ◌∙◌, ap, subst}
 use Rattle.std.proofs.Math.Facts.{Fits-lt}
 use Rattle.chunk_usage.specs.Rooms.{reserve_account_of}
-use Rattle.trie_space.specs.Spaces.{Fenced, IsWritable}
+use Rattle.trie_space.specs.Spaces.{IsWritable}
 use Rattle.trie_space.specs.Ways.{plug}
-use Rattle.trie_space.proofs.SpaceLaws.{frame_refl, fenced_of, fenced_then, ready_put}
 use Rattle.evacuate.specs.Evacuations.{HasSparse}
 use Rattle.evacuate.specs.Places.{first_of, width_of}
 use Rattle.evacuate.specs.Trails.{Underway}
-use Rattle.evacuate.proofs.FillingLaws.{moves_none, moves_then}
+use Rattle.evacuate.proofs.MovingLaws.{cells_same, cells_then}
 use Rattle.evacuate.proofs.DescentLaws.{begins, by_err, hung_there, hung_says, hung_read, underway_first, underway_hung, branch_node_is, early, index_inside, further_there, further_says, underway_further, underway_left, fewer_places, reached_here}
 use Rattle.evacuate.proofs.RearrangeLaws.{rearranged_same, rearranged_then, underway_ends}
 use Rattle.evacuate.proofs.TreeLaws.{hung_cells}
@@ -23,9 +22,7 @@ loop-branch-init g c = record {
       subst (λ s. Underway g.C.CellRead.has c.args.usage.now c.args.trail.now s c.args.usage.now c.args.root c.args.root es c.of-node.result) (sym c.cell.ensures.same)
       (underway_first stood (c.requires.found es t stood) (hung_read h (c.cell.ensures.value _ (hung_there h)) c.of-node.ensures.back));
   writable = subst (λ s. IsWritable g.C.CellWrite.given reserve_account_of s c.args.usage.now c.args.root) (sym c.cell.ensures.same) c.requires.can.writable;
-  moves = λ given fills. moves_none given c.args.usage.now fills;
-  frame = subst (λ s. Fenced g.C.CellRead.has g.C.CellWrite.kept g.C.CellWrite.given reserve_account_of c.args.cells.now c.args.usage.now s c.args.usage.now) (sym c.cell.ensures.same) (fenced_of (frame_refl c.args.cells.now c.args.usage.now));
-  ready = ready_put c.requires.can.ready (ap g.C.CellWrite.given c.cell.ensures.same) (ap g.C.CellWrite.kept c.cell.ensures.same);
+  cells = cells_same c.cell.ensures.same refl c.requires.can.ready;
 }
 
 pub index_at-index-requires : goal.index_at-index-requires
@@ -56,37 +53,38 @@ pass-requires-clause-may_pass g c = record {
 pub pass-requires-clause-can : goal.pass-requires-clause-can
 pass-requires-clause-can g c =
     let i = c.loop-branch.invariant in
-    record { hung = underway_hung (i.way _ _ c.requires.can.stands.stood) c.in-Some.ensures.branch; writable = i.writable; ready = i.ready }
+    record { hung = underway_hung (i.way _ _ c.requires.can.stands.stood) c.in-Some.ensures.branch; writable = i.writable; ready = i.cells.ready }
 
 pub returns-in_err-at-clause-rearranged : goal.returns-in_err-at-clause-rearranged
 returns-in_err-at-clause-rearranged g c =
     let i = c.loop-branch.invariant in
-    rearranged_then (underway_ends i.way i.moves i.frame i.ready) (rearranged_same c.in_err-at.ensures.unmoved.same c.in_err-at.ensures.unmoved.unchanged i.ready)
+    rearranged_then (underway_ends i.way i.cells) (rearranged_same c.in_err-at.ensures.unmoved.same c.in_err-at.ensures.unmoved.unchanged i.cells.ready)
 
-pub returns-in_err-at-clause-left : goal.returns-in_err-at-clause-left
-returns-in_err-at-clause-left g c = by_err c.from_residual.result (λ given fills.
+pub returns-in_err-at-clause-short : goal.returns-in_err-at-clause-short
+returns-in_err-at-clause-short g c =
     let u = c.loop-branch.invariant.way _ _ c.requires.can.stands.stood in
-    subst HasSparse (sym c.in_err-at.ensures.unmoved.unchanged) (underway_left u (c.loop-branch.invariant.moves given fills)))
+    let stays = c.in_err-at.ensures.unmoved in
+    by_err c.from_residual.result (record { full = stays.full; left = λ given fills. subst HasSparse (sym stays.unchanged) (underway_left u (c.loop-branch.invariant.cells.moves given fills)) })
 
 pub cell-requires-in-Some : goal.cell-requires-in-Some
 cell-requires-in-Some g c =
     let u = c.loop-branch.invariant.way _ _ c.requires.can.stands.stood in
     let b = c.in-Some.branch in
-    let w = c.in_ok-at.ensures.hung c.args.root c.requires.can.stands.es u.upper (plug u.rest u.end) u.hung (branch_node_is u b c.in-Some.ensures.branch c.in-Some.ensures.before) in
+    let w = c.in_ok-at.ensures.passed.hung c.args.root c.requires.can.stands.es u.upper (plug u.rest u.end) u.hung (branch_node_is u b c.in-Some.ensures.branch c.in-Some.ensures.before) in
     record { there = (_, further_there u b c.in-Some.ensures.branch c.in-Some.ensures.before c.index_at-index.ensures w) }
 
 pub of-node-requires-in-Some : goal.of-node-requires-in-Some
 of-node-requires-in-Some g c =
     let u = c.loop-branch.invariant.way _ _ c.requires.can.stands.stood in
     let b = c.in-Some.branch in
-    let w = c.in_ok-at.ensures.hung c.args.root c.requires.can.stands.es u.upper (plug u.rest u.end) u.hung (branch_node_is u b c.in-Some.ensures.branch c.in-Some.ensures.before) in
+    let w = c.in_ok-at.ensures.passed.hung c.args.root c.requires.can.stands.es u.upper (plug u.rest u.end) u.hung (branch_node_is u b c.in-Some.ensures.branch c.in-Some.ensures.before) in
     further_says u b c.in-Some.ensures.branch c.in-Some.ensures.before c.index_at-index.ensures w (c.cell-in-Some.ensures.value _ (further_there u b c.in-Some.ensures.branch c.in-Some.ensures.before c.index_at-index.ensures w))
 
 pub loop-branch-smaller : goal.loop-branch-smaller
 loop-branch-smaller g c =
     let u = c.loop-branch.invariant.way _ _ c.requires.can.stands.stood in
     let b = c.in-Some.branch in
-    let w = c.in_ok-at.ensures.hung c.args.root c.requires.can.stands.es u.upper (plug u.rest u.end) u.hung (branch_node_is u b c.in-Some.ensures.branch c.in-Some.ensures.before) in
+    let w = c.in_ok-at.ensures.passed.hung c.args.root c.requires.can.stands.es u.upper (plug u.rest u.end) u.hung (branch_node_is u b c.in-Some.ensures.branch c.in-Some.ensures.before) in
     fewer_places u b c.in-Some.ensures.branch c.in-Some.ensures.before c.index_at-index.ensures w (c.cell-in-Some.ensures.value _ (further_there u b c.in-Some.ensures.branch c.in-Some.ensures.before c.index_at-index.ensures w)) c.of-node-in-Some.ensures.back
 
 pub loop-branch-preserved : goal.loop-branch-preserved
@@ -94,16 +92,14 @@ loop-branch-preserved g c = record {
   way = λ es t stood.
       let u = c.loop-branch.invariant.way es t stood in
       let b = c.in-Some.branch in
-      let w = c.in_ok-at.ensures.hung c.args.root es u.upper (plug u.rest u.end) u.hung (branch_node_is u b c.in-Some.ensures.branch c.in-Some.ensures.before) in
+      let w = c.in_ok-at.ensures.passed.hung c.args.root es u.upper (plug u.rest u.end) u.hung (branch_node_is u b c.in-Some.ensures.branch c.in-Some.ensures.before) in
       underway_further u b c.in-Some.ensures.branch c.in-Some.ensures.before c.index_at-index.ensures w c.cell-in-Some.ensures.same (c.cell-in-Some.ensures.value _ (further_there u b c.in-Some.ensures.branch c.in-Some.ensures.before c.index_at-index.ensures w)) c.of-node-in-Some.ensures.back;
-  writable = subst (λ s. IsWritable g.C.CellWrite.given reserve_account_of s c.pass.new.usage c.in_ok-at.at) (sym c.cell-in-Some.ensures.same) c.in_ok-at.ensures.writable;
-  moves = λ given fills. let m = c.loop-branch.invariant.moves given fills in moves_then m (c.in_ok-at.ensures.moves given m.fills);
-  frame = subst (λ s. Fenced g.C.CellRead.has g.C.CellWrite.kept g.C.CellWrite.given reserve_account_of c.args.cells.now c.args.usage.now s c.pass.new.usage) (sym c.cell-in-Some.ensures.same) (fenced_then c.loop-branch.invariant.frame c.in_ok-at.ensures.frame);
-  ready = ready_put c.in_ok-at.ensures.ready (ap g.C.CellWrite.given c.cell-in-Some.ensures.same) (ap g.C.CellWrite.kept c.cell-in-Some.ensures.same);
+  writable = subst (λ s. IsWritable g.C.CellWrite.given reserve_account_of s c.pass.new.usage c.in_ok-at.at) (sym c.cell-in-Some.ensures.same) c.in_ok-at.ensures.passed.writable;
+  cells = let p = c.in_ok-at.ensures.cells in cells_then (cells_then c.loop-branch.invariant.cells p) (cells_same c.cell-in-Some.ensures.same refl p.ready);
 }
 
 pub returns-clause-reached : goal.returns-clause-reached
-returns-clause-reached g c es t stood = reached_here (c.loop-branch.invariant.way es t stood) (c.branch_before.ensures.none c.in_default.is)
+returns-clause-reached g c = record { reached = λ es t stood. reached_here (c.loop-branch.invariant.way es t stood) (c.branch_before.ensures.none c.in_default.is); writable = c.loop-branch.invariant.writable }
 
 pub returns-clause-rearranged : goal.returns-clause-rearranged
-returns-clause-rearranged g c = let i = c.loop-branch.invariant in underway_ends i.way i.moves i.frame i.ready
+returns-clause-rearranged g c = let i = c.loop-branch.invariant in underway_ends i.way i.cells

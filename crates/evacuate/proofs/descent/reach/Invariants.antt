@@ -1,10 +1,10 @@
-use Rattle.std.proofs.Common.{Bool, List}
+use Rattle.std.proofs.Common.{List}
 use Rattle.trie_model.specs.Keys.{Entry}
 use Rattle.trie_model.specs.Trees.{Tree}
 use Rattle.trie_model.proofs.NodeLaws.{places_left}
 use Rattle.chunk_usage.specs.Rooms.{reserve_account_of}
-use Rattle.trie_space.specs.Spaces.{Ready, Fenced, IsWritable}
-use Rattle.evacuate.specs.Fillings.{Fills, Moves}
+use Rattle.trie_space.specs.Spaces.{IsWritable}
+use Rattle.evacuate.specs.Moving.{MovesCells}
 use Rattle.evacuate.specs.Places.{Stood}
 use Rattle.evacuate.specs.Trails.{Underway}
 use Rattle.evacuate.proofs.descent.reach.Given as goal
@@ -14,9 +14,7 @@ invariant-loop-branch g l =
     record {
       way : (es : List Entry) (t : Tree) → Stood g.C.CellRead.has l.fn.cells l.fn.usage l.fn.root es t → Underway g.C.CellRead.has l.fn.usage l.trail l.cells l.usage l.fn.root l.at es l.node;
       writable : IsWritable g.C.CellWrite.given reserve_account_of l.cells l.usage l.at;
-      moves : (given : List Bool) → Fills given l.fn.usage → Moves given 0 l.fn.usage l.usage;
-      frame : Fenced g.C.CellRead.has g.C.CellWrite.kept g.C.CellWrite.given reserve_account_of l.fn.cells l.fn.usage l.cells l.usage;
-      ready : Ready g.C.CellWrite.kept g.C.CellWrite.given reserve_account_of l.cells l.usage;
+      cells : MovesCells g.C.CellRead.has g.C.CellWrite.kept g.C.CellWrite.given l.fn.cells l.fn.usage l.cells l.usage;
     }
 
 abbrev pub decreases-loop-branch : goal.decreases-loop-branch

@@ -10,9 +10,9 @@ pub try_lists-requires : goal.try_lists-requires
 try_lists-requires g c = can_read c.survey.ensures.cells c.survey.ensures.usage (can_again c.known_lists.ensures.rearranged c.requires)
 
 pub returns-in-None-clause-rearranged : goal.returns-in-None-clause-rearranged
-returns-in-None-clause-rearranged g c = rearranged_then c.known_lists.ensures.rearranged (rearranged_then (rearranged_same c.survey.ensures.cells c.survey.ensures.usage c.known_lists.ensures.rearranged.ready) c.try_lists.ensures.rearranged)
+returns-in-None-clause-rearranged g c = rearranged_then c.known_lists.ensures.rearranged (rearranged_then (rearranged_same c.survey.ensures.cells c.survey.ensures.usage c.known_lists.ensures.rearranged.cells.ready) c.try_lists.ensures.rearranged)
 
 pub returns-in-None-clause-ended : goal.returns-in-None-clause-ended
 returns-in-None-clause-ended g c =
     let end = c.try_lists.ensures.ended in
-    record { whole = end.whole; full = end.full; left = λ e given fills. end.left e given (subst (Fills given) (sym c.survey.ensures.usage) (c.known_lists.ensures.rearranged.moves given fills).fills) }
+    record { whole = end.whole; full = end.full; left = λ e given fills. end.left e given (subst (Fills given) (sym c.survey.ensures.usage) (c.known_lists.ensures.rearranged.cells.moves given fills).fills) }

@@ -22,52 +22,54 @@ copy_out-requires g c =
     let first = goes_behind c.requires.goes.goes refl refl in
     let e = c.next_extent-from.ensures.next _ first.link first.inside in
     let b = goes_behind (goes_same c.next_extent-from.ensures.same c.requires.goes.goes) e c.first_extent_for-n.ensures in
-    record { some = b.row.some; few = b.row.few; row = b.row.row; there = b.there; in_use = b.in_use; ready = ready_put c.requires.ready (ap g.C.CellWrite.given c.next_extent-from.ensures.same) (ap g.C.CellWrite.kept c.next_extent-from.ensures.same) }
+    record { length = record { some = b.row.some; few = b.row.few }; row = b.row.row; there = b.there; in_use = b.in_use; ready = ready_put c.requires.ready (ap g.C.CellWrite.given c.next_extent-from.ensures.same) (ap g.C.CellWrite.kept c.next_extent-from.ensures.same) }
 
 pub link_of-requires : goal.link_of-requires
 link_of-requires g c = let b = goes_behind c.requires.goes.goes refl refl in let i = b.here.inside in let k = linked_is in omega arith
 
 pub put-requires : goal.put-requires
 put-requires g c =
-    let f = c.in_ok-to.ensures.frame in
+    let f = c.in_ok-to.ensures.takes.frame in
     let w = subst (IsWritable g.C.CellWrite.given reserve_account_of c.next_extent-from.new.cells c.args.usage.now) (sym c.link_of.ensures)
     (subst (λ s. IsWritable g.C.CellWrite.given reserve_account_of s c.args.usage.now (c.args.at + 255)) (sym c.next_extent-from.ensures.same) c.requires.writable) in
-    record { given = f.given_stays (c.link_of.result / 1024) w.in_given; unkept = slot_open (writable_later w f.grows f.given_stays) c.in_ok-to.ensures.ready }
+    record { given = f.given_stays (c.link_of.result / 1024) w.in_given; unkept = slot_open (writable_later w f.grows f.given_stays) c.in_ok-to.ensures.takes.ready }
 
 pub release-requires : goal.release-requires
 release-requires g c =
     let first = goes_behind c.requires.goes.goes refl refl in
     let e = c.next_extent-from.ensures.next _ first.link first.inside in
     let b = goes_behind c.requires.goes.goes e c.first_extent_for-n.ensures in
-    record { counted = later_counted c.args.usage.now c.copy_out.new.usage (c.next_extent-from.result / 1024) c.in_ok-to.ensures.handed b.counted; together = b.row.row.together }
+    record { counted = later_counted c.args.usage.now c.copy_out.new.usage (c.next_extent-from.result / 1024) c.in_ok-to.ensures.copied.handed b.counted; together = b.row.row.together }
 
-pub returns-clause-goes : goal.returns-clause-goes
-returns-clause-goes g c r es way e front rest goes =
-    let first = goes_behind goes refl refl in
-    let from = c.next_extent-from.ensures.next _ first.link first.inside in
-    goes_moved (goes_same c.next_extent-from.ensures.same goes) from c.first_extent_for-n.ensures c.in_ok-to.ensures.handed c.in_ok-to.ensures.frame c.in_ok-to.ensures.copied c.link_to.ensures c.link_of.ensures c.put.ensures.written c.put.ensures.others c.release.ensures
+pub returns-clause-moved : goal.returns-clause-moved
+returns-clause-moved g c = record {
+  goes = λ r es way e front rest goes.
+      let first = goes_behind goes refl refl in
+      let from = c.next_extent-from.ensures.next _ first.link first.inside in
+      goes_moved (goes_same c.next_extent-from.ensures.same goes) from c.first_extent_for-n.ensures c.in_ok-to.ensures.copied.handed c.in_ok-to.ensures.takes.frame c.in_ok-to.ensures.copied.copied c.link_to.ensures c.link_of.ensures c.put.ensures.written c.put.ensures.others c.release.ensures;
+  writable = λ i lt.
+      handed_writable c.args.usage.now c.copy_out.new.usage c.next_extent-from.result c.first_extent_for-n.result c.in_ok-to.ensures.copied.handed (c.put.ensures.given ∙ c.in_ok-to.ensures.takes.ready.same) c.release.ensures i (subst (λ (n : ℕ). i < n) (sym c.first_extent_for-n.ensures) lt);
+  paid = λ r es way e front rest goes given fills old.
+      let first = goes_behind goes refl refl in
+      let from = c.next_extent-from.ensures.next _ first.link first.inside in
+      let b = goes_behind goes from c.first_extent_for-n.ensures in
+      subst (λ n. Paid given n c.args.usage.now c.release.new.self) c.first_extent_for-n.ensures
+      (moves_paid c.next_extent-from.result (c.in_ok-to.ensures.takes.moves given fills) (ap (is_old given) from ∙ old) (later_counted c.args.usage.now c.copy_out.new.usage (c.next_extent-from.result / 1024) c.in_ok-to.ensures.copied.handed b.counted) c.release.ensures);
+}
 
-pub returns-clause-writable : goal.returns-clause-writable
-returns-clause-writable g c i lt =
-    handed_writable c.args.usage.now c.copy_out.new.usage c.next_extent-from.result c.first_extent_for-n.result c.in_ok-to.ensures.handed (c.put.ensures.given ∙ c.in_ok-to.ensures.ready.same) c.release.ensures i (subst (λ (n : ℕ). i < n) (sym c.first_extent_for-n.ensures) lt)
-
-pub returns-clause-paid : goal.returns-clause-paid
-returns-clause-paid g c r es way e front rest goes given fills old =
-    let first = goes_behind goes refl refl in
-    let from = c.next_extent-from.ensures.next _ first.link first.inside in
-    let b = goes_behind goes from c.first_extent_for-n.ensures in
-    subst (λ n. Paid given n c.args.usage.now c.release.new.self) c.first_extent_for-n.ensures
-    (moves_paid c.next_extent-from.result (c.in_ok-to.ensures.moves given fills) (ap (is_old given) from ∙ old) (later_counted c.args.usage.now c.copy_out.new.usage (c.next_extent-from.result / 1024) c.in_ok-to.ensures.handed b.counted) c.release.ensures)
-
-pub returns-clause-frame : goal.returns-clause-frame
-returns-clause-frame g c =
-    let f = c.in_ok-to.ensures.frame in
+pub returns-clause-rest : goal.returns-clause-rest
+returns-clause-rest g c =
+    let f = c.in_ok-to.ensures.takes.frame in
     let m = subst (λ (q : ℕ). (reserve_account_of c.copy_out.new.usage).mutable q ≡ true) (sym c.link_of.ensures) (f.grows.fresher (c.args.at + 255) c.requires.writable.mutable) in
-    fenced_same c.next_extent-from.ensures.same
-    (fenced_counts (fenced_put (fenced_of f) m c.put.ensures.others c.put.ensures.given c.put.ensures.kept) (released_rest c.copy_out.new.usage c.next_extent-from.result c.first_extent_for-n.result c.release.ensures) (released_fewer c.copy_out.new.usage c.next_extent-from.result c.first_extent_for-n.result c.release.ensures))
+    let rest = released_rest c.copy_out.new.usage c.next_extent-from.result c.first_extent_for-n.result c.release.ensures in
+    record {
+      frame = fenced_same c.next_extent-from.ensures.same
+          (fenced_counts (fenced_put (fenced_of f) m c.put.ensures.others c.put.ensures.given c.put.ensures.kept) rest (released_fewer c.copy_out.new.usage c.next_extent-from.result c.first_extent_for-n.result c.release.ensures));
+      ready = ready_counts rest (ready_put c.in_ok-to.ensures.takes.ready c.put.ensures.given c.put.ensures.kept);
+    }
 
-pub returns-clause-ready : goal.returns-clause-ready
-returns-clause-ready g c = ready_counts (released_rest c.copy_out.new.usage c.next_extent-from.result c.first_extent_for-n.result c.release.ensures) (ready_put c.in_ok-to.ensures.ready c.put.ensures.given c.put.ensures.kept)
+pub returns-in_err-to-clause-rest : goal.returns-in_err-to-clause-rest
+returns-in_err-to-clause-rest g c = let t = c.in_err-to.ensures.takes in record { frame = fenced_same c.next_extent-from.ensures.same (fenced_of t.frame); ready = t.ready }
 
 pub overflow_sub-len : goal.overflow_sub-len
 overflow_sub-len g c = let long = (goes_behind c.requires.goes.goes refl refl).long in omega arith

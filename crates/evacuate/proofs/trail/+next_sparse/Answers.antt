@@ -11,8 +11,10 @@ pub of-requires : goal.of-requires
 of-requires g t c = says c.requires.top.1
 
 pub returns-then-is_sparse-clause-found : goal.returns-then-is_sparse-clause-found
-returns-then-is_sparse-clause-found g t c e u top =
-    found_branch u c.in-Branch.branch (told_of top c.of.ensures.back c.in-Branch.is) refl (ap (is_sparse c.args.usage.now) (sym c.chunk_of-chunk.ensures) ∙ sym c.is_sparse.ensures ∙ c.if-is_sparse.true)
+returns-then-is_sparse-clause-found g t c e = record {
+  leads = λ u top. found_branch u c.in-Branch.branch (told_of top c.of.ensures.back c.in-Branch.is) refl (ap (is_sparse c.args.usage.now) (sym c.chunk_of-chunk.ensures) ∙ sym c.is_sparse.ensures ∙ c.if-is_sparse.true);
+  late = late c.requires.top.1 (told_of c.requires.top.1 c.of.ensures.back c.in-Branch.is);
+}
 
 pub cell-twig-requires : goal.cell-twig-requires
 cell-twig-requires g t c =
@@ -30,11 +32,16 @@ next_sparse-requires g t c κs within =
     (search (rules, f), (within, (n, omega arith)))
 
 pub returns-then-next_sparse-clause-found : goal.returns-then-next_sparse-clause-found
-returns-then-next_sparse-clause-found g t c e u top =
-    let b = told_of top c.of.ensures.back c.in-Branch.is in
-    let x = twig_here top b c.loop-i.i (let e = c.twig_count-i-end.ensures in let l = c.loop-i-test.true in omega arith) in
-    let n = twig_top g.C.CellRead.has x c.loop-i.invariant.kept.same c.cell-twig.ensures.same c.cell-twig.ensures.value in
-    found_below u c.in-Branch.branch b c.loop-i.i x (c.next_sparse.ensures.found c.if-next_sparse.true x.t n) (c.next_sparse.ensures.late c.if-next_sparse.true) c.next_sparse.ensures.kept c.take.ensures.taken
+returns-then-next_sparse-clause-found g t c e =
+    let f = c.next_sparse.ensures.found c.if-next_sparse.true in
+    record {
+      leads = λ u top.
+          let b = told_of top c.of.ensures.back c.in-Branch.is in
+          let x = twig_here top b c.loop-i.i (let e = c.twig_count-i-end.ensures in let l = c.loop-i-test.true in omega arith) in
+          let n = twig_top g.C.CellRead.has x c.loop-i.invariant.kept.same c.cell-twig.ensures.same c.cell-twig.ensures.value in
+          found_below u c.in-Branch.branch b c.loop-i.i x (f.leads x.t n) f.late c.next_sparse.ensures.kept c.take.ensures.taken;
+      late = let l = late c.requires.top.1 (told_of c.requires.top.1 c.of.ensures.back c.in-Branch.is) in let z = f.late in omega arith;
+    }
 
 pub loop-i-preserved : goal.loop-i-preserved
 loop-i-preserved g t c = record {
@@ -53,11 +60,14 @@ pub ends_at_leaf-requires : goal.ends_at_leaf-requires
 ends_at_leaf-requires g t c = record { there = leaf_item c.requires.top.1 (item_of c.requires.top.1 c.of.ensures.back c.in-Leaf.is) }
 
 pub returns-in-Leaf-clause-found : goal.returns-in-Leaf-clause-found
-returns-in-Leaf-clause-found g t c e u top = found_leaf u c.in-Leaf.leaf top (item_of top c.of.ensures.back c.in-Leaf.is) (c.ends_at_leaf.ensures.some e)
+returns-in-Leaf-clause-found g t c e = record {
+  leads = λ u top. found_leaf u c.in-Leaf.leaf top (item_of top c.of.ensures.back c.in-Leaf.is) (c.ends_at_leaf.ensures.tells.some e);
+  late = let z = c.ends_at_leaf.ensures.end e in let l = c.requires.low in omega arith;
+}
 
 pub returns-in-Leaf-clause-none : goal.returns-in-Leaf-clause-none
 returns-in-Leaf-clause-none g t c e off all u top k sparse =
-    clear_leaf c.args.usage.now c.args.low c.args.node u c.in-Leaf.leaf top (item_of top c.of.ensures.back c.in-Leaf.is) (c.ends_at_leaf.ensures.none e) k sparse
+    clear_leaf c.args.usage.now c.args.low c.args.node u c.in-Leaf.leaf top (item_of top c.of.ensures.back c.in-Leaf.is) (c.ends_at_leaf.ensures.tells.none e) k sparse
 
 pub returns-after-loop-i-clause-none : goal.returns-after-loop-i-clause-none
 returns-after-loop-i-clause-none g t c e off all u top k sparse =

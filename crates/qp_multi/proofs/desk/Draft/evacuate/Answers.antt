@@ -33,11 +33,11 @@ evacuate-root-requires-clause-stands g c =
 returned : (g : _) (c : goal.After-result-1 g) → Returned c.lend-cells.result c.evacuate-root.new.cells c.args.self.seat.place.me.0 c.into_joined.result.place.me.0 c.args.self.usage c.evacuate-root.new.usage c.args.self.seat.passes
 returned g c =
     let back = c.into_joined.ensures in
-    let leaves = leaves_moved {lent = c.evacuate-root.new.cells} {n = c.evacuate-root.new.usage} c.evacuate-root.ensures.frame c.evacuate-root.ensures.ready in
+    let leaves = leaves_moved {lent = c.evacuate-root.new.cells} {n = c.evacuate-root.new.usage} c.evacuate-root.ensures.rest in
     returned_of _ c.args.self.seat c.into_joined.result c.lend-cells.ensures.cells c.args.shared.now.wide c.requires.table back.cells back.seat back.size c.requires.lent c.args.self.wide leaves c.args.self.agrees
 
 moved : (g : _) (c : goal.After-result-1 g) → Moved c.args.self.root c.args.self.seat.place.me.0 c.args.self.usage c.into_joined.result.place.me.0 c.evacuate-root.new.usage c.evacuate-root.result.0 c.evacuate-root.result.1
-moved g c = let trie = c.evacuate-root.ensures in moved_of (returned g c) c.args.self.root c.evacuate-root.result.0 c.evacuate-root.result.1 c.known.ensures trie.stands trie.none trie.fills trie.whole trie.stopped trie.left trie.asks
+moved g c = moved_of (returned g c) c.args.self.root c.evacuate-root.result.0 c.evacuate-root.result.1 c.known.ensures c.evacuate-root.ensures.trie c.evacuate-root.ensures.chunks
 
 -- what the turn knows goes on
 on : (g : _) (c : goal.After-result-1 g) → GoesOn c.args.self.seat.place.me.0 c.into_joined.result.place.me.0
@@ -47,7 +47,7 @@ pub invariant_of-draft : goal.invariant_of-draft
 invariant_of-draft g c =
     let d = c.args.self in
     let back = c.into_joined.ensures in
-    let leaves = leaves_moved {lent = c.evacuate-root.new.cells} {n = c.evacuate-root.new.usage} c.evacuate-root.ensures.frame c.evacuate-root.ensures.ready in
+    let leaves = leaves_moved {lent = c.evacuate-root.new.cells} {n = c.evacuate-root.new.usage} c.evacuate-root.ensures.rest in
     let l = returned_of _ c.args.self.seat c.into_joined.result c.lend-cells.ensures.cells c.args.shared.now.wide c.requires.table back.cells back.seat back.size c.requires.lent c.args.self.wide leaves c.args.self.agrees in
     record {
       wide = wide_back d.seat c.into_joined.result l d.wide c.requires.lent.0 c.into_joined.ensures.table;

@@ -1,4 +1,0 @@
-use Rattle.evacuate.proofs.path_walk.+is_item_in.Given as goal
-
-abbrev pub decreases-is_item_in : goal.decreases-is_item_in
-decreases-is_item_in g l = l.len
