@@ -43,7 +43,7 @@ behind_front front line rest =
 
 -- an input that is cut at a line which begins at a place
 pub cut_here : (bytes line : List ℕ) (at next n : ℕ) → Begins bytes at → lines_of (drop at bytes) ≡ line ∷ lines_of (drop next bytes) → is_cut line ≡ true → list_any is_cut (lines_of (take at bytes)) ≡ false → n ≡ length (lines_of (take at bytes)) + 1 → at < next → next ≤ length bytes → n ≤ at + 1
-    → IsCutAt bytes (record { zone_end = at; script_from = next; first_line = n + 1 })
+    → IsCutAt bytes at next (n + 1)
 cut_here bytes line at next n b e c none count le inside few =
     let front = lines_of (take at bytes) in
     let rest = lines_of (drop next bytes) in
@@ -69,7 +69,7 @@ cut_here bytes line at next n b e c none count le inside few =
     }
 
 -- an input that no line cuts
-pub never_cut : (bytes : List ℕ) (at n : ℕ) → length bytes ≤ at → at ≤ length bytes → list_any is_cut (lines_of (take at bytes)) ≡ false → n ≡ length (lines_of (take at bytes)) + 1 → n ≤ at + 1 → IsCutAt bytes (record { zone_end = at; script_from = at; first_line = n })
+pub never_cut : (bytes : List ℕ) (at n : ℕ) → length bytes ≤ at → at ≤ length bytes → list_any is_cut (lines_of (take at bytes)) ≡ false → n ≡ length (lines_of (take at bytes)) + 1 → n ≤ at + 1 → IsCutAt bytes at at n
 never_cut bytes at n past inside none count few =
     let whole : take at bytes ≡ bytes = take_all at bytes past in
     let none' : list_any is_cut (lines_of bytes) ≡ false = ap (λ (l : List ℕ). list_any is_cut (lines_of l)) (sym whole) ∙ none in

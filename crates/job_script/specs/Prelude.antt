@@ -13,7 +13,7 @@ pub use Rattle.job_model.specs.Jobs.{JobRefusal, job_of, script_lines, script_st
 pub use Rattle.job_model.specs.Needs.{cells_added, cells_of_commands, cells_of_operations, cells_of_workers, longest, longest_of_workers}
 pub use Rattle.job_model.specs.Outcomes.{asked_by}
 pub use Rattle.job_script.specs.Asked.{AskedPlaced, asked_view, whole_view}
-pub use Rattle.job_script.specs.Parts.{IsCutAt}
+pub use Rattle.job_script.specs.Parts.{ArePartsOf, IsCutAt}
 pub use Rattle.job_script.specs.Phrases.{PhrasePlaced, operation_said, phrase_view}
 pub use Rattle.job_script.specs.Scripts.{IsNoCommand, IsOneTooMany, IsTold, LineReads, Passes, Says, ScriptReads, ScriptSteps, first_script, script_view, unfinished_view, with_asked}
 pub use Rattle.job_script.specs.Spelled.{SaysJob}

@@ -42,7 +42,7 @@ uncut_more done line fed n c = ap (λ (l : List (List ℕ)). list_any is_cut l) 
 
 -- a zone's lines, the line behind them, and others
 pub cut_parts : (zone line more text : List ℕ) (n : ℕ) → IsFed zone → lines_of (line ++ more) ≡ text ∷ lines_of more → is_cut text ≡ true → has_cut zone ≡ false → 0 < length line → n ≡ length (lines_of zone) + 1 → n ≤ length zone + 1
-    → IsCutAt ((zone ++ line) ++ more) (record { zone_end = length zone; script_from = length (zone ++ line); first_line = n + 1 })
+    → IsCutAt ((zone ++ line) ++ more) (length zone) (length (zone ++ line)) (n + 1)
 cut_parts zone line more text n fed one c uncut some count few =
     let all : (zone ++ line) ++ more ≡ zone ++ (line ++ more) = append_assoc zone line more in
     let front : take (length zone) ((zone ++ line) ++ more) ≡ zone = ap (take (length zone)) all ∙ front-of zone (line ++ more) in
@@ -54,7 +54,7 @@ cut_parts zone line more text n fed one c uncut some count few =
     (ap (λ (l : List ℕ). has_cut l) front ∙ uncut) (count ∙ ap (λ (l : List ℕ). length (lines_of l) + 1) (sym front)) (omega arith) (omega arith) few
 
 -- a zone's lines alone
-pub uncut_parts : (zone : List ℕ) (n : ℕ) → has_cut zone ≡ false → n ≡ length (lines_of zone) → n ≤ length zone → IsCutAt zone (record { zone_end = length zone; script_from = length zone; first_line = n + 1 })
+pub uncut_parts : (zone : List ℕ) (n : ℕ) → has_cut zone ≡ false → n ≡ length (lines_of zone) → n ≤ length zone → IsCutAt zone (length zone) (length zone) (n + 1)
 uncut_parts zone n uncut count few =
     let whole : take (length zone) zone ≡ zone = take_all (length zone) zone (omega arith) in
     never_cut zone (length zone) (n + 1) (omega arith) (omega arith) (ap (λ (l : List ℕ). has_cut l) whole ∙ uncut) (let c : n + 1 ≡ length (lines_of zone) + 1 = omega (arith, count) in c ∙ ap (λ (l : List ℕ). length (lines_of l) + 1) (sym whole)) (omega arith)

@@ -13,7 +13,6 @@ use Rattle.job_model.specs.Reports.{end_text}
 use Rattle.job_model.specs.Feeds.{by_worker, pairs_by, passes_fed}
 use Rattle.job_model.proofs.FeedLaws.{workers_fed}
 use Rattle.job_script.specs.Parts.{IsCutAt}
-use Rattle.job_script.specs.declared.parts.Parts.{Parts}
 use Rattle.job_report.specs.Outcomes.{ended_view, job_pairs, versions_made}
 use Rattle.job_report.specs.declared.outcomes.Outcome.{Outcome}
 use Rattle.job_report.specs.declared.outcomes.Outcomes.{Outcomes}
@@ -125,7 +124,7 @@ none_told workers chunks origin zone f text r printed =
     })
 
 -- the lines behind the place where an input is cut
-pub lines_behind : (bytes : List ℕ) (p : Parts) → IsCutAt bytes p → lines_of (take (length bytes - p.script_from) (drop p.script_from bytes)) ≡ script_lines bytes
-lines_behind bytes p cut =
-    let whole : take (length bytes - p.script_from) (drop p.script_from bytes) ≡ drop p.script_from bytes = take_all (length bytes - p.script_from) (drop p.script_from bytes) (omega (arith, length-drop p.script_from bytes)) in
+pub lines_behind : (bytes : List ℕ) {zone_end from first : ℕ} → IsCutAt bytes zone_end from first → lines_of (take (length bytes - from) (drop from bytes)) ≡ script_lines bytes
+lines_behind bytes {from = from} cut =
+    let whole : take (length bytes - from) (drop from bytes) ≡ drop from bytes = take_all (length bytes - from) (drop from bytes) (omega (arith, length-drop from bytes)) in
     ap lines_of whole ∙ cut.script

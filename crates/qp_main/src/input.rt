@@ -11,7 +11,7 @@ use crate::refusing::{Stop, script_stop, zone_stop};
 use crate::status::Status;
 use dns_name::Name;
 use job_model::ScriptKind;
-use job_script::{Command, Job, JobRefusal, Parts, split};
+use job_script::{Command, Job, JobRefusal, split};
 use master_file::{Zone, read_zone};
 use std::alloc::Global;
 use std::marker::Model;
@@ -21,7 +21,9 @@ use zones_script::ZonesScript;
 #[derive(Drop)]
 pub struct Input {
     bytes: Vec<u8>,
-    parts: Parts,
+    zone_len: usize,
+    script_from: usize,
+    first_line: u32,
 }
 
 impl Model for Input {
@@ -32,7 +34,7 @@ impl Model for Input {
 
     ghost view = { λ i. i.bytes.items };
 
-    ghost invariant = { λ i. (length i.bytes.items ≤ 2 ^ 24) × IsCutAt i.bytes.items i.parts };
+    ghost invariant = { λ i. (length i.bytes.items ≤ 2 ^ 24) × IsCutAt i.bytes.items i.zone_len i.script_from i.first_line };
 }
 
 impl Input {
@@ -42,7 +44,15 @@ impl Input {
         ensures { result ≡ bytes.items }
     {
         let parts = split(&bytes);
-        Input { bytes, parts }
+        let zone_len = parts.zone.len();
+        let script_from = bytes.len() - parts.script.len();
+        let first_line = parts.first_line;
+        Input {
+            bytes,
+            zone_len,
+            script_from,
+            first_line,
+        }
     }
 
     // The bytes of its zones.
@@ -50,7 +60,7 @@ impl Input {
         ensures lines { lines_of result.now ≡ zone_lines self.now }
         ensures short { length result.now ≤ 2 ^ 24 }
     {
-        &self.bytes.as_slice()[..self.parts.zone_end as usize]
+        &self.bytes.as_slice()[..self.zone_len]
     }
 
     // Those of its script.
@@ -59,7 +69,7 @@ impl Input {
         ensures short { length result.now ≤ 2 ^ 24 }
         ensures whole { length self.now ≤ 2 ^ 24 }
     {
-        &self.bytes.as_slice()[self.parts.script_from as usize..]
+        &self.bytes.as_slice()[self.script_from..]
     }
 
     // The number of the script's first line.
@@ -68,7 +78,7 @@ impl Input {
         ensures some { 1 ≤ result }
         ensures few { result ≤ 2 ^ 24 + 1 }
     {
-        self.parts.first_line
+        self.first_line
     }
 
     /// Its zone, which is one of the origin; or what is told in the place of that.

@@ -205,11 +205,11 @@ impl Entry {
     }
 
     /// Removes a record, and answers whether it was there. An RRset goes with its last record.
-    pub fn del_one(&mut self, rtype: u16, octets: &[u8]) -> bool
-        ensures value { self.new ≡ without_rr rtype octets.now self.old }
+    pub fn del_one(&mut self, rtype: u16, rdata: &Rdata) -> bool
+        ensures value { self.new ≡ without_rr rtype rdata.now self.old }
         ensures changed { TellsChange result self.old self.new }
     {
-        remove_from(&mut self.sets, rtype, octets)
+        remove_from(&mut self.sets, rtype, rdata.octets())
     }
 
     /// The number of octets of the item of this entry, at most the greatest `usize`.

@@ -152,13 +152,13 @@ fn stays(rt: &impl Abort, alloc: Global, item: &[u8]) -> Result<(), Fail> {
     let owner = Name::from_wire(item).ok_or("no owner")?;
     let mut entry = Entry::decode(alloc, item)?;
     let rdata = read(alloc, 1, b"192.0.2.1", &owner)?;
-    assert!(rt; !entry.add(alloc, 1, 60, rdata)?);
+    assert!(rt; !entry.add(alloc, 1, 60, rdata.clone()?)?);
     assert_eq!(rt; entry.find_set(1).map(|set| set.ttl()), Some(300));
     assert!(rt; !entry.is_empty());
     let mut room = item_buffer(alloc)?;
     let len = entry.encode(&owner, &mut room).ok_or("a long item")?;
     assert_eq!(rt; &room[..len], item);
-    assert!(rt; entry.del_one(1, b"\xc0\0\x02\x01"));
+    assert!(rt; entry.del_one(1, &rdata));
     assert!(rt; !entry.del_set(1));
     Ok(())
 }

@@ -64,7 +64,7 @@ fn without_record(entry: &Entry, rtype: u16, rdata: &Rdata) -> Result<Entry, All
     ensures { IfOk result (λ next. next ≡ without_rr rtype rdata.now entry.now) }
 {
     let mut rest = entry.clone()?;
-    rest.del_one(rtype, rdata.octets());
+    rest.del_one(rtype, rdata);
     Ok(rest)
 }
 

@@ -6,9 +6,9 @@ use Rattle.qp_main.proofs.input.Input.script_bytes.Goals as goal
 
 pub returns-clause-lines : goal.returns-clause-lines
 returns-clause-lines c =
-    let from = c.self.inside.parts.script_from in
+    let from = c.self.inside.script_from in
     subst (λ (b : List ℕ). lines_of (take (length b - from) (drop from b)) ≡ script_lines c.args.self.now) (sym c.as_slice.ensures.value)
-    (lines_behind c.self.inside.bytes.items c.self.inside.parts c.self.invariant.1 ∙ ap script_lines c.self.view_is)
+    (lines_behind c.self.inside.bytes.items c.self.invariant.1 ∙ ap script_lines c.self.view_is)
 
 pub returns-clause-whole : goal.returns-clause-whole
 returns-clause-whole c = subst (λ (b : List ℕ). length b ≤ 2 ^ 24) c.self.view_is c.self.invariant.0

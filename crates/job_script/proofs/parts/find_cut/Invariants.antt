@@ -1,6 +1,6 @@
 use Rattle.std.proofs.Common.{◌-◌, length}
 use Rattle.job_script.proofs.PartsLemmas.{Searched}
-use Rattle.job_script.proofs.parts.split.Given as goal
+use Rattle.job_script.proofs.parts.find_cut.Given as goal
 
 abbrev pub invariant-loop-at : goal.invariant-loop-at
 invariant-loop-at l = Searched l.bytes l.at l.line
