@@ -13,6 +13,7 @@ pub struct Parts<'a> {
 }
 
 // Where an input is cut: the zone's bytes end at `zone_end`, the script's begin at `script_from`.
+#[derive(Clone, Copy)]
 struct Cut {
     zone_end: u32,
     script_from: u32,
