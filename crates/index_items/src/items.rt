@@ -8,7 +8,7 @@ ghost use Rattle.job_model.specs.Sizes.{trie_entries};
 ghost use Rattle.trie_write.specs.Entries.{entry_of, entries_of_items};
 
 use dns_name::Name;
-use master_file::{Zone, ZoneItems};
+use master_file::{IntoItems, Zone};
 use rr_data::item_buffer;
 use std::alloc::{AllocError, Global};
 use trie_write::{Item, ItemRefusal};
@@ -32,7 +32,7 @@ fn item_of(alloc: Global, octets: &[u8]) -> Result<Item, AllocError>
 }
 
 // All items, in order. Each is laid down in the buffer that is lent.
-fn items_of(alloc: Global, mut left: ZoneItems, octets: &mut [u8]) -> Result<Vec<Item>, AllocError>
+fn items_of(alloc: Global, mut left: IntoItems, octets: &mut [u8]) -> Result<Vec<Item>, AllocError>
     requires { item_limit ≤ length octets.old }
     ensures items { IfOk result (λ items. entries_of_items items.items ≡ trie_entries left) }
     ensures storable { IfOk result (λ _. AllByRecursion IsStorable left) }

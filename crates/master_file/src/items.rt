@@ -11,11 +11,11 @@ use std::marker::Model;
 
 /// What the names of a zone own, in canonical order of the names. Contracts see the pairs that are left.
 #[derive(Drop)]
-pub struct ZoneItems {
+pub struct IntoItems {
     left: IntoValues<SortKey, Owned, Global>,
 }
 
-impl Model for ZoneItems {
+impl Model for IntoItems {
     ghost use Rattle.std.specs.List.{AllByRecursion};
     ghost use Rattle.zone_model.specs.Versions.{Version};
     ghost use Rattle.master_file.specs.Owners.{CanBeItem};
@@ -27,13 +27,13 @@ impl Model for ZoneItems {
     ghost invariant = { λ i. AllByRecursion CanBeItem i.left };
 }
 
-impl ZoneItems {
+impl IntoItems {
     // Of all that is held.
     pub(crate) fn new(owned: BTreeMap<SortKey, Owned>) -> Self
         requires { AllByRecursion CanBeItem (version_of owned.entries) }
         ensures { result ≡ version_of owned.entries }
     {
-        ZoneItems {
+        IntoItems {
             left: owned.into_values(),
         }
     }

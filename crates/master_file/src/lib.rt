@@ -12,5 +12,5 @@ mod records;
 mod zones;
 
 pub use front::{name_word, time_word, type_word};
-pub use items::{LentItems, ZoneItems};
+pub use items::{IntoItems, LentItems};
 pub use zones::{Zone, read_zone, read_zone_at};

@@ -4,7 +4,7 @@ ghost use Rattle.master_file.specs.Prelude.{IsStrictlySortedBy, keys_of, name_cm
 ghost use Rattle.master_file.specs.Prelude.{at_first, Reads, zone_at, reader_view, ReadsAll, ReadsNext, AllHeld};
 
 use crate::entries::read_entry;
-use crate::items::{LentItems, ZoneItems};
+use crate::items::{IntoItems, LentItems};
 use crate::owned::Owned;
 use crate::owners::Owners;
 use crate::records::Reader;
@@ -127,10 +127,10 @@ impl Zone {
     }
 
     /// What its names own, item by item.
-    pub fn into_items(self) -> ZoneItems
+    pub fn into_items(self) -> IntoItems
         ensures { result ≡ self.pairs }
     {
-        ZoneItems::new(self.owned)
+        IntoItems::new(self.owned)
     }
 
     /// The same, and the zone stays.

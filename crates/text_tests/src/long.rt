@@ -3,7 +3,7 @@ ghost use Rattle.std.specs.Prelude.{◌≤◌, length};
 ghost use Rattle.zone_model.specs.Records.{item_limit};
 
 use dns_name::Name;
-use master_file::{ZoneItems, read_zone};
+use master_file::{IntoItems, read_zone};
 use rr_data::item_buffer;
 use std::alloc::Global;
 use std::test::Fail;
@@ -11,7 +11,7 @@ use zone_model::ZoneKind;
 use zone_text::ZoneRefusal;
 
 // How many octets the second item has, if it ends as the data does.
-fn second_len(items: &mut ZoneItems, octets: &mut [u8]) -> Option<usize>
+fn second_len(items: &mut IntoItems, octets: &mut [u8]) -> Option<usize>
     requires { item_limit ≤ length octets.old }
 {
     let _first = items.next(octets);

@@ -4,7 +4,7 @@ ghost use Rattle.std.specs.Prelude.{◌≡◌, ◌≤◌, length};
 ghost use Rattle.zone_model.specs.Records.{item_limit};
 
 use dns_name::Name;
-use master_file::{ZoneItems, read_zone};
+use master_file::{IntoItems, read_zone};
 use rr_data::{Entry, item_buffer};
 use std::alloc::Global;
 use std::process::Abort;
@@ -18,7 +18,7 @@ type Set = (u16, u8, u32, usize, usize);
 fn check_next(
     rt: &impl Abort,
     alloc: Global,
-    items: &mut ZoneItems,
+    items: &mut IntoItems,
     octets: &mut [u8],
     due: Set,
 ) -> Result<(), Fail>

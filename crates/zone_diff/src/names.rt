@@ -6,7 +6,7 @@ use crate::Serial;
 use crate::changes::{Change, OperationSink};
 use crate::entries::push_entry;
 use dns_name::Name;
-use master_file::{Zone, ZoneItems};
+use master_file::{IntoItems, Zone};
 use rr_data::item_buffer;
 use std::alloc::{AllocError, Global};
 use std::cmp::Ordering;
@@ -60,7 +60,7 @@ pub struct Ahead {
 pub struct NameCursor {
     ahead: Option<Ahead>,
     octets: Vec<u8>,
-    behind: ZoneItems,
+    behind: IntoItems,
 }
 
 impl Model for NameCursor {
@@ -77,7 +77,7 @@ impl Model for NameCursor {
 }
 
 // Lays down the item of the next name.
-fn next_of(behind: &mut ZoneItems, octets: &mut [u8]) -> Option<Ahead>
+fn next_of(behind: &mut IntoItems, octets: &mut [u8]) -> Option<Ahead>
     requires { item_limit ≤ length octets.old }
     ensures names { pairs_ahead result octets.new behind.new ≡ behind.old }
     ensures stands { Stands result octets.new }
