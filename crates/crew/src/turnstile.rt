@@ -50,7 +50,8 @@ impl<'a, R: Wait, C: Waits, G: Gate> Turnstile<'a, R, C, G> {
         requires there { place < length self.old.commands.now }
         ensures command { slice_get self.old.commands.now place ≡ Some result.command.now }
         ensures entered { self.new.entered ≡ Some place }
-        ensures same { (self.new.gate ≡ self.old.gate) × (self.new.worker ≡ self.old.worker) × (self.new.commands ≡ self.old.commands) × (self.new.told ≡ self.old.told) }
+        ensures same { (self.new.gate ≡ self.old.gate) × (self.new.worker ≡ self.old.worker)
+            × (self.new.commands ≡ self.old.commands) × (self.new.told ≡ self.old.told) }
         ensures heard { G.hears self.old.gate.now (Before self.old.worker (next_number place)) }
     {
         self.entered = Some(place);

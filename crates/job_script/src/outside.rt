@@ -1,6 +1,7 @@
 //! Lines outside a block.
 ghost use Rattle.std.specs.Prelude.{◌≡◌, ◌<◌, ◌≤◌, ◌+◌, ◌∷◌, ◌++◌, [], ℕ, List, length, map, Some, None, Option, Ok, Err, Result, nat_lt};
-ghost use Rattle.job_script.specs.Prelude.{asked_view, whole_view, IsPlaced, AskedPlaced, command_view, phrase_view, PhrasePlaced, script_view, Passes, ScriptReads, with_asked};
+ghost use Rattle.job_script.specs.Prelude.{asked_view, whole_view, IsPlaced, AskedPlaced, command_view};
+ghost use Rattle.job_script.specs.Prelude.{phrase_view, PhrasePlaced, script_view, Passes, ScriptReads, with_asked};
 ghost use Rattle.job_model.specs.Jobs as jobs;
 ghost use Rattle.job_script.specs.declared.questions.Asked.TheVariants as asked;
 ghost use Rattle.job_model.specs.Phrases as phrases;

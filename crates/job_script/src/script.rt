@@ -1,5 +1,6 @@
 //! The lines of a script.
-ghost use Rattle.std.specs.Prelude.{◌≡◌, ◌<◌, ◌≤◌, ◌+◌, ◌^◌, ◌∷◌, ◌++◌, [], ℕ, List, length, IfOk, OnOk, map, vec_len, Some, None, Option, drop, Ok, Err, Result, false};
+ghost use Rattle.std.specs.Prelude.{◌≡◌, ◌<◌, ◌≤◌, ◌+◌, ◌^◌, ◌∷◌, ◌++◌, [], ℕ, List, length};
+ghost use Rattle.std.specs.Prelude.{IfOk, OnOk, map, vec_len, Some, None, Option, drop, Ok, Err, Result, false};
 ghost use Rattle.job_script.specs.Prelude.{option_map, All, AllByRecursion, Labels, InTurn, NeedsNoSnapshot, lines_of};
 ghost use Rattle.job_script.specs.Prelude.{IsPlaced, token_view, phrase_view, PhrasePlaced, first_script, unfinished_view};
 ghost use Rattle.job_script.specs.Prelude.{script_view, IsNoCommand, LineReads, ScriptReads, ScriptSteps, Says, job_view, list_view};

@@ -78,7 +78,8 @@ impl Owners {
         rdata: &Rdata,
     ) -> Result<(), ZoneRefusal>
         requires held { AllHeld apex.now self.old.owned.entries }
-        ensures gives { Gives result (version_of self.new.owned.entries) (added apex.now last owner.now rtype time rdata.now (version_of self.old.owned.entries)) }
+        ensures gives { Gives result (version_of self.new.owned.entries)
+            (added apex.now last owner.now rtype time rdata.now (version_of self.old.owned.entries)) }
         ensures held { OnOk result (AllHeld apex.now self.new.owned.entries) }
     {
         let _wire = owner.wire(); // for the proof

@@ -6,7 +6,8 @@ ghost use Rattle.std.specs.Prelude.{◌≡◌, ◌+◌, ◌≤◌, ℕ, List, le
 ghost use Rattle.need_laws.specs.Prelude.{AllByRecursion, Name, IsName, Version, CanBeDumped, FedJob, Job, fed_job_of, job_of, cell_count};
 ghost use Rattle.need_laws.specs.Prelude.{cells_of_commands, most_cells, most_operations, Lawful, Pair, all_pairs, passes_for, Fed, FedPair, all_numbers};
 ghost use Rattle.need_laws.specs.Prelude.{by_worker, passes_fed, is_roomy, IsLeast, room_in, AllOctets, AllAsked, AreFedOutcomesOf, AreOutcomesOf};
-ghost use Rattle.need_laws.specs.Prelude.{AllFedFindRoom, AllFindRoom, AllNameFew, IsSaidJob, IsSaidList, IsSized, IsSizedList, HaveFewCells, HaveFewOperations};
+ghost use Rattle.need_laws.specs.Prelude.{AllFedFindRoom, AllFindRoom, AllNameFew, IsSaidJob};
+ghost use Rattle.need_laws.specs.Prelude.{IsSaidList, IsSized, IsSizedList, HaveFewCells, HaveFewOperations};
 
 /// No version of a job has more cells than the job is reckoned at, and no transaction of it works on more, however it ends. The
 /// commands may have any outcomes: those that are lawful are some of them.

@@ -1,5 +1,6 @@
 //! Transactions: one at a time, each of a pass that has joined the turn.
-ghost use Rattle.std.specs.Prelude.{◌≡◌, ◌≢◌, ◌↔◌, ◌+◌, ◌≤◌, true, false, Some, Err, IsSome, IsNone, IfSome, IfNone, is_some, IsSomeAnd, IsOk, IsErr, IfOk, IfErr, length, slice_get};
+ghost use Rattle.std.specs.Prelude.{◌≡◌, ◌≢◌, ◌↔◌, ◌+◌, ◌≤◌, true, false, Some, Err, IsSome};
+ghost use Rattle.std.specs.Prelude.{IsNone, IfSome, IfNone, is_some, IsSomeAnd, IsOk, IsErr, IfOk, IfErr, length, slice_get};
 ghost use Rattle.zone_model.specs.Keys.{most_item_octets};
 ghost use Rattle.trie_model.specs.Extents.{cells_in};
 ghost use Rattle.qp_multi.specs.Passes.{known_at};

@@ -118,7 +118,8 @@ fn push_additional<V: Reading, S: RowSink + Drop>(
     ensures same { version.new ≡ version.old }
     ensures adds { (zone : Version) (given : List Row) → Shows (V.holds version.old) zone → EndsWith zone rtype given
         → AreCounted (S.has rows.old.rows) rows.old.count rows.old.aliases rows.old.last given
-        → OnOk result (AreCounted (S.has rows.new.rows) rows.new.count rows.new.aliases rows.new.last (given ++ owned_rows (addresses_for origin.now zone given))) }
+        → OnOk result (AreCounted (S.has rows.new.rows) rows.new.count rows.new.aliases rows.new.last
+        (given ++ owned_rows (addresses_for origin.now zone given))) }
 {
     let Some(_place) = octets_before(rtype) else {
         return Ok(());

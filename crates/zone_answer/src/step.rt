@@ -64,7 +64,8 @@ fn give_alias<S: RowSink>(
     target: &mut Option<Name>,
     rows: &mut S,
 ) -> Result<Next, AllocError>
-    ensures { Gives (record { rows = rows_of owner.now alias.now; next = LeadsTo (target_of alias.now.records) }) (S.has rows.old) (S.has rows.new) target.new result }
+    ensures { Gives (record { rows = rows_of owner.now alias.now; next = LeadsTo (target_of alias.now.records) })
+        (S.has rows.old) (S.has rows.new) target.new result }
 {
     rows.push(alloc, owner, alias)?;
     *target = target_of(alias);
@@ -102,7 +103,8 @@ fn refer<S: RowSink>(
     rows: &mut S,
 ) -> Result<Next, AllocError>
     ensures { (target : Option Labels) →
-        Gives (record { rows = set_rows cut.now (rrset_of ns_type entry.now); next = Ends Kind.Referral }) (S.has rows.old) (S.has rows.new) target result }
+        Gives (record { rows = set_rows cut.now (rrset_of ns_type entry.now); next = Ends Kind.Referral })
+        (S.has rows.old) (S.has rows.new) target result }
 {
     if let Some(servers) = entry.find_set(NS) {
         rows.push(alloc, cut, &servers)?;
@@ -124,7 +126,8 @@ fn refer_above<S: RowSink>(
     requires few { cut.labels ≤ length name.now }
     requires held { (entry : Records) × IsHeld item.now (held_at name.now cut) entry }
     ensures { (target : Option Labels) (entry : Records) → IsHeld item.now (held_at name.now cut) entry
-        → Gives (record { rows = set_rows (held_at name.now cut).name (rrset_of ns_type entry); next = Ends Kind.Referral }) (S.has rows.old) (S.has rows.new) target result }
+        → Gives (record { rows = set_rows (held_at name.now cut).name (rrset_of ns_type entry); next = Ends Kind.Referral })
+        (S.has rows.old) (S.has rows.new) target result }
 {
     let held = cut.held(name);
     refer(alloc, &held.name, &held.view(item), rows)

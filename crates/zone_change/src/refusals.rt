@@ -20,7 +20,8 @@ fn is_low_soa(origin: &Name, added: &NewRecord) -> bool
 fn addition_refused(origin: &Name, added: &NewRecord, octets: &[u8]) -> Option<Refusal>
     requires { (entry : Entry) × SaysEntry added.now.owner octets.now entry }
     ensures { (entry : Entry) → SaysEntry added.now.owner octets.now entry
-        → MatchOption result (changed origin.now (operation_view (Operation.Add added.now)) entry ≡ Ok (candidate (operation_view (Operation.Add added.now)) entry))
+        → MatchOption result (changed origin.now (operation_view (Operation.Add added.now)) entry
+        ≡ Ok (candidate (operation_view (Operation.Add added.now)) entry))
         (λ refusal. changed origin.now (operation_view (Operation.Add added.now)) entry ≡ Err refusal) }
 {
     if is_low_soa(origin, added) {

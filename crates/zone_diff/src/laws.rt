@@ -27,17 +27,21 @@ pub fn differences_may_be_cut()
 /// In transactions of at most 10,000 operations each, which are taken one after another, a difference makes what is due, and behind each
 /// of them stands a zone.
 pub fn differences_in_transactions()
-    ensures sizes { (operations : List Operation) → AllByRecursion (λ (block : List Operation). (0 < length block) × (length block ≤ block_limit)) (blocks operations) }
+    ensures sizes { (operations : List Operation)
+        → AllByRecursion (λ (block : List Operation). (0 < length block) × (length block ≤ block_limit)) (blocks operations) }
     ensures every { (mode : Serial) (origin : Name) (before after : Version) → CanBeDumped origin before → CanBeDumped origin after
         → in_turn origin (blocks (difference mode before after)) before ≡ Ok (made mode origin before after) }
-    ensures zones { (mode : Serial) (origin : Name) (before after : Version) (front back : List (List Operation)) → CanBeDumped origin before → CanBeDumped origin after
+    ensures zones { (mode : Serial) (origin : Name) (before after : Version) (front back : List (List Operation))
+        → CanBeDumped origin before → CanBeDumped origin after
         → blocks (difference mode before after) ≡ front ++ back → (middle : Version) × StopsAt origin front back before (made mode origin before after) middle }
 {}
 
 /// What goes and what comes of an entry is found by going through its RRsets and the other's side by side, each looked at once.
 pub fn differences_side_by_side()
-    ensures deletions { (owner : Name) (before after : Entry) → IsEntry before → IsEntry after → deletions_walked owner before after ≡ deletions owner before after }
-    ensures additions { (owner : Name) (before after : Entry) → IsEntry before → IsEntry after → additions_walked owner before after ≡ additions owner before after }
+    ensures deletions { (owner : Name) (before after : Entry) → IsEntry before → IsEntry after
+        → deletions_walked owner before after ≡ deletions owner before after }
+    ensures additions { (owner : Name) (before after : Entry) → IsEntry before → IsEntry after
+        → additions_walked owner before after ≡ additions owner before after }
 {}
 
 /// The text of a difference as a script says its transactions, as blocks `update` that are committed: where it is one list of commands,

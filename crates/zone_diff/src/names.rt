@@ -1,6 +1,7 @@
 //! The names of two zones, gone through side by side in canonical order.
 ghost use Rattle.std.specs.Prelude.{◌≡◌, ◌≤◌, ◌∷◌, [], length, IfOk, OnOk, Some};
-ghost use Rattle.zone_diff.specs.Prelude.{Adds, Comes, DeleteName, Meets, Stands, Version, Went, behind_first, difference, item_limit, owner_ahead, pairs_ahead};
+ghost use Rattle.zone_diff.specs.Prelude.{Adds, Comes, DeleteName, Meets, Stands, Version};
+ghost use Rattle.zone_diff.specs.Prelude.{Went, behind_first, difference, item_limit, owner_ahead, pairs_ahead};
 
 use crate::Serial;
 use crate::changes::{Change, OperationSink};
@@ -239,7 +240,8 @@ pub fn push_between<B: Names, A: Names, K: OperationSink>(
     requires some_before { (left : Version) × B.shows before.old left }
     requires some_after { (left : Version) × A.shows after.old left }
     ensures sources { B.stays before.old before.new × A.stays after.old after.new }
-    ensures added { OnOk result ((b a : Version) → B.shows before.old b → A.shows after.old a → Adds (K.has sink.old) (K.has sink.new) (difference serial b a)) }
+    ensures added { OnOk result ((b a : Version) → B.shows before.old b → A.shows after.old a
+        → Adds (K.has sink.old) (K.has sink.new) (difference serial b a)) }
 {
     'names: for _ in 0..u64::MAX {
         if before.is_empty() && after.is_empty() {

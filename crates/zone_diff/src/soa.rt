@@ -89,7 +89,8 @@ fn push_record<K: OperationSink>(
     sink: &mut K,
 ) -> Result<(), AllocError>
     requires { length octets.now ≤ 65535 }
-    ensures { OnOk result (Adds (K.has sink.old) (K.has sink.new) (addition owner.now 6 ttl octets.now ∷ [])) }
+    ensures { OnOk result (Adds (K.has sink.old) (K.has sink.new)
+        (addition owner.now 6 ttl octets.now ∷ [])) }
 {
     sink.push(
         owner,
@@ -110,7 +111,8 @@ fn push_twice<K: OperationSink>(
     sink: &mut K,
 ) -> Result<(), AllocError>
     requires { length octets.now ≤ 65535 }
-    ensures { OnOk result (Adds (K.has sink.old) (K.has sink.new) (addition owner.now 6 ttl (renumbered octets.now) ∷ addition owner.now 6 ttl octets.now ∷ [])) }
+    ensures { OnOk result (Adds (K.has sink.old) (K.has sink.new)
+        (addition owner.now 6 ttl (renumbered octets.now) ∷ addition owner.now 6 ttl octets.now ∷ [])) }
 {
     let other = renumbered(alloc, octets)?;
     push_record(owner, ttl, &other, sink)?;

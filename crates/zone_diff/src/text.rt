@@ -1,6 +1,7 @@
 //! A difference as text.
 ghost use Rattle.std.specs.Prelude.{◌≡◌, ◌==◌, ◌<◌, ◌≤◌, ◌++◌, ◌∷◌, [], List, length, codes, IfOk, OnOk};
-ghost use Rattle.zone_diff.specs.Prelude.{Aim, Begun, DeleteName, DeleteRecord, DeleteSet, Holds, HoldsFor, IsShort, Opened, Operation, addition, adding, change_view, class, closing};
+ghost use Rattle.zone_diff.specs.Prelude.{Aim, Begun, DeleteName, DeleteRecord, DeleteSet, Holds, HoldsFor};
+ghost use Rattle.zone_diff.specs.Prelude.{IsShort, Opened, Operation, addition, adding, change_view, class, closing};
 ghost use Rattle.zone_diff.specs.Prelude.{data_text, deleting, difference, line, opening, record_words, text_in, text_of, type_text};
 
 use crate::changes::{Change, OperationSink};

@@ -65,7 +65,8 @@ fn push_names<K: Sink>(
 ) -> Result<(), DumpRefusal>
     requires { item_limit ≤ length item.old }
     ensures count { OnOk result (lines.new.count ≡ lines.old.count + record_count left.entry) }
-    ensures ok { OnOk result (Passes (K.held sink.old) (K.held sink.new) lines.old.text.items lines.new.text.items (version_lines lines.old.directives left.entry)) }
+    ensures ok { OnOk result (Passes (K.held sink.old) (K.held sink.new) lines.old.text.items lines.new.text.items
+        (version_lines lines.old.directives left.entry)) }
     ensures err { OnErr result (GrowsByFront (K.held sink.old) (K.held sink.new) (lines.old.text.items ++ version_lines lines.old.directives left.entry)) }
     ensures fault { IsErrOf result DumpRefusal.Fault → Rose (K.faults sink.old) (K.faults sink.new) }
     ensures later { K.faults sink.old ≤ K.faults sink.new }

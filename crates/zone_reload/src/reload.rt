@@ -1,6 +1,7 @@
 //! A version's zone exchanged whole.
 ghost use Rattle.std.specs.Prelude.{◌≡◌, map, Err, IfOk, IsSomeAnd, OnOk};
-ghost use Rattle.zone_reload.specs.Prelude.{Becomes, Between, CanBeDumped, IsAccepted, IsOfTheSame, Keep, Replaces, Shows, ShowsSome, Version, WorksOnSome, difference, operation_view};
+ghost use Rattle.zone_reload.specs.Prelude.{Becomes, Between, CanBeDumped, IsAccepted, IsOfTheSame, Keep};
+ghost use Rattle.zone_reload.specs.Prelude.{Replaces, Shows, ShowsSome, Version, WorksOnSome, difference, operation_view};
 
 use crate::operations::OperationList;
 use crate::versions::VersionNames;
