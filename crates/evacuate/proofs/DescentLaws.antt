@@ -179,4 +179,5 @@ underway_left {has = has} {l0 = l0} {s = s} {l} {r} {es = es} u m = lies_left en
 
 -- what was reached is still to be moved, since a sparse chunk stays so on the way
 pub reached_due : {S : Type 0} {has : S → ℕ → Cell → Type 0} {given : List Bool} {l0 : Ledger} {s : S} {l : Ledger} {r at : ℕ} {es : List Entry} {n m : Node} → Reached has l0 s l r at es n → n ≡ m → Moves given 0 l0 l → IsDue has s l at m
+unfolding reached_hung
 reached_due {l0 = l0} {l = l} x e m = record { hung = reached_hung x e; sparse = lies_stay l0 l m.sparse x.end x.sparse }

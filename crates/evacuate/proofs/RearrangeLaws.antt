@@ -66,8 +66,8 @@ module _ {S : Type 0} {has : S → ℕ → Cell → Type 0} {kept : S → List �
     pub found_item : {s2 : S} {l2 : Ledger} → RearrangedNode has kept given at m s1 l1 s2 l2 → Rearranged has kept given r s l s2 l2
     found_item b = record { stood = λ es t h. let x = reached es t h in b.stood r es x.way x.end x.hung (sym is ∙ x.node_is); cells = cells_then a.cells b.cells }
 
-    pub fewer_found : {l2 : Ledger} → (IsDue has s1 l1 at m → Fewer l1 l2) → Fewer l l2
-    fewer_found less old fills = let x = a.cells.moves old fills in let y = less (found_due old fills) old x.fills in let z = x.fewer in omega arith
+    pub fewer_found : (l2 : Ledger) → (IsDue has s1 l1 at m → Fewer l1 l2) → Fewer l l2
+    fewer_found l2 less old fills = let x = a.cells.moves old fills in let y = less (found_due old fills) old x.fills in let z = x.fewer in omega arith
 
   -- a row of twigs
   module _ {s s1 s2 : S} {l l1 l2 : Ledger} {at to : ℕ} {n : Node} (a : Rearranged has kept given r s l s1 l1) (reached : Reaches has r s l s1 l1 at n) (can : IsStood has s l r) (b : Branch) (is : n ≡ node.Branch b) (moved : NodeMoved has given at (node.Branch b) s1 l1 s2 l2 to) where

@@ -85,9 +85,9 @@ sparse_here l r (last q) e h = ap (λ (p : ℕ). is_sparse l (p / 1024)) e ∙ h
 sparse_here l r (linked q x) e h = inl (ap (λ (p : ℕ). is_sparse l (p / 1024)) e ∙ h)
 
 -- an item of one extent, which isn't sparse
-pub lone_clear : {has : ℕ → Cell → Type 0} {l : Ledger} {at n : ℕ} {item : List ℕ} (x : Extents) → LiesAt has at n item x → n ≤ 4096 → is_sparse l (at / 1024) ≡ false → SparseExtents l x → ⊥
-lone_clear {l = l} (last q) lies short clear h = true≢false (sym h ∙ ap (λ (p : ℕ). is_sparse l (p / 1024)) lies.from ∙ clear)
-lone_clear (linked q x) lies short clear h = let a = lies.are.0 in omega arith
+pub lone_clear : {has : ℕ → Cell → Type 0} (l : Ledger) {at n : ℕ} {item : List ℕ} (x : Extents) → LiesAt has at n item x → n ≤ 4096 → is_sparse l (at / 1024) ≡ false → SparseExtents l x → ⊥
+lone_clear l (last q) lies short clear h = true≢false (sym h ∙ ap (λ (p : ℕ). is_sparse l (p / 1024)) lies.from ∙ clear)
+lone_clear l (linked q x) lies short clear h = let a = lies.are.0 in omega arith
 
 -- a branch lies in a sparse chunk by its twigs
 pub branch_sparse : (l : Ledger) (t : Tree) (b : Branch) → node.Branch b ≡ node_of t → LiesSparse l t → is_sparse l (b.twigs / 1024) ≡ true

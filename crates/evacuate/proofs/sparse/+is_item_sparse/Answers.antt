@@ -16,7 +16,7 @@ returns-in-None-clause-tells g t c = record {
   some = λ e item x lies. absurd (true≢false (sym e));
   none = λ e item x lies.
       let clear = ap (is_sparse c.args.usage.now) (sym c.chunk_of.ensures) ∙ sym c.is_chunk_sparse.ensures ∙ c.if-is_chunk_sparse.false in
-      lone_clear x lies (c.extent_behind.ensures.last c.in-None.is) clear;
+      lone_clear c.args.usage.now x lies (c.extent_behind.ensures.last c.in-None.is) clear;
 }
 
 pub returns-in-Some-clause-tells : goal.returns-in-Some-clause-tells
