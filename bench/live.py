@@ -3,7 +3,8 @@
 
 KIND is `one`, questions one at a time; `pipe`, the same through a pipe; `commits`, transactions of one addition with a question each, through
 a pipe; `memory`, the same; `slowest`, the slowest of so many questions one at a time while another session of the same program has a full
-pipe to answer. Prints microseconds each, of `slowest` also the middle one, and of `memory` the most KiB that the program had.
+pipe to answer; `copied`, so many lines one at a time through `cat`, which is what the two pipes alone take. Prints microseconds each, of
+`slowest` also the middle one, and of `memory` the most KiB that the program had.
 """
 import os
 import subprocess
@@ -52,6 +53,19 @@ def one_by_one(program, zone, lines):
     return times
 
 
+def copied(count):
+    process = subprocess.Popen(["cat"], stdin=subprocess.PIPE, stdout=subprocess.PIPE, bufsize=0)
+    out = os.fdopen(process.stdout.fileno(), "rb", closefd=False)
+    begun = time.perf_counter()
+    for line in questions(count, count):
+        process.stdin.write(line)
+        out.readline()
+    taken = time.perf_counter() - begun
+    process.stdin.close()
+    process.wait()
+    return taken
+
+
 def main(name, program, kind, count):
     with open(name, "rb") as file:
         text = file.read()
@@ -59,6 +73,8 @@ def main(name, program, kind, count):
     hosts, count = zone.count(b" A 10."), int(count)
     if kind == "one":
         print(f"{sum(one_by_one(program, zone, questions(hosts, count))) / count * 1e6:.2f}")
+    elif kind == "copied":
+        print(f"{copied(count) / count * 1e6:.2f}")
     elif kind == "pipe":
         print(f"{through(program, zone, questions(hosts, count))[0] / count * 1e6:.2f}")
     elif kind in ("commits", "memory"):

@@ -19,7 +19,7 @@ pub returns-in_ok-move_item-in-Leaf-clause-rearranged : goal.returns-in_ok-move_
 returns-in_ok-move_item-in-Leaf-clause-rearranged g c = found_item c.in_ok-spot.ensures.rearranged c.in_ok-spot.ensures.reached.reached c.requires.can.stands c.in-Leaf.is c.move_item.ensures.rearranged
 
 pub returns-in_ok-move_item-in-Leaf-clause-less : goal.returns-in_ok-move_item-in-Leaf-clause-less
-returns-in_ok-move_item-in-Leaf-clause-less g c = fewer_found c.in_ok-spot.ensures.rearranged c.in_ok-spot.ensures.reached.reached c.requires.can.stands c.in-Leaf.is _ c.in_ok-move_item-in-Leaf.ensures.less
+returns-in_ok-move_item-in-Leaf-clause-less g c = fewer_found c.in_ok-spot.ensures.rearranged c.in_ok-spot.ensures.reached.reached c.requires.can.stands c.in-Leaf.is c.move_item.new.usage c.in_ok-move_item-in-Leaf.ensures.less
 
 pub move_node-requires : goal.move_node-requires
 move_node-requires g c = found_can c.in_ok-spot.ensures.rearranged c.in_ok-spot.ensures.reached.reached c.requires.can.stands c.in-Branch.is c.in_ok-spot.ensures.reached.writable
