@@ -14,6 +14,7 @@ pub use Rattle.job_commands.specs.Prelude.{AllAsked, AllHeard, AreAll, AreHeard,
 pub use Rattle.job_commands.specs.Prelude.{IsZone, Learnt, Numbers, OpensAt, Setup, Sits, StandsAs, Step, Version, command_view, versions_by}
 pub use Rattle.job_commands.specs.Prelude.{entries_of_items, first_version, known_at, known_in, table_size}
 pub use Rattle.job_threads.specs.Gatherings.{AreGathered, DoneRan}
-pub use Rattle.job_threads.specs.Passes.{AreAt, ArePlaced, holder_of, holds_one, station_of}
+pub use Rattle.job_threads.specs.Passes.{AccountsBeside, AreAt, ArePlaced, CanRun, IsSecond, StandAt, holder_of, holds_one, station_of}
+pub use Rattle.job_threads.specs.Ready.{AreBack, AreOfOne, AreReady, CanBeRun, CanRunOn, CanStart, IsBack, OpensForOne}
 pub use Rattle.job_threads.specs.Snapshots.{AskedHeld, Held, Released}
 pub use Rattle.job_threads.specs.Zones.{HeardOn, RanOn}

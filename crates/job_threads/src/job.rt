@@ -1,8 +1,9 @@
 //! All workers of a job, each in a thread of its own where one can be started.
-ghost use Rattle.std.specs.Prelude.{◌≡◌, ◌+◌, ◌*◌, ◌∷◌, List, All, IsSome, IfOk, None, length, map, false};
-ghost use Rattle.job_threads.specs.Prelude.{AllByRecursion, IsSync, Version, InTurn, passes_for, command_view, job_view, worker_view};
-ghost use Rattle.job_threads.specs.Prelude.{workers_view, AllAsked, known_at, Learnt, AreAll, Setup, StandsAs, AreNew, Begins, Numbers};
-ghost use Rattle.job_threads.specs.Prelude.{AllHeard, AreHeard, IsIndex, IsSetup, OpensAt, IsRun, table_size, known_in, DoneRan, AreGathered};
+ghost use Rattle.std.specs.Prelude.{◌≡◌, ◌+◌, ◌*◌, ◌∷◌, IfOk, None, length, map};
+ghost use Rattle.job_threads.specs.Prelude.{IsSync, Version, passes_for, command_view, job_view, worker_view};
+ghost use Rattle.job_threads.specs.Prelude.{workers_view, known_at, Learnt, AreAll, Setup, StandsAs, AreNew, Begins, Numbers};
+ghost use Rattle.job_threads.specs.Prelude.{AllHeard, AreHeard, IsIndex, IsSetup, IsRun, table_size, known_in, DoneRan, AreGathered};
+ghost use Rattle.job_threads.specs.Prelude.{IsBack, AreBack, CanStart, AreReady, CanBeRun};
 
 use crate::worker::{Done, run_worker};
 use crew::Turnstile;
@@ -38,13 +39,11 @@ fn with_done<N: Named>(
     done: Done<N>,
     others: Gathered<N>,
 ) -> Result<Gathered<N>, AllocError>
-    requires here { (IsSome done.asks.seat) × (IsSome done.spare.seat) × (IsSome others.main.seat) }
-    requires places { (done.asks.place ≡ index.now.place) × (done.spare.place ≡ index.now.place) × (others.main.place ≡ index.now.place) }
-    requires others { All (λ p. (IsSome p.seat) × (p.place ≡ index.now.place)) others.passes.items }
-    ensures main { IfOk result (λ g. (IsSome g.main.seat) × (g.main.place ≡ index.now.place)) }
-    ensures here { IfOk result (λ g. All (λ p. (IsSome p.seat) × (p.place ≡ index.now.place)) g.passes.items) }
-    ensures outcomes { IfOk result (λ g. g.outcomes.items ≡ done.outcomes ∷ others.outcomes.items) }
-    ensures passes { IfOk result (λ g. known_in g.passes.items ≡ known_at done.asks.seat ∷ known_at done.spare.seat ∷ known_in others.passes.items) }
+    requires done { IsBack index.now.place done }
+    requires others { AreBack index.now.place others }
+    ensures back { IfOk result (AreBack index.now.place) }
+    ensures gathers { IfOk result (λ g. (g.outcomes.items ≡ done.outcomes ∷ others.outcomes.items)
+        × (known_in g.passes.items ≡ known_at done.asks.seat ∷ known_at done.spare.seat ∷ known_in others.passes.items)) }
     ensures learnt { IfOk result (λ g. Learnt (known_at others.main.seat) (known_at g.main.seat) (known_at done.asks.seat).seen) }
 {
     let Done {
@@ -96,13 +95,8 @@ fn run_workers<R: Threads + Wait + Sync, N: Named + Send + Sync, G: Gate>(
     mut passes: Vec<Pass<N>>,
     gate: &G,
 ) -> Result<Gathered<N>, AllocError>
-    requires count { length passes.items ≡ 2 * length workers.now + 1 }
-    requires here { All (λ p. (IsSome p.seat) × (p.place ≡ index.now.place)) passes.items }
-    requires in_turn { AllByRecursion (InTurn false) (workers_view workers.now) }
-    requires opens { All (λ p. OpensAt origin.now (known_at p.seat)) passes.items }
-    requires said { AllByRecursion (AllByRecursion (AllAsked origin.now)) (workers_view workers.now) }
-    ensures main { IfOk result (λ g. (IsSome g.main.seat) × (g.main.place ≡ index.now.place)) }
-    ensures here { IfOk result (λ g. All (λ p. (IsSome p.seat) × (p.place ≡ index.now.place)) g.passes.items) }
+    requires can { CanStart origin.now index.now.place (2 * length workers.now + 1) (workers_view workers.now) passes.items }
+    ensures back { IfOk result (AreBack index.now.place) }
     ensures ran { (s : Setup) → IsIndex s origin.now (table_size index.now) → AreNew s.opening (known_in passes.items)
         → IfOk result (AreGathered s (known_in passes.items) (workers_view workers.now)) }
     ensures heard { IfOk result (λ _. AllHeard (G.hears gate.now) number (workers_view workers.now)) }
@@ -124,13 +118,9 @@ fn run_workers<R: Threads + Wait + Sync, N: Named + Send + Sync, G: Gate>(
     };
     let next = number.saturating_add(1);
     let first = move || -> Result<Done<N>, AllocError>
-        requires here { (IsSome asks.seat) × (IsSome spare.seat) }
-        requires places { (asks.place ≡ index.now.place) × (spare.place ≡ index.now.place) }
-        requires in_turn { InTurn false (worker_view worker.now) }
-        requires opens { OpensAt origin.now (known_at asks.seat) }
-        requires said { AllByRecursion (AllAsked origin.now) (worker_view worker.now) }
-        ensures here { IfOk result (λ d. (IsSome d.asks.seat) × (IsSome d.spare.seat)) }
-        ensures places { IfOk result (λ d. (d.asks.place ≡ index.entry.now.place) × (d.spare.place ≡ index.entry.now.place)) }
+        requires ready { AreReady origin.now index.now.place asks spare }
+        requires commands { CanBeRun origin.now (worker_view worker.now) }
+        ensures back { IfOk result (IsBack index.entry.now.place) }
         ensures ran { (s : Setup) (numbers : Numbers) → IsSetup s origin.entry.now (table_size index.entry.now) (known_at asks.seat)
             → Begins s numbers (known_at asks.seat) (known_at spare.seat)
             → IfOk result (DoneRan s numbers (worker_view worker.entry.now)) }
@@ -141,13 +131,8 @@ fn run_workers<R: Threads + Wait + Sync, N: Named + Send + Sync, G: Gate>(
     };
     let rest = move || -> Result<Gathered<N>, AllocError>
         requires sync { IsSync R.row }
-        requires count { length passes.items ≡ 2 * length others.now + 1 }
-        requires here { All (λ p. (IsSome p.seat) × (p.place ≡ index.now.place)) passes.items }
-        requires in_turn { AllByRecursion (InTurn false) (workers_view others.now) }
-        requires opens { All (λ p. OpensAt origin.now (known_at p.seat)) passes.items }
-        requires said { AllByRecursion (AllByRecursion (AllAsked origin.now)) (workers_view others.now) }
-        ensures main { IfOk result (λ g. (IsSome g.main.seat) × (g.main.place ≡ index.entry.now.place)) }
-        ensures here { IfOk result (λ g. All (λ p. (IsSome p.seat) × (p.place ≡ index.entry.now.place)) g.passes.items) }
+        requires can { CanStart origin.now index.now.place (2 * length others.now + 1) (workers_view others.now) passes.items }
+        ensures back { IfOk result (AreBack index.entry.now.place) }
         ensures ran { (s : Setup) → IsIndex s origin.entry.now (table_size index.entry.now) → AreNew s.opening (known_in passes.items)
             → IfOk result (AreGathered s (known_in passes.items) (workers_view others.entry.now)) }
         ensures heard { IfOk result (λ _. AllHeard (G.hears gate.entry.now) next (workers_view others.entry.now)) }
@@ -166,13 +151,9 @@ pub fn run_job<R: Threads + Wait + Sync, N: Named + Send + Sync, G: Gate>(
     job: &Job,
     gate: &G,
 ) -> Result<Finished, AllocError>
-    requires count { length passes.items ≡ passes_for (length job.now.workers.items) }
+    requires can { CanStart origin.now index.place (passes_for (length job.now.workers.items)) (job_view job.now) passes.items }
     requires size { index.shared.table.shared.key.passes ≡ length passes.items }
     requires all { AreAll (length passes.items) (known_in passes.items) }
-    requires here { All (λ p. (IsSome p.seat) × (p.place ≡ index.place)) passes.items }
-    requires in_turn { AllByRecursion (InTurn false) (job_view job.now) }
-    requires opens { All (λ p. OpensAt origin.now (known_at p.seat)) passes.items }
-    requires said { AllByRecursion (AllByRecursion (AllAsked origin.now)) (job_view job.now) }
     ensures ran { (s : Setup) (zone : Version) → IsIndex s origin.now (table_size index) → StandsAs s.opening zone → AreNew s.opening (known_in passes.items)
         → IfOk result (λ f. IsRun s.chunks s.passes origin.now zone (job_view job.now) f.outcomes.items f.version f.names f.nodes) }
     // Each worker is told by its own number, from 1.

@@ -1,7 +1,7 @@
 //! A worker's two passes: one asks and writes, and the other is with the snapshot while one is held.
-ghost use Rattle.std.specs.Prelude.{◌≡◌, IsSome, IfSome, IfOk, None, true, false};
+ghost use Rattle.std.specs.Prelude.{◌≡◌, IsSome, IfOk, None, true, false};
 ghost use Rattle.job_threads.specs.Prelude.{Hold, AskHeld, Release, IsPartOf, known_at, first_version, Setup};
-ghost use Rattle.job_threads.specs.Prelude.{IsUnder, Step, ArePlaced, holder_of, holds_one, station_of};
+ghost use Rattle.job_threads.specs.Prelude.{IsUnder, Step, ArePlaced, holder_of, holds_one, station_of, StandAt, AreAt, IsSecond};
 
 use crate::holding::{ask_held, hold, release};
 use dns_name::Name;
@@ -24,17 +24,8 @@ pub fn take_snapshot<'i, N: Named>(
     index: &'i Index<ZoneLaw, N>,
     passes: &mut Passes<'i, N>,
 ) -> Outcome
-    requires here { IsSome passes.old.asks.seat }
-    requires place { passes.old.asks.place ≡ index.now.place }
-    requires places { IfSome passes.old.spare (λ p. p.place ≡ index.now.place) }
-    requires placed { ArePlaced passes.old }
-    requires free { holds_one passes.old ≡ false }
-    ensures here { IsSome passes.new.asks.seat }
-    ensures place { passes.new.asks.place ≡ index.now.place }
-    ensures places { IfSome passes.new.spare (λ p. p.place ≡ index.now.place) }
-    ensures placed { ArePlaced passes.new }
-    ensures held_at { IfSome passes.new.held (λ s. s.place ≡ index.now.place) }
-    ensures held { holds_one passes.new ≡ true }
+    requires free { StandAt index.now.place false passes.old }
+    ensures taken { StandAt index.now.place true passes.new }
     ensures grows { IsPartOf (known_at passes.new.asks.seat).seen (known_at passes.old.asks.seat).seen }
     ensures steps { (s : Setup) → first_version (known_at passes.old.asks.seat).seen ≡ s.opening
         → IsUnder (known_at passes.old.asks.seat) (holder_of passes.old)
@@ -76,14 +67,9 @@ pub fn ask_snapshot<N: Named>(
 
 /// Gives the snapshot back.
 pub fn give_back<N: Named>(passes: &mut Passes<'_, N>) -> Outcome
-    requires here { IsSome passes.old.asks.seat }
-    requires placed { ArePlaced passes.old }
-    requires place { IfSome passes.old.held (λ s. s.place ≡ passes.old.asks.place) }
-    requires taken { holds_one passes.old ≡ true }
+    requires taken { StandAt passes.old.asks.place true passes.old }
     ensures same { passes.new.asks ≡ passes.old.asks }
-    ensures places { IfSome passes.new.spare (λ p. p.place ≡ passes.old.asks.place) }
-    ensures placed { ArePlaced passes.new }
-    ensures held { passes.new.held ≡ None }
+    ensures free { StandAt passes.old.asks.place false passes.new }
     ensures steps { (s : Setup) → first_version (known_at passes.old.asks.seat).seen ≡ s.opening
         → IsUnder (known_at passes.old.asks.seat) (holder_of passes.old)
         → Step s Release result (station_of passes.old) (station_of passes.new) }
@@ -99,15 +85,10 @@ pub fn give_back<N: Named>(passes: &mut Passes<'_, N>) -> Outcome
 
 /// Takes the second pass, wherever it is. A snapshot that is held is given back.
 pub fn take_second<N: Named>(passes: &mut Passes<'_, N>) -> Pass<N>
-    requires placed { ArePlaced passes.old }
-    requires place { IfSome passes.old.spare (λ p. p.place ≡ passes.old.asks.place) }
-    requires held_at { IfSome passes.old.held (λ s. s.place ≡ passes.old.asks.place) }
+    requires { AreAt passes.old.asks.place passes.old }
     ensures same { passes.new.asks ≡ passes.old.asks }
     ensures free { (passes.new.spare ≡ None) × (passes.new.held ≡ None) }
-    ensures here { IsSome result.seat }
-    ensures place { result.place ≡ passes.old.asks.place }
-    ensures seen { (known_at result.seat).seen ≡ (holder_of passes.old).seen }
-    ensures pass { (known_at result.seat).pass ≡ (holder_of passes.old).pass }
+    ensures second { IsSecond passes.old result }
 {
     if let Some(snapshot) = passes.held.take() {
         let (second, _) = release(snapshot);
@@ -122,14 +103,9 @@ pub fn take_second<N: Named>(passes: &mut Passes<'_, N>) -> Pass<N>
 
 /// Both passes. A snapshot that is still held is given back.
 pub fn second_pass<N: Named>(passes: Passes<'_, N>) -> (Pass<N>, Pass<N>)
-    requires placed { ArePlaced passes }
-    requires place { IfSome passes.spare (λ p. p.place ≡ passes.asks.place) }
-    requires held_at { IfSome passes.held (λ s. s.place ≡ passes.asks.place) }
+    requires { AreAt passes.asks.place passes }
     ensures same { result.0 ≡ passes.entry.asks }
-    ensures here { IsSome result.1.seat }
-    ensures place { result.1.place ≡ passes.entry.asks.place }
-    ensures seen { (known_at result.1.seat).seen ≡ (holder_of passes.entry).seen }
-    ensures pass { (known_at result.1.seat).pass ≡ (holder_of passes.entry).pass }
+    ensures second { IsSecond passes.entry result.1 }
 {
     let mut passes = passes;
     let second = take_second(&mut passes);

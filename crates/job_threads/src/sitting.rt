@@ -1,10 +1,10 @@
 //! One worker alone at an index that has its two passes and no others. What its commands have come to is known at any moment, while
 //! the index is open, and while a snapshot is held.
-ghost use Rattle.std.specs.Prelude.{◌≡◌, ◌≤◌, ◌++◌, ◌∷◌, [], All, IsSome, IfOk, IfErr, length, Some, slice_get, false};
-ghost use Rattle.job_threads.specs.Prelude.{Version, MayCome, held_after, passes_fed, command_view, AllAsked, known_at, known_in, AreAll};
-ghost use Rattle.job_threads.specs.Prelude.{cells_in_trie, entries_of_items, room_in, Refuses, Setup, IsIndex, IsZone, StandsAs, AreVersions, AreNew, OpensAt};
+ghost use Rattle.std.specs.Prelude.{◌≡◌, ◌≤◌, ◌++◌, ◌∷◌, [], IfOk, IfErr, length, Some, slice_get, false};
+ghost use Rattle.job_threads.specs.Prelude.{Version, MayCome, held_after, passes_fed, command_view, AllAsked, known_at, known_in};
+ghost use Rattle.job_threads.specs.Prelude.{entries_of_items, Refuses, Setup, IsIndex, IsZone, StandsAs, AreVersions, AreNew};
 ghost use Rattle.job_threads.specs.Prelude.{Sits, ComesTo, EndsAt, versions_by, table_size, AreAt, holder_of, holds_one, station_of};
-ghost use Rattle.job_threads.specs.Prelude.{AllSeen, Accounts, IsPartOf, with_note};
+ghost use Rattle.job_threads.specs.Prelude.{OpensForOne, AreOfOne, CanRun, StandAt, AccountsBeside};
 
 use crate::passes::{Passes, take_second};
 use crate::worker::run_command;
@@ -37,13 +37,8 @@ pub fn open_for_one<N: Named>(
     requires named { slice_get N.tables 0 ≡ Some blank.shared.table.shared.table_id }
     requires passes { blank.shared.table.shared.key.passes ≡ passes_fed 1 }
     requires zone { IsZone _origin.now (entries_of_items items.now) }
-    ensures size { IfOk result (λ made. table_size made.0 ≡ blank.shared.table.shared.key) }
-    ensures count { IfOk result (λ made. length made.1.items ≡ 2) }
-    ensures here { IfOk result (λ made. All (λ p. (IsSome p.seat) × (p.place ≡ made.0.place)) made.1.items) }
-    ensures opens { IfOk result (λ made. All (λ p. OpensAt _origin.now (known_at p.seat)) made.1.items) }
-    ensures new { IfOk result (λ made. AreNew (entries_of_items items.now) (known_in made.1.items)) }
-    ensures all { IfOk result (λ made. AreAll 2 (known_in made.1.items)) }
-    ensures fits { IfOk result (λ _. cells_in_trie (entries_of_items items.now) ≤ room_in blank.shared.table.shared.key.chunks) }
+    ensures opens { IfOk result (λ made. OpensForOne _origin.now blank.shared.table.shared.key (table_size made.0) (entries_of_items items.now)
+        made.0.place made.1.items) }
     ensures full { IfErr result (λ refusal. Refuses blank.shared.table.shared.key.chunks (entries_of_items items.now) refusal) }
 {
     Index::<ZoneLaw, N>::open(alloc, blank, 0, items)
@@ -55,13 +50,8 @@ pub fn seat_worker<'i, N: Named>(
     origin: &Name,
     passes: Vec<Pass<N>>,
 ) -> Passes<'i, N>
-    requires count { length passes.items ≡ 2 }
-    requires here { All (λ p. (IsSome p.seat) × (p.place ≡ index.now.place)) passes.items }
-    requires opens { All (λ p. OpensAt origin.now (known_at p.seat)) passes.items }
-    requires all { AreAll 2 (known_in passes.items) }
-    ensures at { AreAt index.now.place result }
-    ensures opens { OpensAt origin.now (known_at result.asks.seat) }
-    ensures held { holds_one result ≡ false }
+    requires passes { AreOfOne origin.now index.now.place passes.items }
+    ensures can { CanRun origin.now index.now.place false result }
     ensures sits { (s : Setup) → s.passes ≡ 2 → AreNew s.opening (known_in passes.items) → Sits s (station_of result) [] [] }
 {
     let mut passes = passes;
@@ -86,13 +76,10 @@ pub fn run_next<'i, R: Wait, N: Named>(
     command: &Command,
     room: &mut Room,
 ) -> Result<Outcome, AllocError>
-    requires at { AreAt index.now.place passes.old }
-    requires opens { OpensAt origin.now (known_at passes.old.asks.seat) }
+    requires can { CanRun origin.now index.now.place (holds_one passes.old) passes.old }
     requires may { MayCome (holds_one passes.old) (command_view command.now) }
     requires said { AllAsked origin.now (command_view command.now) }
-    ensures at { IfOk result (λ _. AreAt index.now.place passes.new) }
-    ensures opens { IfOk result (λ _. OpensAt origin.now (known_at passes.new.asks.seat)) }
-    ensures held { IfOk result (λ _. holds_one passes.new ≡ held_after (holds_one passes.old) (command_view command.now)) }
+    ensures can { IfOk result (λ _. CanRun origin.now index.now.place (held_after (holds_one passes.old) (command_view command.now)) passes.new) }
     ensures sits { (s : Setup) (commands : _) (os : _) → IsIndex s origin.now (table_size index.now) → Sits s (station_of passes.old) commands os
         → IfOk result (λ o. Sits s (station_of passes.new) (commands ++ command_view command.now ∷ []) (os ++ o ∷ [])) }
 {
@@ -104,11 +91,9 @@ pub fn run_next<'i, R: Wait, N: Named>(
 fn account_second<N: Named>(index: &Index<ZoneLaw, N>, passes: &mut Passes<'_, N>, seen: Note<N>)
     requires at { AreAt index.now.place passes.old }
     requires note { seen.place ≡ index.now.place }
-    ensures at { AreAt index.now.place passes.new }
+    ensures stands { StandAt index.now.place (holds_one passes.old) passes.new }
     ensures same { passes.new.asks ≡ passes.old.asks }
-    ensures held { holds_one passes.new ≡ holds_one passes.old }
-    ensures told { holder_of passes.new ≡ with_note (holder_of passes.old) seen.told.place.me.0 }
-    ensures accounted { (all : AllSeen) × Accounts (table_size index.now).passes (holder_of passes.new) all × IsPartOf all seen.told.place.me.0.seen }
+    ensures accounted { AccountsBeside (table_size index.now).passes (holder_of passes.old) (holder_of passes.new) seen.told.place.me.0 }
 {
     if let Some(mut snapshot) = passes.held.take() {
         snapshot.account(index, seen);
@@ -127,9 +112,8 @@ fn account_second<N: Named>(index: &Index<ZoneLaw, N>, passes: &mut Passes<'_, N
 /// to the last that it has seen was made by one of them, and they tell what is so of these. It takes no memory and waits for nobody.
 pub fn tell_all<N: Named>(index: &Index<ZoneLaw, N>, passes: &mut Passes<'_, N>)
     requires at { AreAt index.now.place passes.old }
-    ensures at { AreAt index.now.place passes.new }
+    ensures stands { StandAt index.now.place (holds_one passes.old) passes.new }
     ensures same { known_at passes.new.asks.seat ≡ known_at passes.old.asks.seat }
-    ensures held { holds_one passes.new ≡ holds_one passes.old }
     ensures sits { (s : Setup) (commands : _) (os : _) → Sits s (station_of passes.old) commands os → Sits s (station_of passes.new) commands os }
     ensures told { (s : Setup) (zone : Version) (commands : _) (os : _) → IsIndex s s.origin (table_size index.now) → StandsAs s.opening zone
         → Sits s (station_of passes.old) commands os

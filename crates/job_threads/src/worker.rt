@@ -1,8 +1,9 @@
 //! A worker that runs its commands.
-ghost use Rattle.std.specs.Prelude.{◌≡◌, IsSome, IfSome, IfOk, None, length, map, false};
-ghost use Rattle.job_threads.specs.Prelude.{AllByRecursion, InTurn, MayCome, held_after};
-ghost use Rattle.job_threads.specs.Prelude.{command_view, AllAsked, known_at, Setup, AreHeard, IsSetup, OpensAt, IsUnder};
-ghost use Rattle.job_threads.specs.Prelude.{Step, Begins, Numbers, DoneRan, table_size, ArePlaced, holder_of, holds_one, station_of};
+ghost use Rattle.std.specs.Prelude.{◌≡◌, IfOk, None, length, map};
+ghost use Rattle.job_threads.specs.Prelude.{MayCome, held_after};
+ghost use Rattle.job_threads.specs.Prelude.{command_view, AllAsked, known_at, Setup, AreHeard, IsSetup, IsUnder};
+ghost use Rattle.job_threads.specs.Prelude.{Step, Begins, Numbers, DoneRan, table_size, holder_of, holds_one, station_of};
+ghost use Rattle.job_threads.specs.Prelude.{CanRun, CanBeRun, AreReady, IsBack};
 
 use crate::passes::{Passes, ask_snapshot, give_back, second_pass, take_snapshot};
 use crew::Turnstile;
@@ -31,21 +32,10 @@ pub fn run_command<'i, R: Wait, N: Named>(
     entered: Entered<'_, R, Command>,
     room: &mut Room,
 ) -> Result<Outcome, AllocError>
-    requires here { IsSome passes.old.asks.seat }
-    requires place { passes.old.asks.place ≡ index.now.place }
-    requires places { IfSome passes.old.spare (λ p. p.place ≡ index.now.place) }
-    requires placed { ArePlaced passes.old }
-    requires held_at { IfSome passes.old.held (λ s. s.place ≡ index.now.place) }
+    requires can { CanRun origin.now index.now.place (holds_one passes.old) passes.old }
     requires may { MayCome (holds_one passes.old) (command_view entered.command.now) }
-    requires opens { OpensAt origin.now (known_at passes.old.asks.seat) }
     requires said { AllAsked origin.now (command_view entered.command.now) }
-    ensures here { IfOk result (λ _. IsSome passes.new.asks.seat) }
-    ensures place { IfOk result (λ _. passes.new.asks.place ≡ index.now.place) }
-    ensures places { IfOk result (λ _. IfSome passes.new.spare (λ p. p.place ≡ index.now.place)) }
-    ensures placed { IfOk result (λ _. ArePlaced passes.new) }
-    ensures held_at { IfOk result (λ _. IfSome passes.new.held (λ s. s.place ≡ index.now.place)) }
-    ensures opens { IfOk result (λ _. OpensAt origin.now (known_at passes.new.asks.seat)) }
-    ensures held { IfOk result (λ _. holds_one passes.new ≡ held_after (holds_one passes.old) (command_view entered.entry.command.now)) }
+    ensures can { IfOk result (λ _. CanRun origin.now index.now.place (held_after (holds_one passes.old) (command_view entered.entry.command.now)) passes.new) }
     ensures steps { (s : Setup) → IsSetup s origin.now (table_size index.now) (known_at passes.old.asks.seat)
         → IsUnder (known_at passes.old.asks.seat) (holder_of passes.old)
         → IfOk result (λ o. Step s (command_view entered.entry.command.now) o (station_of passes.old) (station_of passes.new)) }
@@ -74,20 +64,15 @@ pub fn run_worker<R: Wait, N: Named, G: Gate>(
     asks: Pass<N>,
     spare: Pass<N>,
 ) -> Result<Done<N>, AllocError>
-    requires fresh { (turnstile.old.entered ≡ None) × (turnstile.old.told ≡ 0) }
-    requires here { (IsSome asks.seat) × (IsSome spare.seat) }
-    requires places { (asks.place ≡ index.now.place) × (spare.place ≡ index.now.place) }
-    requires in_turn { InTurn false (map command_view turnstile.old.commands.now) }
-    requires opens { OpensAt origin.now (known_at asks.seat) }
-    requires said { AllByRecursion (AllAsked origin.now) (map command_view turnstile.old.commands.now) }
-    ensures here { IfOk result (λ d. (IsSome d.asks.seat) × (IsSome d.spare.seat)) }
-    ensures places { IfOk result (λ d. (d.asks.place ≡ index.now.place) × (d.spare.place ≡ index.now.place)) }
+    requires fresh { (turnstile.old.entered ≡ None) × (turnstile.old.told ≡ 0) × CanBeRun origin.now (map command_view turnstile.old.commands.now) }
+    requires ready { AreReady origin.now index.now.place asks spare }
+    ensures back { IfOk result (IsBack index.now.place) }
     ensures ran { (s : Setup) (numbers : Numbers) → IsSetup s origin.now (table_size index.now) (known_at asks.seat)
         → Begins s numbers (known_at asks.seat) (known_at spare.seat)
         → IfOk result (DoneRan s numbers (map command_view turnstile.old.commands.now)) }
-    ensures heard { IfOk result (λ _. AreHeard (G.hears turnstile.old.gate.now) turnstile.old.worker (length (map command_view turnstile.old.commands.now))) }
-    ensures left { IfOk result (λ _. turnstile.new.entered ≡ None) }
-    ensures told { IfOk result (λ _. turnstile.new.told ≡ length turnstile.old.commands.now) }
+    // It has left the turnstile, which has told of all commands.
+    ensures heard { IfOk result (λ _. AreHeard (G.hears turnstile.old.gate.now) turnstile.old.worker (length (map command_view turnstile.old.commands.now))
+        × (turnstile.new.entered ≡ None) × (turnstile.new.told ≡ length turnstile.old.commands.now)) }
 {
     let mut room = Room::new(alloc)?;
     let mut passes = Passes {

@@ -1,7 +1,7 @@
 //! A job on the index of its zone.
-ghost use Rattle.std.specs.Prelude.{◌≡◌, ◌≤◌, IfOk, List, length, Some, slice_get, false};
-ghost use Rattle.job_threads.specs.Prelude.{AllByRecursion, Version, entries_of_items, InTurn, passes_for, job_view};
-ghost use Rattle.job_threads.specs.Prelude.{AllAsked, IsZone, StandsAs, HeardOn, RanOn};
+ghost use Rattle.std.specs.Prelude.{◌≡◌, ◌≤◌, IfOk, length, Some, slice_get};
+ghost use Rattle.job_threads.specs.Prelude.{Version, entries_of_items, passes_for, job_view};
+ghost use Rattle.job_threads.specs.Prelude.{StandsAs, HeardOn, RanOn, CanRunOn};
 
 use crate::job::{Finished, run_job};
 use dns_name::Name;
@@ -33,10 +33,7 @@ fn run_named<R: Threads + Wait + Sync, N: Named + Send + Sync, G: Gate>(
     gate: &G,
 ) -> Result<Ran, AllocError>
     requires named { slice_get N.tables 0 ≡ Some blank.shared.table.shared.table_id }
-    requires passes { blank.shared.table.shared.key.passes ≡ passes_for (length job.now.workers.items) }
-    requires zone { IsZone origin.now (entries_of_items items.now) }
-    requires in_turn { AllByRecursion (InTurn false) (job_view job.now) }
-    requires said { AllByRecursion (AllByRecursion (AllAsked origin.now)) (job_view job.now) }
+    requires can { CanRunOn origin.now (entries_of_items items.now) blank.shared.table.shared.key.passes (length job.now.workers.items) (job_view job.now) }
     ensures ran { (zone : Version) → StandsAs (entries_of_items items.now) zone
         → IfOk result (RanOn blank.shared.table.shared.key.chunks origin.now zone (job_view job.now)) }
     // Each worker is told by its own number, from 1.
@@ -74,10 +71,7 @@ pub fn run_zone<R: Threads + Wait + Sync, G: Gate>(
     job: &Job,
     gate: &G,
 ) -> Result<Ran, AllocError>
-    requires passes { blank.shared.table.shared.key.passes ≡ passes_for (length job.now.workers.items) }
-    requires zone { IsZone origin.now (entries_of_items items.now) }
-    requires in_turn { AllByRecursion (InTurn false) (job_view job.now) }
-    requires said { AllByRecursion (AllByRecursion (AllAsked origin.now)) (job_view job.now) }
+    requires can { CanRunOn origin.now (entries_of_items items.now) blank.shared.table.shared.key.passes (length job.now.workers.items) (job_view job.now) }
     ensures ran { (zone : Version) → StandsAs (entries_of_items items.now) zone
         → IfOk result (RanOn blank.shared.table.shared.key.chunks origin.now zone (job_view job.now)) }
     // Each worker is told by its own number, from 1.

@@ -1,5 +1,7 @@
-use Rattle.std.proofs.Common.{◌≡◌}
+use Rattle.std.proofs.Common.{◌≡◌, ◌∙◌, sym, subst}
+use Rattle.qp_multi.specs.Closings.{AreAll}
 use Rattle.trie_write.specs.Entries.{entries_of_items}
+use Rattle.job_commands.specs.Commands.{known_in}
 use Rattle.job_commands.proofs.OpenLaws.{new_passes, all_open}
 use Rattle.job_commands.proofs.StationLaws.{if_both}
 use Rattle.job_commands.proofs.ZoneLaws.{zone_rises, zone_lawful}
@@ -13,8 +15,23 @@ open-requires-clause-lawful g c = zone_lawful c.args._origin.now (entries_of_ite
 
 pub returns-clause-opens : goal.returns-clause-opens
 returns-clause-opens g c =
-    if_both c.open.result (λ made first unused. all_open made.1.items (λ p. p.seat) (entries_of_items c.args.items.now) c.args._origin.now (λ p. p.place ≡ 0) c.requires.zone first) c.open.ensures.passes c.open.ensures.unused
-
-pub returns-clause-new : goal.returns-clause-new
-returns-clause-new g c =
-    if_both c.open.result (λ made first unused. new_passes made.1.items (λ p. p.seat) (entries_of_items c.args.items.now) (λ p. p.place ≡ 0) first unused) c.open.ensures.passes c.open.ensures.unused
+    let made = c.open.result in
+    let open = c.open.ensures in
+    let two = c.requires.passes in
+    let es = entries_of_items c.args.items.now in
+    let first = if_both made (λ m place passes. (place, passes)) open.place open.passes in
+    let second = if_both made (λ m first unused. (first, unused)) first open.unused in
+    let third = if_both made (λ m size count. (size, count)) open.size open.count in
+    let fourth = if_both made (λ m all fits. (all, fits)) open.all open.fits in
+    let fifth = if_both made (λ m third fourth. (third, fourth)) third fourth in
+    if_both made (λ m x y. record {
+      size = y.0.0;
+      passes = record {
+        count = y.0.1 ∙ two;
+        here = λ k d l. (let f = x.0.1 k d l in (f.0, f.1 ∙ sym x.0.0));
+        opens = all_open m.1.items (λ p. p.seat) es c.args._origin.now (λ p. p.place ≡ 0) c.requires.zone x.0.1;
+        all = subst (λ n. AreAll n (known_in m.1.items)) two y.1.0;
+      };
+      new = new_passes m.1.items (λ p. p.seat) es (λ p. p.place ≡ 0) x.0.1 x.1;
+      fits = y.1.1;
+    }) second fifth

@@ -14,5 +14,5 @@ returns-clause-sits g c = λ s commands os index w.
     let now = station_of c.run_command.new.passes in
     let steps = subst (λ command. IfOk c.run_command.result (λ o. Step s (command_view command) o was now)) c.new-entered.ensures
     (c.run_command.ensures.steps s (record { index = index; opening = w.work.ran.work.opened }) w.work.under) in
-    let told = seat_told c.args.passes.now.asks.seat c.requires.at.here in
+    let told = seat_told c.args.passes.now.asks.seat c.requires.can.at.here in
     if_both c.run_command.result (λ o step same. sits_on s was now commands os (command_view c.args.command.now) o told c.requires.may w step) steps steps

@@ -14,16 +14,23 @@ use Rattle.job_threads.proofs.worker.run_command.Goals as goal
 pub returns-in-Hold-clause-steps : goal.returns-in-Hold-clause-steps
 returns-in-Hold-clause-steps g c = λ s setup under. step_is s c.take_snapshot.result _ _ c.args.entered.command.now _ (sym c.command.ensures ∙ c.in-Hold.is) (c.take_snapshot.ensures.steps s setup.opening under)
 
-pub returns-in-Hold-clause-opens : goal.returns-in-Hold-clause-opens
-returns-in-Hold-clause-opens g c =
-    opens_still c.args.origin.now (known_at c.args.passes.now.asks.seat) (known_at c.take_snapshot.new.passes.asks.seat) (seat_told c.args.passes.now.asks.seat c.requires.here) c.take_snapshot.ensures.grows c.requires.opens
+pub returns-in-Hold-clause-can : goal.returns-in-Hold-clause-can
+returns-in-Hold-clause-can g c = record {
+  at = c.take_snapshot.ensures.taken.at;
+  held = search rules;
+  opens = opens_still c.args.origin.now (known_at c.args.passes.now.asks.seat) (known_at c.take_snapshot.new.passes.asks.seat) (seat_told c.args.passes.now.asks.seat c.requires.can.at.here) c.take_snapshot.ensures.grows c.requires.can.opens;
+}
 
-pub returns-in_ok-outcome-in-Ask-clause-opens : goal.returns-in_ok-outcome-in-Ask-clause-opens
-returns-in_ok-outcome-in-Ask-clause-opens g c =
+pub returns-in_ok-outcome-in-Ask-clause-can : goal.returns-in_ok-outcome-in-Ask-clause-can
+returns-in_ok-outcome-in-Ask-clause-can g c =
     let seat = c.args.passes.now.asks.seat in
     let s : Setup = record { chunks = c.args.index.now.shared.table.shared.key.chunks; passes = c.args.index.now.shared.table.shared.key.passes; origin = c.args.origin.now; opening = first_version (known_at seat).seen } in
-    let step = c.in_ok-outcome-in-Ask.ensures.steps s (record { index = record { origin_is = refl; chunks = refl; passes = refl }; opening = refl }) (Some seat) None c.requires.here (under_itself (known_at seat)) in
-    opens_still c.args.origin.now (known_at seat) (known_at c.run_alone.new.pass.seat) (seat_told seat c.requires.here) step.asks c.requires.opens
+    let step = c.in_ok-outcome-in-Ask.ensures.steps s (record { index = record { origin_is = refl; chunks = refl; passes = refl }; opening = refl }) (Some seat) None c.requires.can.at.here (under_itself (known_at seat)) in
+    record {
+      at = search rules;
+      held = search rules;
+      opens = opens_still c.args.origin.now (known_at seat) (known_at c.run_alone.new.pass.seat) (seat_told seat c.requires.can.at.here) step.asks c.requires.can.opens;
+    }
 
 pub returns-in_ok-outcome-in-AskHeld-clause-steps : goal.returns-in_ok-outcome-in-AskHeld-clause-steps
 returns-in_ok-outcome-in-AskHeld-clause-steps g c = λ s setup under.
@@ -36,4 +43,4 @@ returns-in-Release-clause-steps g c = λ s setup under. step_is s c.give_back.re
 
 pub returns-in_ok-outcome-in-Ask-clause-steps : goal.returns-in_ok-outcome-in-Ask-clause-steps
 returns-in_ok-outcome-in-Ask-clause-steps g c = λ s setup under.
-    c.in_ok-outcome-in-Ask.ensures.steps s setup (option_map (λ p. p.seat) c.args.passes.now.spare) (option_map (λ h. h.seat) c.args.passes.now.held) c.requires.placed under
+    c.in_ok-outcome-in-Ask.ensures.steps s setup (option_map (λ p. p.seat) c.args.passes.now.spare) (option_map (λ h. h.seat) c.args.passes.now.held) c.requires.can.at.placed under

@@ -18,12 +18,12 @@ use Rattle.job_threads.proofs.WorkerLaws.{worker_next, worker_back, turn_here, t
 use Rattle.job_threads.proofs.worker.run_worker.Goals as goal
 
 pub loop-place-init : goal.loop-place-init
-loop-place-init g c = record {
-  here = c.requires.here.0;
-  place = c.requires.places.0;
-  places = c.requires.places.1;
-  held_at = tt;
-  placed = c.requires.here.1;
+loop-place-init g c = let ready = c.requires.ready in record {
+  can = record {
+    at = record { here = ready.here.0; asks = ready.places.0; spare = ready.places.1; held = tt; placed = ready.here.1 };
+    held = refl;
+    opens = ready.opens;
+  };
   gate = refl;
   number = refl;
   commands = refl;
@@ -31,11 +31,10 @@ loop-place-init g c = record {
   told = c.requires.fresh.1;
   many = ap length c.in_ok-list.ensures.items;
   heard = λ place lt. absurd (omega arith);
-  turn = c.requires.in_turn;
-  opens = c.requires.opens;
-  said = c.requires.said;
+  turn = c.requires.fresh.2.in_turn;
+  said = c.requires.fresh.2.said;
   at = λ s numbers setup begins. subst (λ (os : List Outcome). WorkerAt s numbers (ended (known_at c.args.asks.seat) (known_at c.args.spare.seat)) [] (map command_view c.args.turnstile.now.commands.now) os) (sym c.in_ok-list.ensures.items)
-      (worker_starts s numbers (known_at c.args.asks.seat) (known_at c.args.spare.seat) (map command_view c.args.turnstile.now.commands.now) begins c.requires.in_turn);
+      (worker_starts s numbers (known_at c.args.asks.seat) (known_at c.args.spare.seat) (map command_view c.args.turnstile.now.commands.now) begins c.requires.fresh.2.in_turn);
 }
 
 pub enter-entered-requires-clause-there : goal.enter-entered-requires-clause-there
@@ -67,6 +66,7 @@ leave-requires-clause-done g c =
 pub loop-place-preserved : goal.loop-place-preserved
 loop-place-preserved g c =
     let i = c.loop-place.invariant in
+    let can = c.in_ok-outcome.ensures.can in
     let commands = c.args.turnstile.now.commands.now in
     let place = c.loop-place.place in
     let here = c.enter-entered.result.command.now in
@@ -79,11 +79,7 @@ loop-place-preserved g c =
     let before = same_told (g.G.Gate.hears) (λ n. Before n (next_number place)) _ _ _ _ (ap (λ r. r.now) i.gate) i.number c.enter-entered.ensures.heard in
     let after = same_told (g.G.Gate.hears) (λ n. After n (next_number place)) _ _ _ _ (ap (λ r. r.now) (inside.0 ∙ i.gate)) (inside.1 ∙ i.number) (c.leave.ensures.heard place c.enter-entered.ensures.entered) in
     record {
-      here = c.in_ok-outcome.ensures.here;
-      place = c.in_ok-outcome.ensures.place;
-      places = c.in_ok-outcome.ensures.places;
-      held_at = c.in_ok-outcome.ensures.held_at;
-      placed = c.in_ok-outcome.ensures.placed;
+      can = record { at = can.at; held = refl; opens = can.opens };
       gate = left.0 ∙ inside.0 ∙ i.gate;
       number = left.1 ∙ inside.1 ∙ i.number;
       commands = left.2 ∙ inside.2 ∙ i.commands;
@@ -91,8 +87,7 @@ loop-place-preserved g c =
       told = c.leave.ensures.told ∙ many;
       many = many;
       heard = one_more (λ k. IsHeard (g.G.Gate.hears c.args.turnstile.now.gate.now) c.args.turnstile.now.worker (next_number k)) place (place + 1) refl i.heard (before, after);
-      turn = turn_next (is_some (option_map (λ h. h.seat) c.loop-place.passes.held)) (is_some (option_map (λ h. h.seat) c.run_command.new.passes.held)) commands place here lt is c.in_ok-outcome.ensures.held i.turn;
-      opens = c.in_ok-outcome.ensures.opens;
+      turn = turn_next (is_some (option_map (λ h. h.seat) c.loop-place.passes.held)) (is_some (option_map (λ h. h.seat) c.run_command.new.passes.held)) commands place here lt is can.held i.turn;
       said = (said_here (AllAsked c.args.origin.now) commands place here lt is i.said).1;
       at = λ s numbers setup begins.
           let w = i.at s numbers setup begins in
@@ -101,7 +96,7 @@ loop-place-preserved g c =
           let old = station was.asks.seat (option_map (λ p. p.seat) was.spare) (option_map (λ h. h.seat) was.held) in
           let new = station now.asks.seat (option_map (λ p. p.seat) now.spare) (option_map (λ h. h.seat) now.held) in
           let step = c.in_ok-outcome.ensures.steps s (record { index = setup.index; opening = w.work.opened }) w.under in
-          worker_next s numbers old new commands place here c.loop-place.list.items c.in_ok-outcome.outcome c.push.new.self.items lt is c.in_ok-push.ensures.items (seat_told c.loop-place.passes.asks.seat i.here) w step;
+          worker_next s numbers old new commands place here c.loop-place.list.items c.in_ok-outcome.outcome c.push.new.self.items lt is c.in_ok-push.ensures.items (seat_told c.loop-place.passes.asks.seat i.can.at.here) w step;
     }
 
 pub returns-clause-ran : goal.returns-clause-ran
@@ -111,11 +106,11 @@ returns-clause-ran g c = λ s numbers setup begins.
     let w = c.loop-place.invariant.at s numbers setup begins in
     let passes = c.loop-place.passes in
     let at = station passes.asks.seat (option_map (λ p. p.seat) passes.spare) (option_map (λ h. h.seat) passes.held) in
-    worker_back s numbers at (known_at c.second_pass-asks.result.0.seat) (known_at c.second_pass-asks.result.1.seat) (map command_view commands) c.loop-place.list.items (ap (λ p. known_at p.seat) c.second_pass-asks.ensures.same) c.second_pass-asks.ensures.pass
+    worker_back s numbers at (known_at c.second_pass-asks.result.0.seat) (known_at c.second_pass-asks.result.1.seat) (map command_view commands) c.loop-place.list.items (ap (λ p. known_at p.seat) c.second_pass-asks.ensures.same) c.second_pass-asks.ensures.second.pass
     (worker_ran s numbers at (map command_view commands) (map command_view (take c.loop-place.place commands)) _ c.loop-place.list.items (ap (map command_view) (take_all c.loop-place.place commands past)) w)
 
 pub returns-clause-heard : goal.returns-clause-heard
-returns-clause-heard g c = λ place lt.
+returns-clause-heard g c =
     let many = length-map c.args.turnstile.now.commands.now command_view in
     let past : length c.args.turnstile.now.commands.now ≤ c.loop-place.place = omega (arith, c.loop-place-test.false, c.count-count.ensures) in
-    c.loop-place.invariant.heard place (omega (arith, lt, many, past))
+    (λ place lt. c.loop-place.invariant.heard place (omega (arith, lt, many, past)), search rules, search rules)
