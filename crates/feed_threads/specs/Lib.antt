@@ -1,4 +1,5 @@
 pub mod Feeds
 pub mod Gatherings
+pub mod Ready
 pub mod Zones
 pub mod Prelude

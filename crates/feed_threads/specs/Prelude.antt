@@ -10,3 +10,4 @@ pub use Rattle.feed_threads.specs.Feeds.{AllFedHeard, AreInOrder, AreTaken, FedH
 pub use Rattle.feed_threads.specs.Feeds.{done_seat, numbered, numbers_served, seats_served, served_by}
 pub use Rattle.feed_threads.specs.Gatherings.{AreGathered, DoneRan}
 pub use Rattle.feed_threads.specs.Zones.{FedHeardOn, FedRanOn}
+pub use Rattle.feed_threads.specs.Ready.{AreBack, AreFed, CanBePlaced, CanFeed, CanFeedOn, CanServe, IsBack, IsReady, PassesAreBack}

@@ -1,9 +1,9 @@
 //! One list of commands, of which each worker takes the next one when it comes free.
-ghost use Rattle.std.specs.Prelude.{◌≡◌, ◌+◌, ◌<◌, ◌≤◌, ◌∷◌, ℕ, List, All, IsSome, IfOk, length, map, Some, None};
-ghost use Rattle.feed_threads.specs.Prelude.{AllByRecursion, IsSync, Version, NeedsNoSnapshot, passes_fed, command_view, new_seat};
-ghost use Rattle.feed_threads.specs.Prelude.{AllAsked, known_at, Learnt, AreAll, Setup, StandsAs, AreNew, IsNew, table_size, known_in};
-ghost use Rattle.feed_threads.specs.Prelude.{IsHeard, IsIndex, IsSetup, OpensAt, AreGathered, DoneRan, FedHeard, IsFedRun};
-ghost use Rattle.feed_threads.specs.Prelude.{AllFedHeard, IsServed, done_seat, seats_served};
+ghost use Rattle.std.specs.Prelude.{◌≡◌, ◌+◌, ◌<◌, ◌∷◌, ℕ, IsSome, IfOk, length, map, Some, None};
+ghost use Rattle.feed_threads.specs.Prelude.{AllByRecursion, IsSync, Version, command_view};
+ghost use Rattle.feed_threads.specs.Prelude.{known_at, Learnt, AreAll, Setup, StandsAs, AreNew, IsNew, table_size, known_in};
+ghost use Rattle.feed_threads.specs.Prelude.{IsHeard, IsIndex, IsSetup, AreGathered, DoneRan, FedHeard, IsFedRun};
+ghost use Rattle.feed_threads.specs.Prelude.{AllFedHeard, AreBack, AreFed, CanFeed, CanServe, IsBack, IsReady, PassesAreBack};
 
 use crate::ordering::{Served, in_order};
 use crew::Turnstile;
@@ -53,23 +53,15 @@ fn serve<R: Wait, N: Named, G: Gate>(
     mut pass: Pass<N>,
     mut seat: FeedSeat,
 ) -> Result<FedDone<N>, AllocError>
-    requires fresh { (turnstile.old.entered ≡ None) × (turnstile.old.told ≡ 0) }
-    requires here { IsSome pass.seat }
-    requires place { pass.place ≡ index.now.place }
-    requires seat { seat ≡ new_seat feed.now }
-    requires count { feed.now.count ≡ length turnstile.old.commands.now }
-    requires no_snapshots { AllByRecursion NeedsNoSnapshot (map command_view turnstile.old.commands.now) }
-    requires opens { OpensAt origin.now (known_at pass.seat) }
-    requires said { AllByRecursion (AllAsked origin.now) (map command_view turnstile.old.commands.now) }
-    ensures here { IfOk result (λ d. IsSome d.pass.seat) }
-    ensures place { IfOk result (λ d. d.pass.place ≡ index.now.place) }
-    ensures seat { IfOk result (λ d. d.seat ≡ done_seat feed.now d.served.numbers.items) }
-    ensures alike { IfOk result (λ d. IsServed d.served) }
+    requires fresh { (turnstile.old.entered ≡ None) × (turnstile.old.told ≡ 0)
+        × AreFed origin.now feed.now (length turnstile.old.commands.now) (map command_view turnstile.old.commands.now) }
+    requires ready { IsReady origin.now index.now.place feed.now pass seat }
+    ensures back { IfOk result (IsBack index.now.place feed.now) }
     ensures ran { (s : Setup) (number : ℕ) → IsSetup s origin.now (table_size index.now) (known_at pass.seat)
         → IsNew number s.opening (known_at pass.seat) → IfOk result (DoneRan s number (known_at pass.seat) (map command_view turnstile.old.commands.now)) }
-    ensures heard { IfOk result (λ d. AllByRecursion (IsHeard (G.hears turnstile.old.gate.now) turnstile.old.worker) d.served.numbers.items) }
-    ensures left { IfOk result (λ _. turnstile.new.entered ≡ None) }
-    ensures told { IfOk result (λ d. turnstile.new.told ≡ length d.served.numbers.items) }
+    // It has left the turnstile, which has told of all that it took.
+    ensures heard { IfOk result (λ d. AllByRecursion (IsHeard (G.hears turnstile.old.gate.now) turnstile.old.worker) d.served.numbers.items
+        × (turnstile.new.entered ≡ None) × (turnstile.new.told ≡ length d.served.numbers.items)) }
 {
     let mut room = Room::new(alloc)?;
     let mut numbers = Vec::new(alloc);
@@ -95,14 +87,11 @@ fn with_served<N: Named>(
     done: FedDone<N>,
     others: FedGathered<N>,
 ) -> Result<FedGathered<N>, AllocError>
-    requires here { (IsSome done.pass.seat) × (IsSome others.main.seat) }
-    requires places { (done.pass.place ≡ index.now.place) × (others.main.place ≡ index.now.place) }
-    requires others { All (λ p. (IsSome p.seat) × (p.place ≡ index.now.place)) others.passes.items }
-    ensures main { IfOk result (λ g. (IsSome g.main.seat) × (g.main.place ≡ index.now.place)) }
-    ensures here { IfOk result (λ g. All (λ p. (IsSome p.seat) × (p.place ≡ index.now.place)) g.passes.items) }
-    ensures served { IfOk result (λ g. g.served.items ≡ done.served ∷ others.served.items) }
-    ensures seats { IfOk result (λ g. g.seats.items ≡ done.seat ∷ others.seats.items) }
-    ensures passes { IfOk result (λ g. known_in g.passes.items ≡ known_at done.pass.seat ∷ known_in others.passes.items) }
+    requires done { (IsSome done.pass.seat) × (done.pass.place ≡ index.now.place) }
+    requires others { PassesAreBack index.now.place others }
+    ensures back { IfOk result (PassesAreBack index.now.place) }
+    ensures gathers { IfOk result (λ g. (g.served.items ≡ done.served ∷ others.served.items) × (g.seats.items ≡ done.seat ∷ others.seats.items)
+        × (known_in g.passes.items ≡ known_at done.pass.seat ∷ known_in others.passes.items)) }
     ensures learnt { IfOk result (λ g. Learnt (known_at others.main.seat) (known_at g.main.seat) (known_at done.pass.seat).seen) }
 {
     let FedDone {
@@ -144,18 +133,8 @@ fn serve_all<R: Threads + Wait + Sync, N: Named + Send + Sync, G: Gate>(
     mut seats: Vec<FeedSeat>,
     gate: &G,
 ) -> Result<FedGathered<N>, AllocError>
-    requires passes { length passes.items ≡ length seats.items + 1 }
-    requires here { All (λ p. (IsSome p.seat) × (p.place ≡ index.now.place)) passes.items }
-    requires seats { All (λ seat. seat ≡ new_seat feed.now) seats.items }
-    requires count { feed.now.count ≡ length commands.now }
-    requires no_snapshots { AllByRecursion NeedsNoSnapshot (map command_view commands.now) }
-    requires opens { All (λ p. OpensAt origin.now (known_at p.seat)) passes.items }
-    requires said { AllByRecursion (AllAsked origin.now) (map command_view commands.now) }
-    ensures main { IfOk result (λ g. (IsSome g.main.seat) × (g.main.place ≡ index.now.place)) }
-    ensures here { IfOk result (λ g. All (λ p. (IsSome p.seat) × (p.place ≡ index.now.place)) g.passes.items) }
-    ensures many { IfOk result (λ g. length g.served.items ≡ length seats.items) }
-    ensures seats { IfOk result (λ g. g.seats.items ≡ seats_served feed.now g.served.items) }
-    ensures alike { IfOk result (λ g. AllByRecursion IsServed g.served.items) }
+    requires can { CanServe origin.now index.now.place feed.now (length commands.now) (map command_view commands.now) passes.items seats.items }
+    ensures back { IfOk result (AreBack index.now.place feed.now (length seats.items)) }
     ensures ran { (s : Setup) → IsIndex s origin.now (table_size index.now) → AreNew s.opening (known_in passes.items)
         → IfOk result (AreGathered s (known_in passes.items) (map command_view commands.now)) }
     ensures heard { IfOk result (λ g. FedHeard (G.hears gate.now) worker g.served.items) }
@@ -174,17 +153,9 @@ fn serve_all<R: Threads + Wait + Sync, N: Named + Send + Sync, G: Gate>(
     };
     let next = worker.saturating_add(1);
     let first = move || -> Result<FedDone<N>, AllocError>
-        requires here { IsSome pass.seat }
-        requires place { pass.place ≡ index.now.place }
-        requires seat { seat ≡ new_seat feed.now }
-        requires count { feed.now.count ≡ length commands.now }
-        requires no_snapshots { AllByRecursion NeedsNoSnapshot (map command_view commands.now) }
-        requires opens { OpensAt origin.now (known_at pass.seat) }
-        requires said { AllByRecursion (AllAsked origin.now) (map command_view commands.now) }
-        ensures here { IfOk result (λ d. IsSome d.pass.seat) }
-        ensures place { IfOk result (λ d. d.pass.place ≡ index.entry.now.place) }
-        ensures seat { IfOk result (λ d. d.seat ≡ done_seat feed.entry.now d.served.numbers.items) }
-        ensures alike { IfOk result (λ d. IsServed d.served) }
+        requires ready { IsReady origin.now index.now.place feed.now pass seat }
+        requires commands { AreFed origin.now feed.now (length commands.now) (map command_view commands.now) }
+        ensures back { IfOk result (IsBack index.entry.now.place feed.entry.now) }
         ensures ran { (s : Setup) (number : ℕ) → IsSetup s origin.entry.now (table_size index.entry.now) (known_at pass.seat)
             → IsNew number s.opening (known_at pass.seat) → IfOk result (DoneRan s number (known_at pass.seat) (map command_view commands.entry.now)) }
         ensures heard { IfOk result (λ d. AllByRecursion (IsHeard (G.hears gate.entry.now) worker) d.served.numbers.items) }
@@ -194,18 +165,8 @@ fn serve_all<R: Threads + Wait + Sync, N: Named + Send + Sync, G: Gate>(
     };
     let rest = move || -> Result<FedGathered<N>, AllocError>
         requires sync { IsSync R.row }
-        requires passes { length passes.items ≡ length seats.items + 1 }
-        requires here { All (λ p. (IsSome p.seat) × (p.place ≡ index.now.place)) passes.items }
-        requires seats { All (λ seat. seat ≡ new_seat feed.now) seats.items }
-        requires count { feed.now.count ≡ length commands.now }
-        requires no_snapshots { AllByRecursion NeedsNoSnapshot (map command_view commands.now) }
-        requires opens { All (λ p. OpensAt origin.now (known_at p.seat)) passes.items }
-        requires said { AllByRecursion (AllAsked origin.now) (map command_view commands.now) }
-        ensures main { IfOk result (λ g. (IsSome g.main.seat) × (g.main.place ≡ index.entry.now.place)) }
-        ensures here { IfOk result (λ g. All (λ p. (IsSome p.seat) × (p.place ≡ index.entry.now.place)) g.passes.items) }
-        ensures many { IfOk result (λ g. length g.served.items ≡ length seats.items) }
-        ensures seats { IfOk result (λ g. g.seats.items ≡ seats_served feed.entry.now g.served.items) }
-        ensures alike { IfOk result (λ g. AllByRecursion IsServed g.served.items) }
+        requires can { CanServe origin.now index.now.place feed.now (length commands.now) (map command_view commands.now) passes.items seats.items }
+        ensures back { IfOk result (AreBack index.entry.now.place feed.entry.now (length seats.items)) }
         ensures ran { (s : Setup) → IsIndex s origin.entry.now (table_size index.entry.now) → AreNew s.opening (known_in passes.items)
             → IfOk result (AreGathered s (known_in passes.items) (map command_view commands.entry.now)) }
         ensures heard { IfOk result (λ g. FedHeard (G.hears gate.entry.now) next g.served.items) }
@@ -229,15 +190,9 @@ pub fn run_feed<R: Threads + Wait + Sync, N: Named + Send + Sync, G: Gate>(
     workers: u32,
     gate: &G,
 ) -> Result<FedFinished, AllocError>
-    requires workers { (1 ≤ workers) × (workers ≤ 16) }
-    requires passes { length passes.items ≡ passes_fed workers }
+    requires can { CanFeed origin.now index.place workers (length commands.now) (map command_view commands.now) passes.items }
     requires size { index.shared.table.shared.key.passes ≡ length passes.items }
     requires all { AreAll (length passes.items) (known_in passes.items) }
-    requires here { All (λ p. (IsSome p.seat) × (p.place ≡ index.place)) passes.items }
-    requires count { (1 ≤ length commands.now) × (length commands.now ≤ 10000) }
-    requires no_snapshots { AllByRecursion NeedsNoSnapshot (map command_view commands.now) }
-    requires opens { All (λ p. OpensAt origin.now (known_at p.seat)) passes.items }
-    requires said { AllByRecursion (AllAsked origin.now) (map command_view commands.now) }
     ensures ran { (s : Setup) (zone : Version) → IsIndex s origin.now (table_size index) → StandsAs s.opening zone → AreNew s.opening (known_in passes.items)
         → IfOk result (λ f. IsFedRun s.chunks workers origin.now zone (map command_view commands.now) f.outcomes.items f.version f.names) }
     // Each command is told by the number of the worker that ran it, and its own.

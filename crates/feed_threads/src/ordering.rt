@@ -1,7 +1,7 @@
 //! The outcomes of one list's commands, in the order of these.
-ghost use Rattle.std.specs.Prelude.{◌≡◌, ◌≢◌, ◌<◌, ◌≤◌, ◌-◌, [], ℕ, All, IfOk, IsSome, Some, length, map, replicate, slice_set};
-ghost use Rattle.feed_threads.specs.Prelude.{AllByRecursion, IsStrictlyIncreasing, AreInOrder, AreTaken};
-ghost use Rattle.feed_threads.specs.Prelude.{IsBy, IsFree, IsServed, numbered, numbers_served, served_by};
+ghost use Rattle.std.specs.Prelude.{◌≡◌, ◌≢◌, ◌<◌, ◌≤◌, ◌-◌, ℕ, IfOk, IsSome, Some, length, map, replicate, slice_set};
+ghost use Rattle.feed_threads.specs.Prelude.{AllByRecursion, AreInOrder, AreTaken};
+ghost use Rattle.feed_threads.specs.Prelude.{IsBy, IsServed, numbered, numbers_served, served_by, CanBePlaced};
 
 use job_report::{FedOutcome, Outcomes};
 use std::alloc::{AllocError, Global};
@@ -35,10 +35,7 @@ fn place_one(places: &mut [Option<FedOutcome>], place: usize, outcome: FedOutcom
 
 // Puts a worker's outcomes into the places of their numbers.
 fn place_served(places: &mut [Option<FedOutcome>], worker: u32, served: Served)
-    requires alike { IsServed served }
-    requires rising { IsStrictlyIncreasing served.numbers.items }
-    requires free { AllByRecursion (IsFree places.old) served.numbers.items }
-    requires none { served_by worker 1 places.old ≡ [] }
+    requires { CanBePlaced worker served places.old }
     ensures mine { served_by worker 1 places.new ≡ numbered served }
     ensures others { (other : ℕ) → other ≢ worker → served_by other 1 places.new ≡ served_by other 1 places.old }
     ensures workers { (low high : ℕ) → low < worker → worker ≤ high → AllByRecursion (IsBy low high) places.old → AllByRecursion (IsBy low high) places.new }

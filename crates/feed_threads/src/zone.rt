@@ -1,7 +1,7 @@
 //! One list of commands on the index of its zone.
-ghost use Rattle.std.specs.Prelude.{◌≡◌, ◌≤◌, IfOk, List, length, map, Some, slice_get};
-ghost use Rattle.feed_threads.specs.Prelude.{AllByRecursion, Version, NeedsNoSnapshot, passes_fed, command_view};
-ghost use Rattle.feed_threads.specs.Prelude.{AllAsked, entries_of_items, IsZone, StandsAs, FedHeardOn, FedRanOn};
+ghost use Rattle.std.specs.Prelude.{◌≡◌, ◌≤◌, IfOk, length, map, Some, slice_get};
+ghost use Rattle.feed_threads.specs.Prelude.{Version, passes_fed, command_view};
+ghost use Rattle.feed_threads.specs.Prelude.{entries_of_items, StandsAs, FedHeardOn, FedRanOn, CanFeedOn};
 
 use crate::feeding::{FedFinished, run_feed};
 use dns_name::Name;
@@ -34,12 +34,8 @@ fn run_list_named<R: Threads + Wait + Sync, N: Named + Send + Sync, G: Gate>(
     gate: &G,
 ) -> Result<FedRan, AllocError>
     requires named { slice_get N.tables 0 ≡ Some blank.shared.table.shared.table_id }
-    requires workers { (1 ≤ workers) × (workers ≤ 16) }
-    requires passes { blank.shared.table.shared.key.passes ≡ passes_fed workers }
-    requires zone { IsZone origin.now (entries_of_items items.now) }
-    requires count { (1 ≤ length commands.now) × (length commands.now ≤ 10000) }
-    requires no_snapshots { AllByRecursion NeedsNoSnapshot (map command_view commands.now) }
-    requires said { AllByRecursion (AllAsked origin.now) (map command_view commands.now) }
+    requires can { CanFeedOn origin.now (entries_of_items items.now) blank.shared.table.shared.key.passes workers (length commands.now)
+        (map command_view commands.now) }
     ensures ran { (zone : Version) → StandsAs (entries_of_items items.now) zone
         → IfOk result (FedRanOn blank.shared.table.shared.key.chunks workers origin.now zone (map command_view commands.now)) }
     // Each command is told by the number of the worker that ran it, and its own.
@@ -82,12 +78,8 @@ pub fn run_list<R: Threads + Wait + Sync, G: Gate>(
     workers: u32,
     gate: &G,
 ) -> Result<FedRan, AllocError>
-    requires workers { (1 ≤ workers) × (workers ≤ 16) }
-    requires passes { blank.shared.table.shared.key.passes ≡ passes_fed workers }
-    requires zone { IsZone origin.now (entries_of_items items.now) }
-    requires count { (1 ≤ length commands.now) × (length commands.now ≤ 10000) }
-    requires no_snapshots { AllByRecursion NeedsNoSnapshot (map command_view commands.now) }
-    requires said { AllByRecursion (AllAsked origin.now) (map command_view commands.now) }
+    requires can { CanFeedOn origin.now (entries_of_items items.now) blank.shared.table.shared.key.passes workers (length commands.now)
+        (map command_view commands.now) }
     ensures ran { (zone : Version) → StandsAs (entries_of_items items.now) zone
         → IfOk result (FedRanOn blank.shared.table.shared.key.chunks workers origin.now zone (map command_view commands.now)) }
     // Each command is told by the number of the worker that ran it, and its own.

@@ -13,19 +13,19 @@ use Rattle.feed_threads.proofs.feeding.+serving.Goals as goal
 
 pub returns-in_default-pop-clause-ran : goal.returns-in_default-pop-clause-ran
 returns-in_default-pop-clause-ran g t c = λ s index new.
-    let alone : length c.args.passes.items ≡ 1 = search (rules, c.requires.passes, c.in_default-pop.ensures) in
+    let alone : length c.args.passes.items ≡ 1 = search (rules, c.requires.can.count, c.in_default-pop.ensures) in
     let commands = map command_view c.args.commands.now in
     gathers_main c.args.passes.items c.pop.new.self.items c.in-Some.pass (λ p. known_at p.seat) s (commands_served commands c.new.result.items) (outcomes_served c.new.result.items) c.in-Some.ensures.items alone
     (ap (commands_served commands) c.new.ensures.items) (ap outcomes_served c.new.ensures.items) new
 
 pub join-done-requires-after_bounds : goal.join-done-requires-after_bounds
 join-done-requires-after_bounds g t c =
-    let pass = popped c.args.passes.items c.pop.new.self.items c.in-Some.pass (λ p. (IsSome p.seat) × (p.place ≡ c.args.index.now.place)) c.in-Some.ensures.items c.requires.here in
-    let seat = popped c.args.seats.items c.pop-2.new.self.items c.in-Some-pop.seat (λ (t : Takings). t ≡ new_seat c.args.feed.now) c.in-Some-pop.ensures.items c.requires.seats in
-    let opens = popped c.args.passes.items c.pop.new.self.items c.in-Some.pass (λ p. OpensAt c.args.origin.now (known_at p.seat)) c.in-Some.ensures.items c.requires.opens in
+    let pass = popped c.args.passes.items c.pop.new.self.items c.in-Some.pass (λ p. (IsSome p.seat) × (p.place ≡ c.args.index.now.place)) c.in-Some.ensures.items c.requires.can.here in
+    let seat = popped c.args.seats.items c.pop-2.new.self.items c.in-Some-pop.seat (λ (t : Takings). t ≡ new_seat c.args.feed.now) c.in-Some-pop.ensures.items c.requires.can.seats in
+    let opens = popped c.args.passes.items c.pop.new.self.items c.in-Some.pass (λ p. OpensAt c.args.origin.now (known_at p.seat)) c.in-Some.ensures.items c.requires.can.opens in
     λ κs bounds. (
-      (pass.1.0, (pass.1.1, (seat.1, (c.requires.count, (c.requires.no_snapshots, (opens.1, (c.requires.said, search rules))))))),
-      (search rules, (search rules, (search rules, (search rules, (search rules, (search rules, (pass.0, (seat.0, (c.requires.count, (c.requires.no_snapshots, (opens.0, (c.requires.said, search rules)))))))))))),
+      (record { here = pass.1.0; place = pass.1.1; opens = opens.1; seat = seat.1 }, (c.requires.can.commands, search rules)),
+      (search rules, (search rules, (search rules, (search rules, (search rules, (record { count = search rules; here = pass.0; opens = opens.0; seats = seat.0; commands = c.requires.can.commands }, search rules)))))),
     )
 
 pub returns-clause-ran : goal.returns-clause-ran
@@ -38,21 +38,21 @@ returns-clause-ran g t c = λ s index new.
     let pass = c.in-Some.pass in
     let last = c.in-Some.ensures.items in
     let commands = map command_view c.args.commands.now in
-    let main = at_ok _ others _ c.in_ok-others.was second.0 in
+    let main = (at_ok _ others _ c.in_ok-others.was second.0).passes.main in
     gathers_served c.with_served.result (λ g. g.served.items) (λ g. map (λ p. known_at p.seat) g.passes.items) (λ g. known_at g.main.seat) s (map (λ p. known_at p.seat) passes) commands (done.served ∷ others.served.items)
-    (known_at done.pass.seat ∷ map (λ p. known_at p.seat) others.passes.items) (known_at others.main.seat) (known_at done.pass.seat) c.with_served.ensures.served c.with_served.ensures.passes c.with_served.ensures.learnt
+    (known_at done.pass.seat ∷ map (λ p. known_at p.seat) others.passes.items) (known_at others.main.seat) (known_at done.pass.seat) (if_ok c.with_served.result (λ _ h. h.0) c.with_served.ensures.gathers) (if_ok c.with_served.result (λ _ h. h.2) c.with_served.ensures.gathers) c.with_served.ensures.learnt
     (λ after learnt. gathers_server passes front pass (λ p. known_at p.seat) s last new c.args.origin.now c.args.index.now.shared.table.shared.key index (commands_served commands others.served.items) (outcomes_served others.served.items) (map (λ p. known_at p.seat) others.passes.items)
     (known_at others.main.seat) after (known_at done.pass.seat) (commands_at commands done.served.numbers.items) done.served.outcomes
-    (at_ok _ others _ c.in_ok-others.was (second.1.1.1.1.1.0 s index (front_new passes front pass (λ p. known_at p.seat) s last new)))
-    (λ n setup begins. at_ok _ done _ c.in_ok-done.was (c.join-done.ensures.first.1.1.1.1.0 s n setup begins)) (seat_told others.main.seat main.0) learnt)
+    (at_ok _ others _ c.in_ok-others.was (second.1.0 s index (front_new passes front pass (λ p. known_at p.seat) s last new)))
+    (λ n setup begins. at_ok _ done _ c.in_ok-done.was (c.join-done.ensures.first.1.0 s n setup begins)) (seat_told others.main.seat main.0) learnt)
 
 pub returns-in_default-pop-clause-heard : goal.returns-in_default-pop-clause-heard
 returns-in_default-pop-clause-heard g t c = subst (FedHeard (g.G.Gate.hears c.args.gate.now) c.args.worker) (sym c.new.ensures.items) tt
 
 pub returns-clause-heard : goal.returns-clause-heard
 returns-clause-heard g t c =
-    let mine = at_ok _ c.in_ok-done.field-0 _ c.in_ok-done.was c.join-done.ensures.first.1.1.1.1.1 in
-    let theirs = at_ok _ c.in_ok-others.field-0 _ c.in_ok-others.was c.join-done.ensures.second.1.1.1.1.1.1 in
+    let mine = at_ok _ c.in_ok-done.field-0 _ c.in_ok-done.was c.join-done.ensures.first.1.1 in
+    let theirs = at_ok _ c.in_ok-others.field-0 _ c.in_ok-others.was c.join-done.ensures.second.1.1 in
     if_ok c.with_served.result
-    (λ x e. subst (FedHeard (g.G.Gate.hears c.args.gate.now) c.args.worker) (sym e) (mine, subst (λ n. FedHeard (g.G.Gate.hears c.args.gate.now) n c.in_ok-others.field-0.served.items) c.saturating_add-next.ensures theirs))
-    c.with_served.ensures.served
+    (λ x e. subst (FedHeard (g.G.Gate.hears c.args.gate.now) c.args.worker) (sym e.0) (mine, subst (λ n. FedHeard (g.G.Gate.hears c.args.gate.now) n c.in_ok-others.field-0.served.items) c.saturating_add-next.ensures theirs))
+    c.with_served.ensures.gathers

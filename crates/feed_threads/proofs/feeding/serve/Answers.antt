@@ -22,13 +22,14 @@ use Rattle.feed_threads.proofs.feeding.serve.Goals as goal
 
 pub loop-number-init : goal.loop-number-init
 loop-number-init g c =
+    let ready = c.requires.ready in
     let none = c.new-numbers.ensures.items in
     let first = c.args.pass.seat in
     record {
-      here = c.requires.here;
-      place = c.requires.place;
-      feed = ap (λ (t : Takings). t.feed) c.requires.seat;
-      taken = ap (λ (t : Takings). t.taken) c.requires.seat ∙ sym none;
+      here = ready.here;
+      place = ready.place;
+      feed = ap (λ (t : Takings). t.feed) ready.seat;
+      taken = ap (λ (t : Takings). t.taken) ready.seat ∙ sym none;
       alike = ap length none ∙ sym (ap length c.new-list.ensures.items);
       gate = refl;
       number = refl;
@@ -36,7 +37,7 @@ loop-number-init g c =
       free = c.requires.fresh.0;
       told = c.requires.fresh.1 ∙ sym (ap length c.new-list.ensures.items);
       heard = subst (AllByRecursion (IsHeard (g.G.Gate.hears c.args.turnstile.now.gate.now) c.args.turnstile.now.worker)) (sym none) tt;
-      opens = c.requires.opens;
+      opens = ready.opens;
       at = λ s number setup new.
           subst (λ (l : List ℕ). WorkerAt s (only number) (station first (Some first) None) (commands_at (map command_view c.args.turnstile.now.commands.now) l) [] c.new-list.result.items) (sym none)
           (subst (λ (l : List Outcome). WorkerAt s (only number) (station first (Some first) None) [] [] l) (sym c.new-list.ensures.items) (serve_starts s number first new));
@@ -44,7 +45,7 @@ loop-number-init g c =
 
 pub enter-entered-requires-clause-there : goal.enter-entered-requires-clause-there
 enter-entered-requires-clause-there g c =
-    let inside : c.in-Some.number - 1 < length c.args.turnstile.now.commands.now = search rules in
+    let inside : c.in-Some.number - 1 < length c.args.turnstile.now.commands.now = search (rules, c.requires.fresh.2.count) in
     λ κs bounds. subst (λ l. c.in-Some.number - 1 < length l.now) (sym c.loop-number.invariant.commands) inside
 
 pub run_alone-requires-clause-no_snapshot : goal.run_alone-requires-clause-no_snapshot
@@ -53,7 +54,7 @@ run_alone-requires-clause-no_snapshot g c =
     let place = c.in-Some.number - 1 in
     let here = c.enter-entered.result.command.now in
     let there = subst (λ l. slice_get l.now place ≡ Some here) c.loop-number.invariant.commands c.enter-entered.ensures.command in
-    plain_here commands c.in-Some.number here c.requires.no_snapshots (slice_get_within commands place here there) (sym (get_or_from_slice_get commands place here here there))
+    plain_here commands c.in-Some.number here c.requires.fresh.2.no_snapshots (slice_get_within commands place here there) (sym (get_or_from_slice_get commands place here here there))
 
 pub run_alone-requires-clause-said : goal.run_alone-requires-clause-said
 run_alone-requires-clause-said g c =
@@ -61,7 +62,7 @@ run_alone-requires-clause-said g c =
     let place = c.in-Some.number - 1 in
     let here = c.enter-entered.result.command.now in
     let there = subst (λ l. slice_get l.now place ≡ Some here) c.loop-number.invariant.commands c.enter-entered.ensures.command in
-    so_here (AllAsked c.args.origin.now) commands c.in-Some.number here c.requires.said (slice_get_within commands place here there) (sym (get_or_from_slice_get commands place here here there))
+    so_here (AllAsked c.args.origin.now) commands c.in-Some.number here c.requires.fresh.2.said (slice_get_within commands place here there) (sym (get_or_from_slice_get commands place here here there))
 
 pub leave-requires-clause-done : goal.leave-requires-clause-done
 leave-requires-clause-done g c =
@@ -108,9 +109,9 @@ loop-number-preserved g c =
           opens_still c.args.origin.now (known_at seat) (known_at c.run_alone.new.pass.seat) (seat_told seat i.here) step.asks i.opens;
       at = λ s number setup new.
           let w = i.at s number setup new in
-          let step = c.in_ok-outcome.ensures.steps s (record { index = setup.index; opening = w.work.opened }) (Some first) None c.requires.here w.under in
+          let step = c.in_ok-outcome.ensures.steps s (record { index = setup.index; opening = w.work.opened }) (Some first) None c.requires.ready.here w.under in
           serve_next s (only number) c.loop-number.pass.seat c.run_alone.new.pass.seat first (map command_view commands) c.loop-number.numbers.items c.push.new.self.items c.in-Some.number (command_view here) c.loop-number.list.items c.push-in-Some.new.self.items c.in_ok-outcome.outcome
-          (seat_told c.loop-number.pass.seat i.here) (command_here commands c.in-Some.number here lt is) (plain_here commands c.in-Some.number here c.requires.no_snapshots lt is)
+          (seat_told c.loop-number.pass.seat i.here) (command_here commands c.in-Some.number here lt is) (plain_here commands c.in-Some.number here c.requires.fresh.2.no_snapshots lt is)
           c.in_ok-push.ensures.items c.in_ok-push-2.ensures.items w step;
     }
 

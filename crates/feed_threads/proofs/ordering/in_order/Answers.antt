@@ -9,23 +9,18 @@ use Rattle.feed_threads.proofs.ordering.in_order.Goals as goal
 pub loop-one-init : goal.loop-one-init
 loop-one-init c = ordering_begins c.args.served.items c.args.end c.in_ok-places.places.items c.in_ok-places.ensures
 
-pub place_served-requires-clause-alike : goal.place_served-requires-clause-alike
-place_served-requires-clause-alike c = next_alike c.args.served.items c.loop-one.served.items c.pop.new.self.items c.args.end c.in-Some.one c.loop-one.places.items c.in-Some.ensures.items c.requires.taken c.requires.alike c.loop-one.invariant
-
-pub place_served-requires-clause-rising : goal.place_served-requires-clause-rising
-place_served-requires-clause-rising c = next_rising c.args.served.items c.loop-one.served.items c.pop.new.self.items c.args.end c.in-Some.one c.loop-one.places.items c.in-Some.ensures.items c.requires.taken c.requires.alike c.loop-one.invariant
-
-pub place_served-requires-clause-free : goal.place_served-requires-clause-free
-place_served-requires-clause-free c =
-    subst (λ (l : Places). AllByRecursion (IsFree l) c.in-Some.one.numbers.items) (sym c.deref_mut.ensures.value)
-    (next_free c.args.served.items c.loop-one.served.items c.pop.new.self.items c.args.end c.in-Some.one c.loop-one.places.items c.in-Some.ensures.items c.requires.taken c.requires.alike c.loop-one.invariant)
-
-pub place_served-requires-clause-none : goal.place_served-requires-clause-none
-place_served-requires-clause-none c =
+pub place_served-requires : goal.place_served-requires
+place_served-requires c =
     let long : c.len.result ≡ length c.pop.new.self.items = c.len.ensures ∙ c.pop.new.self.ok.0 in
-    subst (λ (l : Places). served_by (c.len.result + 1) 1 l ≡ []) (sym c.deref_mut.ensures.value)
-    (subst (λ (n : ℕ). served_by (n + 1) 1 c.loop-one.places.items ≡ []) (sym long)
-    (next_none c.args.served.items c.loop-one.served.items c.pop.new.self.items c.args.end c.in-Some.one c.loop-one.places.items c.in-Some.ensures.items c.requires.taken c.requires.alike c.loop-one.invariant))
+    record {
+      alike = next_alike c.args.served.items c.loop-one.served.items c.pop.new.self.items c.args.end c.in-Some.one c.loop-one.places.items c.in-Some.ensures.items c.requires.taken c.requires.alike c.loop-one.invariant;
+      rising = next_rising c.args.served.items c.loop-one.served.items c.pop.new.self.items c.args.end c.in-Some.one c.loop-one.places.items c.in-Some.ensures.items c.requires.taken c.requires.alike c.loop-one.invariant;
+      free = subst (λ (l : Places). AllByRecursion (IsFree l) c.in-Some.one.numbers.items) (sym c.deref_mut.ensures.value)
+          (next_free c.args.served.items c.loop-one.served.items c.pop.new.self.items c.args.end c.in-Some.one c.loop-one.places.items c.in-Some.ensures.items c.requires.taken c.requires.alike c.loop-one.invariant);
+      none = subst (λ (l : Places). served_by (c.len.result + 1) 1 l ≡ []) (sym c.deref_mut.ensures.value)
+          (subst (λ (n : ℕ). served_by (n + 1) 1 c.loop-one.places.items ≡ []) (sym long)
+          (next_none c.args.served.items c.loop-one.served.items c.pop.new.self.items c.args.end c.in-Some.one c.loop-one.places.items c.in-Some.ensures.items c.requires.taken c.requires.alike c.loop-one.invariant));
+    }
 
 pub loop-one-preserved : goal.loop-one-preserved
 loop-one-preserved c =

@@ -8,13 +8,21 @@ use Rattle.job_commands.proofs.OpenLaws.{new_passes, all_open}
 use Rattle.feed_threads.proofs.zone.run_list_named.Goals as goal
 
 pub open-requires-clause-rising : goal.open-requires-clause-rising
-open-requires-clause-rising g c = zone_rises c.args.origin.now (entries_of_items c.args.items.now) c.requires.zone
+open-requires-clause-rising g c = zone_rises c.args.origin.now (entries_of_items c.args.items.now) c.requires.can.zone
 
 pub open-requires-clause-lawful : goal.open-requires-clause-lawful
-open-requires-clause-lawful g c = zone_lawful c.args.origin.now (entries_of_items c.args.items.now) c.requires.zone
+open-requires-clause-lawful g c = zone_lawful c.args.origin.now (entries_of_items c.args.items.now) c.requires.can.zone
 
-pub run_feed-requires-clause-opens : goal.run_feed-requires-clause-opens
-run_feed-requires-clause-opens g c = λ κs bounds. all_open c.in-Ok.passes.items (λ p. p.seat) (entries_of_items c.args.items.now) c.args.origin.now (λ p. p.place ≡ 0) c.requires.zone c.in-Ok.ensures.passes
+pub run_feed-requires-clause-can : goal.run_feed-requires-clause-can
+run_feed-requires-clause-can g c = λ κs bounds. record {
+  workers = c.requires.can.workers;
+  passes = search rules;
+  here = search rules;
+  opens = all_open c.in-Ok.passes.items (λ p. p.seat) (entries_of_items c.args.items.now) c.args.origin.now (λ p. p.place ≡ 0) c.requires.can.zone c.in-Ok.ensures.passes;
+  count = c.requires.can.count;
+  no_snapshots = c.requires.can.no_snapshots;
+  said = c.requires.can.said;
+}
 
 pub returns-in_ok-finished-in-Ok-clause-ran : goal.returns-in_ok-finished-in-Ok-clause-ran
 returns-in_ok-finished-in-Ok-clause-ran g c = λ zone stands.
