@@ -1,11 +1,12 @@
 -- What workers of several zones are given, and what they come to.
-use Rattle.std.specs.Prelude.{◌≡◌, ℕ, ◌+◌, List, length, All}
+use Rattle.std.specs.Prelude.{◌≡◌, ℕ, ◌+◌, ◌∷◌, List, length, All}
 use Rattle.std.specs.List.{AllByRecursion}
 use Rattle.qp_multi.specs.declared.meaning.Named.{Ghosts}
 use Rattle.job_commands.specs.Commands.{IsIndex}
 use Rattle.job_commands.specs.Histories.{Setup}
 use Rattle.job_commands.specs.Works.{AreNew, IsNew}
 use Rattle.zones_model.specs.Commands.{Command}
+use Rattle.zones_model.specs.Outcomes.{passes_for}
 use Rattle.zone_table.specs.declared.zones.Zones.{Zones}
 use Rattle.zone_table.specs.declared.pass.ZonesPass.{ZonesPass}
 use Rattle.zone_table.specs.Passes.{IsPassOf, table_known, zone_known}
@@ -15,6 +16,8 @@ use Rattle.zones_report.specs.declared.outcomes.DoneList.{DoneList}
 use Rattle.zones_threads.specs.Closings.{TableGathers, ZoneGathers, table_views, zone_views}
 use Rattle.zones_threads.specs.Sites.{IsSaid, IsSite, Opens, Site}
 use Rattle.zones_threads.specs.Works.{TableSetup, TableWork, ZonesRan}
+use Rattle.zones_threads.specs.declared.job.Gathered.{Gathered}
+use Rattle.zones_threads.specs.declared.worker.Ended.{Ended}
 
 -- ---- one worker
 
@@ -48,3 +51,17 @@ pub record AreGathered {X Y : Type 0} {N : Ghosts Y} (zones : Zones X Y N) (befo
   pub each : (site : Site) (s : Setup) → IsSite zones site → IsIndex s site.origin site.size → AreNew s.opening (zone_views site.number before)
       → ZoneGathers s site.number (zone_views site.number before) ws ds (zone_views site.number after) (zone_known m site.number)
   pub table : (b : TableSetup) → b.origins ≡ zones.origins.items → AreNew b.opening (table_views before) → TableGathers b (table_views before) (all_dones_view ws ds) (table_views after) (table_known m)
+
+-- what a worker did stands in front of what others did
+pub record StandsInFront {Y : Type 0} {N : Ghosts Y} (e : Ended Y N) (others g : Gathered Y N) : Type 0 where
+  pub done : g.done.items ≡ e.done ∷ others.done.items
+  pub table : table_views g.passes.items ≡ table_known e.pass ∷ table_views others.passes.items
+  pub zones : (zone : ℕ) → zone_views zone g.passes.items ≡ zone_known e.pass zone ∷ zone_views zone others.passes.items
+
+-- All passes of zones that were opened, for so many workers, and what these are to run.
+pub record CanStart {X Y : Type 0} {N : Ghosts Y} (zones : Zones X Y N) (ps : List (ZonesPass Y N)) (many : ℕ) (ws : List (List Command)) : Type 0 where
+  pub count : length ps ≡ passes_for many
+  pub size : zones.table.shared.table.shared.key.passes ≡ length ps
+  pub passes : All (IsPassOf zones.origins.items) ps
+  pub opens : All (Opens zones) ps
+  pub said : AllByRecursion (AllByRecursion (IsSaid zones.origins.items)) ws

@@ -1,10 +1,14 @@
 -- What becomes of zones that are opened and run.
-use Rattle.std.specs.Prelude.{◌≡◌, ℕ, List, Some, slice_get}
+use Rattle.std.specs.Prelude.{◌≡◌, ◌≤◌, ℕ, List, Some, length, slice_get}
+use Rattle.std.specs.List.{All, AllByRecursion, IsDistinct}
+use Rattle.zone_model.specs.Names.{same_name}
 use Rattle.zone_model.specs.MasterFile.{Zone}
 use Rattle.job_commands.specs.Calls.{Call}
-use Rattle.job_commands.specs.Histories.{StandsAs}
+use Rattle.job_commands.specs.Histories.{IsZone, StandsAs}
+use Rattle.shared_cells.specs.declared.view.TableSize.{TableSize}
 use Rattle.zones_model.specs.Commands.{Command}
 use Rattle.zones_model.specs.Commands as model
+use Rattle.zones_model.specs.Outcomes.{passes_for}
 use Rattle.zone_table.specs.declared.opening.ZoneItems.{ZoneItems}
 use Rattle.zone_table.specs.declared.opening.ZonesRefusal.TheVariants as refusal
 use Rattle.zone_table.specs.Openings.{AllFit, Place, RefusesZones, entries_in, origins_of}
@@ -13,11 +17,26 @@ use Rattle.zones_threads.specs.declared.opening.ZonesRan.TheVariants.{Finished, 
 use Rattle.zones_report.specs.Telling.{last_of}
 use Rattle.zones_threads.specs.Calls.{AllHeard}
 use Rattle.zones_threads.specs.Runs.{IsZonesRun}
+use Rattle.zones_threads.specs.Sites.{IsSaid}
 
 -- the items are those of these zones
 pub record StandFor (items : List ZoneItems) (zones : List Zone) : Type 0 where
   pub origins : model.origins_of zones ≡ origins_of items
   pub each : (number : ℕ) (z : ZoneItems) (zone : Zone) → slice_get items number ≡ Some z → slice_get zones number ≡ Some zone → StandsAs (entries_in z) zone.pairs
+
+-- A table for the origins of one to sixteen zones, which differ, and one for each zone, all for the passes of at most sixteen workers. The
+-- workers' blocks ask for changes of their zones.
+pub record CanRunZones (table : TableSize) (sizes : List TableSize) (zones : List ZoneItems) (many : ℕ) (workers : List (List Command)) : Type 0 where
+  pub table_chunks : table.chunks ≡ 512
+  pub table_passes : table.passes ≡ passes_for many
+  pub few_workers : many ≤ 16
+  pub passes : All (λ s. s.passes ≡ table.passes) sizes
+  pub some : 1 ≤ length zones
+  pub few : length zones ≤ 16
+  pub each : length sizes ≡ length zones
+  pub different : IsDistinct same_name (origins_of zones)
+  pub zones : All (λ z. IsZone z.origin (entries_in z)) zones
+  pub said : AllByRecursion (AllByRecursion (IsSaid (origins_of zones))) workers
 
 -- each zone fits, and the workers were run; or one doesn't, the first in canonical order, and both numbers are told
 abbrev pub ZonesRanOn : List Place → ℕ → List Zone → List (List Command) → ZonesRan → Type 0

@@ -11,8 +11,8 @@ pub use Rattle.zones_threads.specs.Calls.{AllHeard}
 pub use Rattle.zones_threads.specs.Changes.{cause_told, version_told}
 pub use Rattle.zones_threads.specs.Closings.{table_views, zone_views}
 pub use Rattle.zones_threads.specs.Endings.{EndsTable, EndsZone}
-pub use Rattle.zones_threads.specs.Gatherings.{AreGathered, HasWorked, MayRun, MayWork}
-pub use Rattle.zones_threads.specs.Openings.{HeardOn, StandFor, ZonesRanOn}
+pub use Rattle.zones_threads.specs.Gatherings.{AreGathered, CanStart, HasWorked, MayRun, MayWork, StandsInFront}
+pub use Rattle.zones_threads.specs.Openings.{CanRunZones, HeardOn, StandFor, ZonesRanOn}
 pub use Rattle.zones_threads.specs.Runs.{IsZonesRun, TableBegins, ZoneBegins}
 pub use Rattle.zones_threads.specs.Sites.{IsSaid, IsSite, Opens, Site}
 pub use Rattle.zones_threads.specs.Steps.{Goes}

@@ -40,8 +40,7 @@ pub(crate) fn close_zones<N: Named>(
 ) -> Result<LastOnes, AllocError>
     requires main { IsPassOf zones.origins.items main }
     requires passes { All (IsPassOf zones.origins.items) passes.items }
-    ensures versions { IfOk result (λ l. length l.versions.items ≡ length zones.origins.items) }
-    ensures names { IfOk result (λ l. length l.names.items ≡ length zones.origins.items) }
+    ensures many { IfOk result (λ l. (length l.versions.items ≡ length zones.origins.items) × (length l.names.items ≡ length zones.origins.items)) }
     ensures table { IfOk result (λ l. EndsTable zones.origins.items zones.table.shared.table.shared.key.passes
         (table_views passes.items) (table_known main) l.table l.attached) }
     ensures zones { IfOk result (λ l. (site : Site) (version names : ℕ) → IsSite zones site

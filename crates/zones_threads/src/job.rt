@@ -1,9 +1,9 @@
 //! All workers, each in a thread of its own where one can be started.
-ghost use Rattle.std.specs.Prelude.{◌≡◌, ◌<◌, ◌∷◌, ℕ, List, All, IfOk, None, Some, length, map, slice_get};
-ghost use Rattle.zones_threads.specs.Prelude.{Zone, origins_of, passes_for, AllByRecursion, IsSync, Learnt, AreHeard, IsPassOf};
+ghost use Rattle.std.specs.Prelude.{◌≡◌, ◌<◌, ℕ, List, All, IfOk, None, Some, length, map, slice_get};
+ghost use Rattle.zones_threads.specs.Prelude.{Zone, origins_of, IsSync, Learnt, AreHeard, IsPassOf};
 ghost use Rattle.zones_threads.specs.Prelude.{table_known, zone_known, AllHeard, table_views, zone_views, AreGathered};
 ghost use Rattle.zones_threads.specs.Prelude.{HasWorked, MayRun, MayWork, last_of, IsZonesRun, TableBegins, ZoneBegins};
-ghost use Rattle.zones_threads.specs.Prelude.{IsSaid, IsSite, Opens, Site, command_view, worker_view, workers_view, AreApart};
+ghost use Rattle.zones_threads.specs.Prelude.{IsSite, Site, command_view, worker_view, workers_view, AreApart, CanStart, StandsInFront};
 
 use crate::ending::close_zones;
 use crate::worker::{Ended, run_worker};
@@ -32,15 +32,11 @@ fn with_ended<N: Named>(
     ended: Ended<N>,
     others: Gathered<N>,
 ) -> Result<Gathered<N>, AllocError>
-    requires pass { IsPassOf zones.now.origins.items ended.pass }
-    requires main { IsPassOf zones.now.origins.items others.main }
-    requires others { All (IsPassOf zones.now.origins.items) others.passes.items }
-    ensures main { IfOk result (λ g. IsPassOf zones.now.origins.items g.main) }
-    ensures passes { IfOk result (λ g. All (IsPassOf zones.now.origins.items) g.passes.items) }
-    ensures done { IfOk result (λ g. g.done.items ≡ ended.done ∷ others.done.items) }
-    ensures table_views { IfOk result (λ g. table_views g.passes.items ≡ table_known ended.pass ∷ table_views others.passes.items) }
-    ensures zone_views { (zone : ℕ) → IfOk result (λ g. zone_views zone g.passes.items ≡ zone_known ended.pass zone ∷ zone_views zone others.passes.items) }
-    ensures table_learnt { IfOk result (λ g. Learnt (table_known others.main) (table_known g.main) (table_known ended.pass).seen) }
+    requires passes { (IsPassOf zones.now.origins.items ended.pass) × (IsPassOf zones.now.origins.items others.main)
+        × (All (IsPassOf zones.now.origins.items) others.passes.items) }
+    ensures passes { IfOk result (λ g. (IsPassOf zones.now.origins.items g.main) × (All (IsPassOf zones.now.origins.items) g.passes.items)) }
+    ensures gathers { IfOk result (StandsInFront ended others) }
+    ensures learnt { IfOk result (λ g. Learnt (table_known others.main) (table_known g.main) (table_known ended.pass).seen) }
     ensures zone_learnt { (zone : ℕ) → zone < length zones.now.origins.items
         → IfOk result (λ g. Learnt (zone_known others.main zone) (zone_known g.main zone) (zone_known ended.pass zone).seen) }
 {
@@ -130,11 +126,7 @@ pub fn run_zones<R: Threads + Wait + Sync, N: Named + Send + Sync, G: Gate>(
     workers: &[Worker],
     gate: &G,
 ) -> Result<ZonesFinished, AllocError>
-    requires count { length passes.items ≡ passes_for (length workers.now) }
-    requires size { zones.table.shared.table.shared.key.passes ≡ length passes.items }
-    requires passes { All (IsPassOf zones.origins.items) passes.items }
-    requires opens { All (Opens zones) passes.items }
-    requires said { AllByRecursion (AllByRecursion (IsSaid zones.origins.items)) (workers_view workers.now) }
+    requires can { CanStart zones passes.items (length workers.now) (workers_view workers.now) }
     ensures ran { (chunks : ℕ) (list : List Zone) → origins_of list ≡ zones.origins.items → AreApart zones.origins.items
         → TableBegins zones.origins.items (length passes.items) (table_views passes.items)
         → ((site : Site) (zone : Zone) → IsSite zones site → slice_get list site.number ≡ Some zone

@@ -1,8 +1,7 @@
 //! Zones that are opened and run.
-ghost use Rattle.std.specs.Prelude.{◌≡◌, ◌+◌, ◌≤◌, ℕ, List, All, IfOk, Some, length, map, slice_get};
-ghost use Rattle.zones_threads.specs.Prelude.{AllByRecursion, IsDistinct, Zone, same_name, IsZone, passes_for};
-ghost use Rattle.zones_threads.specs.Prelude.{entries_in, places_of, StandFor, HeardOn, ZonesRanOn, IsSaid, workers_view};
-ghost use Rattle.zone_table.specs.Openings.{origins_of};
+ghost use Rattle.std.specs.Prelude.{◌≡◌, ◌+◌, ℕ, List, All, IfOk, Some, length, map, slice_get};
+ghost use Rattle.zones_threads.specs.Prelude.{Zone};
+ghost use Rattle.zones_threads.specs.Prelude.{places_of, StandFor, HeardOn, ZonesRanOn, workers_view, CanRunZones};
 
 use crate::job::run_zones;
 use job_commands::{Gate, ZoneLaw};
@@ -36,16 +35,8 @@ fn run_named<R: Threads + Wait + Sync, N: Named + Send + Sync, G: Gate>(
 ) -> Result<ZonesRan, AllocError>
     requires table_named { slice_get N.tables 0 ≡ Some table.shared.table.shared.table_id }
     requires named { (k : ℕ) (b : _) → slice_get blanks.items k ≡ Some b → slice_get N.tables (k + 1) ≡ Some b.shared.table.shared.table_id }
-    requires table_chunks { table.shared.table.shared.key.chunks ≡ 512 }
-    requires table_passes { table.shared.table.shared.key.passes ≡ passes_for (length workers.now) }
-    requires few_workers { length workers.now ≤ 16 }
-    requires passes { All (λ s. s.passes ≡ table.shared.table.shared.key.passes) (map (λ b. b.shared.table.shared.key) blanks.items) }
-    requires some { 1 ≤ length zones.now }
-    requires few { length zones.now ≤ 16 }
-    requires each { length blanks.items ≡ length zones.now }
-    requires different { IsDistinct same_name (origins_of zones.now) }
-    requires zones { All (λ z. IsZone z.origin (entries_in z)) zones.now }
-    requires said { AllByRecursion (AllByRecursion (IsSaid (origins_of zones.now))) (workers_view workers.now) }
+    requires can { CanRunZones table.shared.table.shared.key (map (λ b. b.shared.table.shared.key) blanks.items) zones.now (length workers.now)
+        (workers_view workers.now) }
     ensures ran { (chunks : ℕ) (list : List Zone) → All (λ s. s.chunks ≡ chunks) (map (λ b. b.shared.table.shared.key) blanks.items) → StandFor zones.now list
         → IfOk result (ZonesRanOn (places_of zones.now (map (λ b. b.shared.table.shared.key) blanks.items)) chunks list (workers_view workers.now)) }
     // Each worker is told by its own number, from 1.
@@ -76,16 +67,8 @@ pub fn run_zone_items<R: Threads + Wait + Sync, G: Gate>(
     workers: &[Worker],
     gate: &G,
 ) -> Result<ZonesRan, AllocError>
-    requires table_chunks { table.shared.table.shared.key.chunks ≡ 512 }
-    requires table_passes { table.shared.table.shared.key.passes ≡ passes_for (length workers.now) }
-    requires few_workers { length workers.now ≤ 16 }
-    requires passes { All (λ s. s.passes ≡ table.shared.table.shared.key.passes) (map (λ b. b.shared.table.shared.key) blanks.items) }
-    requires some { 1 ≤ length zones.now }
-    requires few { length zones.now ≤ 16 }
-    requires each { length blanks.items ≡ length zones.now }
-    requires different { IsDistinct same_name (origins_of zones.now) }
-    requires zones { All (λ z. IsZone z.origin (entries_in z)) zones.now }
-    requires said { AllByRecursion (AllByRecursion (IsSaid (origins_of zones.now))) (workers_view workers.now) }
+    requires can { CanRunZones table.shared.table.shared.key (map (λ b. b.shared.table.shared.key) blanks.items) zones.now (length workers.now)
+        (workers_view workers.now) }
     ensures ran { (chunks : ℕ) (list : List Zone) → All (λ s. s.chunks ≡ chunks) (map (λ b. b.shared.table.shared.key) blanks.items) → StandFor zones.now list
         → IfOk result (ZonesRanOn (places_of zones.now (map (λ b. b.shared.table.shared.key) blanks.items)) chunks list (workers_view workers.now)) }
     // Each worker is told by its own number, from 1.

@@ -54,9 +54,9 @@ pub fn run_worker<R: Wait, N: Named, G: Gate>(
     requires fresh { (turnstile.old.entered ≡ None) × (turnstile.old.told ≡ 0) }
     requires may { MayWork zones.now pass (map command_view turnstile.old.commands.now) }
     ensures done { IfOk result (λ e. HasWorked zones.now pass e.pass (map command_view turnstile.old.commands.now) e.done.list.items) }
-    ensures heard { IfOk result (λ _. AreHeard (G.hears turnstile.old.gate.now) turnstile.old.worker (length (map command_view turnstile.old.commands.now))) }
-    ensures left { IfOk result (λ _. turnstile.new.entered ≡ None) }
-    ensures told { IfOk result (λ _. turnstile.new.told ≡ length turnstile.old.commands.now) }
+    // It has left the turnstile, which has told of all commands.
+    ensures heard { IfOk result (λ _. AreHeard (G.hears turnstile.old.gate.now) turnstile.old.worker (length (map command_view turnstile.old.commands.now))
+        × (turnstile.new.entered ≡ None) × (turnstile.new.told ≡ length turnstile.old.commands.now)) }
 {
     let mut room = Room::new(alloc)?;
     let count = turnstile.count();

@@ -18,42 +18,29 @@ use Rattle.qp_main.proofs.OpensLemmas.{all_zones, different, first_told, items_m
 use Rattle.qp_main.proofs.ZonesLemmas.{zones_reported}
 use Rattle.qp_main.proofs.several.report_zones.Goals as goal
 
-pub run_zone_items-requires-clause-some : goal.run_zone_items-requires-clause-some
-run_zone_items-requires-clause-some g c κs within =
+pub run_zone_items-requires-clause-can : goal.run_zone_items-requires-clause-can
+run_zone_items-requires-clause-can g c κs within =
     let are = subst (AreAllItems c.args.zones.items) (sym c.deref-2.ensures.value) c.in_ok-items.ensures in
-    let many = items_many c.args.zones.items c.deref-2.result.now are in
-    let some = c.requires.listed.some in omega arith
-
-pub run_zone_items-requires-clause-few : goal.run_zone_items-requires-clause-few
-run_zone_items-requires-clause-few g c κs within =
-    let are = subst (AreAllItems c.args.zones.items) (sym c.deref-2.ensures.value) c.in_ok-items.ensures in
-    let many = items_many c.args.zones.items c.deref-2.result.now are in
-    let few = c.requires.listed.few in omega arith
-
-pub run_zone_items-requires-clause-each : goal.run_zone_items-requires-clause-each
-run_zone_items-requires-clause-each g c κs within =
-    let are = subst (AreAllItems c.args.zones.items) (sym c.deref-2.ensures.value) c.in_ok-items.ensures in
+    let items = c.deref-2.result.now in
+    let many = items_many c.args.zones.items items are in
     let blanks = c.in_ok-blanks.ensures.each in
     let counted = c.len-2.ensures in
     let held = c.args.zones.ok.0 in
-    let many = items_many c.args.zones.items c.deref-2.result.now are in omega arith
-
-pub run_zone_items-requires-clause-different : goal.run_zone_items-requires-clause-different
-run_zone_items-requires-clause-different g c κs within =
-    let are = subst (AreAllItems c.args.zones.items) (sym c.deref-2.ensures.value) c.in_ok-items.ensures in
-    different c.args.zones.items c.deref-2.result.now c.requires.listed are
-
-pub run_zone_items-requires-clause-zones : goal.run_zone_items-requires-clause-zones
-run_zone_items-requires-clause-zones g c κs within =
-    let are = subst (AreAllItems c.args.zones.items) (sym c.deref-2.ensures.value) c.in_ok-items.ensures in
-    All-from_recursion (λ z. IsZone z.origin (opening.entries_in z)) c.deref-2.result.now (all_zones c.args.zones.items c.deref-2.result.now c.requires.zones are)
-
-pub run_zone_items-requires-clause-said : goal.run_zone_items-requires-clause-said
-run_zone_items-requires-clause-said g c κs within =
-    let are = subst (AreAllItems c.args.zones.items) (sym c.deref-2.ensures.value) c.in_ok-items.ensures in
-    let stand = they_stand c.args.zones.items c.deref-2.result.now are in
+    let listed = c.requires.listed in
+    let stand = they_stand c.args.zones.items items are in
     let over = subst (λ (o : List Name). AllByRecursion (AllByRecursion (IsSaid o)) (workers_view c.args.script.now)) stand.origins c.requires.said in
-    subst (λ (ws : List (List Command)). AllByRecursion (AllByRecursion (IsSaid (opening.origins_of c.deref-2.result.now))) ws) (sym (ap (map worker_view) c.deref-3.ensures.value)) over
+    record {
+      table_chunks = search rules;
+      table_passes = search rules;
+      few_workers = search rules;
+      passes = search rules;
+      some = (let some = listed.some in omega arith);
+      few = (let few = listed.few in omega arith);
+      each = omega arith;
+      different = different c.args.zones.items items listed are;
+      zones = All-from_recursion (λ z. IsZone z.origin (opening.entries_in z)) items (all_zones c.args.zones.items items c.requires.zones are);
+      said = subst (λ (ws : List (List Command)). AllByRecursion (AllByRecursion (IsSaid (opening.origins_of items))) ws) (sym (ap (map worker_view) c.deref-3.ensures.value)) over;
+    }
 
 pub returns-in-Finished-clause-told : goal.returns-in-Finished-clause-told
 returns-in-Finished-clause-told g c =

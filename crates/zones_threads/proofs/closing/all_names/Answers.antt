@@ -14,8 +14,8 @@ loop-zone-preserved g c =
     let pushed = c.in_ok-push.ensures.items in
     record {
       pass = c.names_in.ensures.pass;
-      table = c.names_in.ensures.table ∙ i.table;
+      table = c.names_in.ensures.others.0 ∙ i.table;
       many = ap length pushed ∙ length-append names (count ∷ []) ∙ ap (λ (n : ℕ). n + 1) i.many;
-      counted = counted_more (λ z. zone_known c.args.pass.now z) (λ z. zone_known now z) (λ z. zone_known next z) names c.push.new.self.items zone count i.many pushed i.counted (i.ahead zone (omega arith)) c.names_in.ensures.counted c.names_in.ensures.others;
-      ahead = λ z le. c.names_in.ensures.others z (λ e. absurd (omega (arith, e, le))) ∙ i.ahead z (omega (arith, le));
+      counted = counted_more (λ z. zone_known c.args.pass.now z) (λ z. zone_known now z) (λ z. zone_known next z) names c.push.new.self.items zone count i.many pushed i.counted (i.ahead zone (omega arith)) c.names_in.ensures.counted c.names_in.ensures.others.1;
+      ahead = λ z le. c.names_in.ensures.others.1 z (λ e. absurd (omega (arith, e, le))) ∙ i.ahead z (omega (arith, le));
     }

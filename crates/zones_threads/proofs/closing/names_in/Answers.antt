@@ -12,7 +12,6 @@ returns g c =
     let w = went origins c.args.pass.now c.args.zone seat next c.requires.pass c.zone-place.ensures.value c.count_names.ensures.here c.count_names.ensures.place in
     record {
       pass = w.pass;
-      table = refl {a = table_known c.args.pass.now};
-      others = w.others;
+      others = (refl {a = table_known c.args.pass.now}, w.others);
       counted = went_as (λ v x. Counted v x c.count_names.result) origins c.args.pass.now c.args.zone seat next w c.zone-place.ensures.known c.count_names.ensures.counted;
     }

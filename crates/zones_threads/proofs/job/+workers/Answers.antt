@@ -73,16 +73,18 @@ returns-clause-gathered g t c =
     let worker = worker_view c.in-Some-split_first.worker.now in
     let ds = ended.done ∷ others.done.items in
     at_each c.with_ended.result (λ r. AreGathered zones passes (workers_view c.args.workers.now) r.done.items r.passes.items r.main) (λ r is.
-    let done = at_ok _ r _ is c.with_ended.ensures.done in
+    let gathers = at_ok _ r _ is c.with_ended.ensures.gathers in
+    let done = gathers.done in
+    let back = at_ok _ r _ is c.with_ended.ensures.passes in
     record {
-      main = at_ok _ r _ is c.with_ended.ensures.main;
-      passes = at_ok _ r _ is c.with_ended.ensures.passes;
+      main = back.0;
+      passes = back.1;
       kinds = subst (AllAreOf (workers_view c.args.workers.now)) (sym done) (subst (λ ws. AllAreOf (workers_view ws) ds) (sym all_workers) (mine.kinds, theirs.kinds));
       each = λ site s there index new.
           let n = site.number in
           let lt : n < length zones.origins.items = slice_get_within zones.origins.items n site.origin there.origin in
           zone_done s n (zone_views n passes) (workers_view c.args.workers.now) ds r.done.items (zone_known ended.pass n ∷ zone_views n others.passes.items) (zone_views n r.passes.items) (zone_known r.main n)
-          done (at_ok _ r _ is (c.with_ended.ensures.zone_views n))
+          done (gathers.zones n)
           (subst (λ ws. ZoneGathers s n (zone_views n passes) ws ds (zone_known ended.pass n ∷ zone_views n others.passes.items) (zone_known r.main n)) (sym (ap workers_view all_workers))
           (zone_more passes front pass (λ p. zone_known p n) s last new n site.origin site.size index workers others.done.items (zone_views n others.passes.items) (zone_known others.main n) (zone_known r.main n) (zone_known ended.pass n) worker ended.done
           (theirs.each site s there index (front_new passes front pass (λ p. zone_known p n) s.opening last new))
@@ -90,10 +92,10 @@ returns-clause-gathered g t c =
       table = λ b same new.
           table_done b (table_views passes) (dones_view worker ended.done.list.items ∷ all_dones_view workers others.done.items) (all_dones_view (workers_view c.args.workers.now) r.done.items)
           (table_known ended.pass ∷ table_views others.passes.items) (table_views r.passes.items) (table_known r.main)
-          (ap (λ (l : List DoneList). all_dones_view (workers_view c.args.workers.now) l) done ∙ ap (λ l. all_dones_view (workers_view l) ds) all_workers) (at_ok _ r _ is c.with_ended.ensures.table_views)
+          (ap (λ (l : List DoneList). all_dones_view (workers_view c.args.workers.now) l) done ∙ ap (λ l. all_dones_view (workers_view l) ds) all_workers) gathers.table
           (table_more passes front pass (λ p. table_known p) b.opening last new b refl (all_dones_view workers others.done.items) (table_views others.passes.items) (table_known others.main) (table_known r.main) (table_known ended.pass) (dones_view worker ended.done.list.items)
           (theirs.table b same (front_new passes front pass (λ p. table_known p) b.opening last new))
-          (λ number begins. mine.table b number same begins) (seat_told others.main.table.seat theirs.main.table_here) (at_ok _ r _ is c.with_ended.ensures.table_learnt));
+          (λ number begins. mine.table b number same begins) (seat_told others.main.table.seat theirs.main.table_here) (at_ok _ r _ is c.with_ended.ensures.learnt));
     })
 
 pub returns-clause-heard : goal.returns-clause-heard

@@ -31,13 +31,13 @@ returns-clause-ran g c = λ chunks list named apart begins each.
     let ds = gathered.done.items in
     let many : length origins ≡ length list = sym (ap (λ (l : List Name). length l) named) ∙ length-map list (λ z. z.origin) in
     let b : TableSetup = record { origins = origins; opening = begins.opening } in
-    let counted : length (table_views passes) ≡ zones.table.shared.table.shared.key.passes = length-map passes (λ p. table_known p) ∙ sym c.requires.size in
+    let counted : length (table_views passes) ≡ zones.table.shared.table.shared.key.passes = length-map passes (λ p. table_known p) ∙ sym c.requires.can.size in
     let table : TableEnd origins (all_dones_view ws ds) last.table last.attached =
-    ended.table b (table_views passes) (all_dones_view ws ds) refl apart begins.table (ran.table b refl begins.new) counted (subst (λ (n : ℕ). AreAll n (table_views passes)) (sym c.requires.size) begins.all) in
+    ended.table b (table_views passes) (all_dones_view ws ds) refl apart begins.table (ran.table b refl begins.new) counted (subst (λ (n : ℕ). AreAll n (table_views passes)) (sym c.requires.can.size) begins.all) in
     zones_run chunks list ws ds (record { table = last.table; zones = last.versions.items }) last.attached last.names.items ran.kinds
-    (subst (λ (o : List Name). AllByRecursion (AllByRecursion (IsSaid o)) ws) (sym named) c.requires.said)
+    (subst (λ (o : List Name). AllByRecursion (AllByRecursion (IsSaid o)) ws) (sym named) c.requires.can.said)
     (subst (λ (o : List Name). TableEnd o (all_dones_view ws ds) last.table last.attached) (sym named) table)
-    (ended.versions ∙ many) (ended.names ∙ many)
+    (ended.many.0 ∙ many) (ended.many.1 ∙ many)
     (λ number zone there version names at is.
     let origin : slice_get origins number ≡ Some zone.origin = subst (λ (o : List Name). slice_get o number ≡ Some zone.origin) named (mapped_at (λ z. z.origin) list number zone there) in
     let lt = slice_get_within origins number zone.origin origin in
@@ -49,13 +49,13 @@ returns-clause-ran g c = λ chunks list named apart begins each.
     let gathers = ran.each site s is_site (record { origin_is = refl; chunks = refl; passes = refl }) z.new in
     let long : length (zone_views number passes) ≡ site.size.passes = length-map passes (λ p. zone_known p number) ∙ sym z.passes in
     let e = ended.zones site version names is_site at is s zone (zone_views number passes) ws ds ran.kinds gathers refl z.stands long (subst (λ (n : ℕ). AreAll n (zone_views number passes)) (sym z.passes) z.all) in
-    let for_all : site.size.passes ≡ passes_for (length ws) = z.passes ∙ c.requires.count ∙ ap passes_for (sym (length-map c.args.workers.now worker_view)) in
+    let for_all : site.size.passes ≡ passes_for (length ws) = z.passes ∙ c.requires.can.count ∙ ap passes_for (sym (length-map c.args.workers.now worker_view)) in
     subst (λ (n : ℕ). ZoneEnd chunks n zone number version names ws ds) for_all (subst (λ (n : ℕ). ZoneEnd n site.size.passes zone number version names ws ds) z.chunks_are e))
 
 pub run_workers-requires-after_bounds : goal.run_workers-requires-after_bounds
 run_workers-requires-after_bounds g c = λ κs bounds. record {
-  count = c.requires.count ∙ ap passes_for (sym (length-map c.args.workers.now worker_view));
-  passes = c.requires.passes;
-  opens = c.requires.opens;
-  said = c.requires.said;
+  count = c.requires.can.count ∙ ap passes_for (sym (length-map c.args.workers.now worker_view));
+  passes = c.requires.can.passes;
+  opens = c.requires.can.opens;
+  said = c.requires.can.said;
 }

@@ -124,7 +124,7 @@ returns-clause-done g c =
     }
 
 pub returns-clause-heard : goal.returns-clause-heard
-returns-clause-heard g c = λ place lt.
+returns-clause-heard g c =
     let many = length-map c.args.turnstile.now.commands.now command_view in
     let past : length c.args.turnstile.now.commands.now ≤ c.loop-place.place = omega (arith, c.loop-place-test.false, c.count-count.ensures) in
-    c.loop-place.invariant.heard place (omega (arith, lt, many, past))
+    (λ place lt. c.loop-place.invariant.heard place (omega (arith, lt, many, past)), search rules, search rules)
