@@ -46,8 +46,7 @@ impl<'a, R: Wait, C: Waits, G: Gate> Turnstile<'a, R, C, G> {
 
     /// The command at a place, of which the gate has been told.
     pub fn enter(&mut self, place: usize) -> Entered<'a, R, C>
-        requires free { self.old.entered ≡ None }
-        requires there { place < length self.old.commands.now }
+        requires free { (self.old.entered ≡ None) × (place < length self.old.commands.now) }
         ensures command { slice_get self.old.commands.now place ≡ Some result.command.now }
         ensures entered { self.new.entered ≡ Some place }
         ensures same { (self.new.gate ≡ self.old.gate) × (self.new.worker ≡ self.old.worker)
@@ -64,9 +63,8 @@ impl<'a, R: Wait, C: Waits, G: Gate> Turnstile<'a, R, C, G> {
     pub fn leave<T>(&mut self, done: &Vec<T>)
         requires inside { IsSome self.old.entered }
         requires done { length done.now.items ≡ self.old.told + 1 }
-        ensures left { self.new.entered ≡ None }
+        ensures left { (self.new.entered ≡ None) × (self.new.told ≡ length done.now.items) }
         ensures same { (self.new.gate ≡ self.old.gate) × (self.new.worker ≡ self.old.worker) × (self.new.commands ≡ self.old.commands) }
-        ensures told { self.new.told ≡ length done.now.items }
         ensures heard { (place : _) → self.old.entered ≡ Some place → G.hears self.old.gate.now (After self.old.worker (next_number place)) }
     {
         let Some(place) = self.entered.take() else {

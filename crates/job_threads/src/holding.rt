@@ -19,8 +19,7 @@ pub fn hold<'i, N: Named>(
 ) -> (Snapshot<'i, ZoneLaw, N>, Outcome)
     requires here { (IsSome pass.old.seat) × (IsSome second.seat) }
     requires places { (pass.old.place ≡ index.now.place) × (second.place ≡ index.now.place) }
-    ensures here { IsSome pass.new.seat }
-    ensures places { (pass.new.place ≡ pass.old.place) × (result.0.place ≡ index.now.place) }
+    ensures places { (IsSome pass.new.seat) × (pass.new.place ≡ pass.old.place) × (result.0.place ≡ index.now.place) }
     ensures held { IsHeld result.0.seat }
     ensures told { Held (known_at pass.old.seat) (known_at second.seat) (known_at pass.new.seat) result.0.seat result.1 }
 {

@@ -43,10 +43,10 @@ loop-number-init g c =
           (subst (λ (l : List Outcome). WorkerAt s (only number) (station first (Some first) None) [] [] l) (sym c.new-list.ensures.items) (serve_starts s number first new));
     }
 
-pub enter-entered-requires-clause-there : goal.enter-entered-requires-clause-there
-enter-entered-requires-clause-there g c =
+pub enter-entered-requires-clause-free : goal.enter-entered-requires-clause-free
+enter-entered-requires-clause-free g c =
     let inside : c.in-Some.number - 1 < length c.args.turnstile.now.commands.now = search (rules, c.requires.fresh.2.count) in
-    λ κs bounds. subst (λ l. c.in-Some.number - 1 < length l.now) (sym c.loop-number.invariant.commands) inside
+    λ κs bounds. (c.loop-number.invariant.free, subst (λ l. c.in-Some.number - 1 < length l.now) (sym c.loop-number.invariant.commands) inside)
 
 pub run_alone-requires-clause-no_snapshot : goal.run_alone-requires-clause-no_snapshot
 run_alone-requires-clause-no_snapshot g c =
@@ -98,8 +98,8 @@ loop-number-preserved g c =
       gate = left.0 ∙ entered.0 ∙ i.gate;
       number = left.1 ∙ entered.1 ∙ i.number;
       commands = left.2 ∙ entered.2 ∙ i.commands;
-      free = c.leave.ensures.left;
-      told = c.leave.ensures.told;
+      free = c.leave.ensures.left.0;
+      told = c.leave.ensures.left.1;
       heard = subst (AllByRecursion (IsHeard (g.G.Gate.hears c.args.turnstile.now.gate.now) c.args.turnstile.now.worker)) (sym c.in_ok-push.ensures.items)
           (all-push (IsHeard (g.G.Gate.hears c.args.turnstile.now.gate.now) c.args.turnstile.now.worker) c.loop-number.numbers.items c.in-Some.number i.heard told);
       opens =

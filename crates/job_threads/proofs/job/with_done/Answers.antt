@@ -13,9 +13,9 @@ returns-clause-back g c = record {
 
 pub returns-clause-gathers : goal.returns-clause-gathers
 returns-clause-gathers g c = (
-    search rules,
-    two_views c.note-seen.new.self c.args.done.spare c.args.others.passes.items _ _ (λ p. known_at p.seat) (known_at c.args.done.asks.seat) c.in_ok-insert.ensures.items c.in_ok-insert-2.ensures.items c.note-seen.ensures.same,
-    )
+  search rules,
+  two_views c.note-seen.new.self c.args.done.spare c.args.others.passes.items _ _ (λ p. known_at p.seat) (known_at c.args.done.asks.seat) c.in_ok-insert.ensures.items c.in_ok-insert-2.ensures.items c.note-seen.ensures.same,
+)
 
 pub returns-clause-learnt : goal.returns-clause-learnt
 returns-clause-learnt g c = subst (Learnt (known_at c.args.others.main.seat) (known_at c.learn.new.self.seat)) c.note-seen.ensures.told c.learn.ensures.learnt

@@ -37,8 +37,8 @@ loop-place-init g c = let ready = c.requires.ready in record {
       (worker_starts s numbers (known_at c.args.asks.seat) (known_at c.args.spare.seat) (map command_view c.args.turnstile.now.commands.now) begins c.requires.fresh.2.in_turn);
 }
 
-pub enter-entered-requires-clause-there : goal.enter-entered-requires-clause-there
-enter-entered-requires-clause-there g c = λ κs bounds. subst (λ l. c.loop-place.place < length l.now) (sym c.loop-place.invariant.commands) (omega (arith, c.loop-place-test.true, c.count-count.ensures))
+pub enter-entered-requires-clause-free : goal.enter-entered-requires-clause-free
+enter-entered-requires-clause-free g c = λ κs bounds. (c.loop-place.invariant.free, subst (λ l. c.loop-place.place < length l.now) (sym c.loop-place.invariant.commands) (omega (arith, c.loop-place-test.true, c.count-count.ensures)))
 
 pub run_command-requires-clause-may : goal.run_command-requires-clause-may
 run_command-requires-clause-may g c =
@@ -83,8 +83,8 @@ loop-place-preserved g c =
       gate = left.0 ∙ inside.0 ∙ i.gate;
       number = left.1 ∙ inside.1 ∙ i.number;
       commands = left.2 ∙ inside.2 ∙ i.commands;
-      free = c.leave.ensures.left;
-      told = c.leave.ensures.told ∙ many;
+      free = c.leave.ensures.left.0;
+      told = c.leave.ensures.left.1 ∙ many;
       many = many;
       heard = one_more (λ k. IsHeard (g.G.Gate.hears c.args.turnstile.now.gate.now) c.args.turnstile.now.worker (next_number k)) place (place + 1) refl i.heard (before, after);
       turn = turn_next (is_some (option_map (λ h. h.seat) c.loop-place.passes.held)) (is_some (option_map (λ h. h.seat) c.run_command.new.passes.held)) commands place here lt is can.held i.turn;

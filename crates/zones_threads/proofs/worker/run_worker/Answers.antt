@@ -42,8 +42,8 @@ loop-place-init g c =
       table = λ b number same new. subst (λ (ds : List Done). TableWork b number (table_known first) (dones_view [] ds)) (sym none) (table_start b number (table_known first) new);
     }
 
-pub enter-entered-requires-clause-there : goal.enter-entered-requires-clause-there
-enter-entered-requires-clause-there g c = λ κs bounds. subst (λ l. c.loop-place.place < length l.now) (sym c.loop-place.invariant.commands) (omega (arith, c.loop-place-test.true, c.count-count.ensures))
+pub enter-entered-requires-clause-free : goal.enter-entered-requires-clause-free
+enter-entered-requires-clause-free g c = λ κs bounds. (c.loop-place.invariant.free, subst (λ l. c.loop-place.place < length l.now) (sym c.loop-place.invariant.commands) (omega (arith, c.loop-place-test.true, c.count-count.ensures)))
 
 pub run_command-requires-clause-said : goal.run_command-requires-clause-said
 run_command-requires-clause-said g c =
@@ -91,8 +91,8 @@ loop-place-preserved g c =
       gate = left.0 ∙ inside.0 ∙ i.gate;
       number = left.1 ∙ inside.1 ∙ i.number;
       commands = left.2 ∙ inside.2 ∙ i.commands;
-      free = c.leave.ensures.left;
-      told = c.leave.ensures.told ∙ many;
+      free = c.leave.ensures.left.0;
+      told = c.leave.ensures.left.1 ∙ many;
       many = many;
       kinds = subst (λ (l : List Command). AreOf l c.push.new.self.items) (sym taken) (subst (AreOf (cs ++ command_view here ∷ [])) (sym pushed) (kinds-push cs ds (command_view here) d i.kinds goes.kind));
       heard = one_more (λ k. IsHeard (g.G.Gate.hears c.args.turnstile.now.gate.now) c.args.turnstile.now.worker (next_number k)) place (place + 1) refl i.heard (before, after);
