@@ -26,9 +26,9 @@ pub record AreFed (origin : Name) (feed : Handout) (many : ℕ) (commands : List
   pub said : AllByRecursion (AllAsked origin) commands
 
 -- so many workers and so many passes for them, a zone of the origin, and so many commands
-pub record CanFeedOn (origin : Name) (es : List Entry) (passes workers many : ℕ) (commands : List Command) : Type 0 where
-  pub workers : (1 ≤ workers) × (workers ≤ 16)
-  pub passes : passes ≡ passes_fed workers
+pub record CanFeedOn (origin : Name) (es : List Entry) (seats crew many : ℕ) (commands : List Command) : Type 0 where
+  pub workers : (1 ≤ crew) × (crew ≤ 16)
+  pub passes : seats ≡ passes_fed crew
   pub zone : IsZone origin es
   pub count : (1 ≤ many) × (many ≤ 10000)
   pub no_snapshots : AllByRecursion NeedsNoSnapshot commands
@@ -43,26 +43,26 @@ pub record CanBePlaced (worker : ℕ) (served : Served) (places : List (Option F
 
 module _ {Y : Type 0} {N : Ghosts Y} where
   -- a worker's pass of the index at this place, and its seat at a feed
-  pub record IsReady (origin : Name) (place : ℕ) (feed : Handout) (pass : Pass Y N) (seat : Takings) : Type 0 where
-    pub here : IsSome pass.seat
-    pub place : pass.place ≡ place
-    pub opens : OpensAt origin (known_at pass.seat)
-    pub seat : seat ≡ new_seat feed
+  pub record IsReady (origin : Name) (index : ℕ) (feed : Handout) (p : Pass Y N) (taken : Takings) : Type 0 where
+    pub here : IsSome p.seat
+    pub place : p.place ≡ index
+    pub opens : OpensAt origin (known_at p.seat)
+    pub seat : taken ≡ new_seat feed
 
   -- both are back; the worker took some numbers, and has an outcome for each
-  pub record IsBack (place : ℕ) (feed : Handout) (d : FedDone Y N) : Type 0 where
+  pub record IsBack (index : ℕ) (feed : Handout) (d : FedDone Y N) : Type 0 where
     pub here : IsSome d.pass.seat
-    pub place : d.pass.place ≡ place
+    pub place : d.pass.place ≡ index
     pub seat : d.seat ≡ done_seat feed d.served.numbers.items
     pub alike : IsServed d.served
 
   -- a pass for each seat, and one more; what workers are to run
-  pub record CanServe (origin : Name) (place : ℕ) (feed : Handout) (many : ℕ) (commands : List Command) (passes : List (Pass Y N)) (seats : List Takings) : Type 0 where
-    pub count : length passes ≡ length seats + 1
-    pub here : All (λ p. (IsSome p.seat) × (p.place ≡ place)) passes
-    pub opens : All (λ p. OpensAt origin (known_at p.seat)) passes
-    pub seats : All (λ seat. seat ≡ new_seat feed) seats
-    pub commands : AreFed origin feed many commands
+  pub record CanServe (origin : Name) (place : ℕ) (feed : Handout) (many : ℕ) (cs : List Command) (ps : List (Pass Y N)) (taken : List Takings) : Type 0 where
+    pub count : length ps ≡ length taken + 1
+    pub here : All (λ p. (IsSome p.seat) × (p.place ≡ place)) ps
+    pub opens : All (λ p. OpensAt origin (known_at p.seat)) ps
+    pub seats : All (λ seat. seat ≡ new_seat feed) taken
+    pub commands : AreFed origin feed many cs
 
   -- main's pass and those of all workers are back
   pub record PassesAreBack (place : ℕ) (g : FedGathered Y N) : Type 0 where
@@ -77,11 +77,11 @@ module _ {Y : Type 0} {N : Ghosts Y} where
     pub alike : AllByRecursion IsServed g.served.items
 
   -- so many workers and passes for them, and so many commands
-  pub record CanFeed (origin : Name) (place workers many : ℕ) (commands : List Command) (passes : List (Pass Y N)) : Type 0 where
-    pub workers : (1 ≤ workers) × (workers ≤ 16)
-    pub passes : length passes ≡ passes_fed workers
-    pub here : All (λ p. (IsSome p.seat) × (p.place ≡ place)) passes
-    pub opens : All (λ p. OpensAt origin (known_at p.seat)) passes
+  pub record CanFeed (origin : Name) (place crew many : ℕ) (commands : List Command) (ps : List (Pass Y N)) : Type 0 where
+    pub workers : (1 ≤ crew) × (crew ≤ 16)
+    pub passes : length ps ≡ passes_fed crew
+    pub here : All (λ p. (IsSome p.seat) × (p.place ≡ place)) ps
+    pub opens : All (λ p. OpensAt origin (known_at p.seat)) ps
     pub count : (1 ≤ many) × (many ≤ 10000)
     pub no_snapshots : AllByRecursion NeedsNoSnapshot commands
     pub said : AllByRecursion (AllAsked origin) commands

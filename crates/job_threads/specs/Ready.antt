@@ -25,8 +25,8 @@ pub record CanBeRun (origin : Name) (commands : List Command) : Type 0 where
   pub said : AllByRecursion (AllAsked origin) commands
 
 -- so do those of all workers; the table has the passes for so many, and its zone is one of the origin
-pub record CanRunOn (origin : Name) (es : List Entry) (passes many : ℕ) (workers : List (List Command)) : Type 0 where
-  pub passes : passes ≡ passes_for many
+pub record CanRunOn (origin : Name) (es : List Entry) (seats many : ℕ) (workers : List (List Command)) : Type 0 where
+  pub passes : seats ≡ passes_for many
   pub zone : IsZone origin es
   pub in_turn : AllByRecursion (InTurn false) workers
   pub said : AllByRecursion (AllByRecursion (AllAsked origin)) workers
@@ -64,8 +64,8 @@ module _ {Y : Type 0} {N : Ghosts Y} where
     pub all : AreAll 2 (known_in passes)
 
   -- an index of this size was opened for one worker, on these entries
-  pub record OpensForOne (origin : Name) (size made : TableSize) (es : List Entry) (place : ℕ) (passes : List (Pass Y N)) : Type 0 where
-    pub size : made ≡ size
-    pub passes : AreOfOne origin place passes
-    pub new : AreNew es (known_in passes)
-    pub fits : cells es ≤ room_in size.chunks
+  pub record OpensForOne (origin : Name) (key made : TableSize) (es : List Entry) (place : ℕ) (ps : List (Pass Y N)) : Type 0 where
+    pub size : made ≡ key
+    pub passes : AreOfOne origin place ps
+    pub new : AreNew es (known_in ps)
+    pub fits : cells es ≤ room_in key.chunks

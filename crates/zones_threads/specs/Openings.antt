@@ -26,17 +26,17 @@ pub record StandFor (items : List ZoneItems) (zones : List Zone) : Type 0 where
 
 -- A table for the origins of one to sixteen zones, which differ, and one for each zone, all for the passes of at most sixteen workers. The
 -- workers' blocks ask for changes of their zones.
-pub record CanRunZones (table : TableSize) (sizes : List TableSize) (zones : List ZoneItems) (many : ℕ) (workers : List (List Command)) : Type 0 where
+pub record CanRunZones (table : TableSize) (sizes : List TableSize) (items : List ZoneItems) (many : ℕ) (workers : List (List Command)) : Type 0 where
   pub table_chunks : table.chunks ≡ 512
   pub table_passes : table.passes ≡ passes_for many
   pub few_workers : many ≤ 16
   pub passes : All (λ s. s.passes ≡ table.passes) sizes
-  pub some : 1 ≤ length zones
-  pub few : length zones ≤ 16
-  pub each : length sizes ≡ length zones
-  pub different : IsDistinct same_name (origins_of zones)
-  pub zones : All (λ z. IsZone z.origin (entries_in z)) zones
-  pub said : AllByRecursion (AllByRecursion (IsSaid (origins_of zones))) workers
+  pub some : 1 ≤ length items
+  pub few : length items ≤ 16
+  pub each : length sizes ≡ length items
+  pub different : IsDistinct same_name (origins_of items)
+  pub zones : All (λ z. IsZone z.origin (entries_in z)) items
+  pub said : AllByRecursion (AllByRecursion (IsSaid (origins_of items))) workers
 
 -- each zone fits, and the workers were run; or one doesn't, the first in canonical order, and both numbers are told
 abbrev pub ZonesRanOn : List Place → ℕ → List Zone → List (List Command) → ZonesRan → Type 0

@@ -1,4 +1,4 @@
-use Rattle.std.proofs.Common.{◌≡◌, ◌≤◌, refl, sym, ap, subst}
+use Rattle.std.proofs.Common.{rules, ◌≡◌, ◌≤◌, refl, sym, ap, subst}
 use Rattle.qp_multi.specs.Openings.{room_in}
 use Rattle.trie_model.specs.Shape.{cells}
 use Rattle.trie_write.specs.Entries.{entries_of_items}

@@ -1,4 +1,4 @@
-use Rattle.std.proofs.Common.{◌≡◌, ◌∙◌, subst}
+use Rattle.std.proofs.Common.{rules, ◌≡◌, ◌∙◌, subst}
 use Rattle.std.specs.Prelude.{IsSome}
 use Rattle.qp_multi.specs.Passes.{known_at, Learnt}
 use Rattle.job_threads.proofs.GatherLaws.{two_more, two_views}

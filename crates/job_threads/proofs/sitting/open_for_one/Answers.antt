@@ -16,13 +16,13 @@ open-requires-clause-lawful g c = zone_lawful c.args._origin.now (entries_of_ite
 pub returns-clause-opens : goal.returns-clause-opens
 returns-clause-opens g c =
     let made = c.open.result in
-    let open = c.open.ensures in
+    let told = c.open.ensures in
     let two = c.requires.passes in
     let es = entries_of_items c.args.items.now in
-    let first = if_both made (λ m place passes. (place, passes)) open.place open.passes in
-    let second = if_both made (λ m first unused. (first, unused)) first open.unused in
-    let third = if_both made (λ m size count. (size, count)) open.size open.count in
-    let fourth = if_both made (λ m all fits. (all, fits)) open.all open.fits in
+    let first = if_both made (λ m place passes. (place, passes)) told.place told.passes in
+    let second = if_both made (λ m first unused. (first, unused)) first told.unused in
+    let third = if_both made (λ m size count. (size, count)) told.size told.count in
+    let fourth = if_both made (λ m all fits. (all, fits)) told.all told.fits in
     let fifth = if_both made (λ m third fourth. (third, fourth)) third fourth in
     if_both made (λ m x y. record {
       size = y.0.0;

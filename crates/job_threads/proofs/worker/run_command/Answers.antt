@@ -1,4 +1,4 @@
-use Rattle.std.proofs.Common.{◌∙◌, Some, None, refl, sym, subst}
+use Rattle.std.proofs.Common.{rules, ◌∙◌, Some, None, refl, sym, subst}
 use Rattle.std.specs.Option.{option_map}
 use Rattle.job_model.specs.Commands.{AskHeld}
 use Rattle.qp_multi.specs.Passes.{first_version, known_at}
