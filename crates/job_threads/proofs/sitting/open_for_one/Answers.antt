@@ -5,6 +5,7 @@ use Rattle.job_commands.specs.Commands.{known_in}
 use Rattle.job_commands.proofs.OpenLaws.{new_passes, all_open}
 use Rattle.job_commands.proofs.StationLaws.{if_both}
 use Rattle.job_commands.proofs.ZoneLaws.{zone_rises, zone_lawful}
+use Rattle.job_threads.proofs.GatherLaws.{both_ok}
 use Rattle.job_threads.proofs.sitting.open_for_one.Goals as goal
 
 pub open-requires-clause-rising : goal.open-requires-clause-rising
@@ -19,11 +20,8 @@ returns-clause-opens g c =
     let told = c.open.ensures in
     let two = c.requires.passes in
     let es = entries_of_items c.args.items.now in
-    let first = if_both made (λ m place passes. (place, passes)) told.place told.passes in
-    let second = if_both made (λ m first unused. (first, unused)) first told.unused in
-    let third = if_both made (λ m size count. (size, count)) told.size told.count in
-    let fourth = if_both made (λ m all fits. (all, fits)) told.all told.fits in
-    let fifth = if_both made (λ m third fourth. (third, fourth)) third fourth in
+    let first = both_ok _ _ made (both_ok _ _ made told.place told.passes) told.unused in
+    let second = both_ok _ _ made (both_ok _ _ made told.size told.count) (both_ok _ _ made told.all told.fits) in
     if_both made (λ m x y. record {
       size = y.0.0;
       passes = record {
@@ -34,4 +32,4 @@ returns-clause-opens g c =
       };
       new = new_passes m.1.items (λ p. p.seat) es (λ p. p.place ≡ 0) x.0.1 x.1;
       fits = y.1.1;
-    }) second fifth
+    }) first second
