@@ -11,4 +11,4 @@ pub use Rattle.job_model.specs.Sessions.{completed, held_by, ends_block, first_s
 pub use Rattle.job_report.specs.Outcomes.{outcome_text}
 pub use Rattle.job_script.specs.Scripts.{script_view}
 pub use Rattle.job_script.specs.Views.{command_view}
-pub use Rattle.session_lines.specs.Taking.{IsUnbroken, line_end}
+pub use Rattle.session_lines.specs.Taking.{IsUnbroken, NextIsShort, line_end}

@@ -148,7 +148,8 @@ impl Intake {
         self.from = 0;
     }
 
-    /// Takes what the talk gives, and waits where it has nothing yet. What lies in the sink has to be all that is due.
+    /// Takes what the talk gives, and waits where it has nothing yet. What lies in the sink has to be all that is due. Memory is wanting for
+    /// bytes that the talk gave alone, which are lost then.
     pub fn take<K: Sink, T: Talk<K>>(&mut self, talk: &mut T, sink: &K) -> Result<(), NoMore>
         requires settled { T.is_settled (T.given talk.old) (K.held sink.now).taken }
         ensures grows { (more : List ℕ) × Consumes (T.left talk.old) (T.left talk.new) more × (T.given talk.new ≡ T.given talk.old ++ more) × (length more ≤ 65536)
@@ -157,6 +158,8 @@ impl Intake {
         ensures some { OnOk result (self.new.ended ≡ false → length (T.given talk.old) < length (T.given talk.new)) }
         ensures short { OnOk result (length self.old.bytes ≤ 2 ^ 24) }
         ensures too_long { IsErrOf result NoMore.TooLong → (2 ^ 24 < length self.old.bytes) × (self.new ≡ self.old) × (T.given talk.new ≡ T.given talk.old) }
+        ensures memory { IsErrOf result NoMore.Memory
+            → (length self.old.bytes ≤ 2 ^ 24) × (self.new ≡ self.old) × (length (T.given talk.old) < length (T.given talk.new)) }
         ensures fault { IsErrOf result NoMore.Fault → Rose (T.faults talk.old) (T.faults talk.new) }
         ensures unmoved { IsErrOf result NoMore.Fault → T.given talk.new ≡ T.given talk.old }
         ensures quiet { (IsErrOf result NoMore.Fault → ⊥) → T.faults talk.new ≡ T.faults talk.old }
@@ -168,6 +171,7 @@ impl Intake {
         let count = talk.ask(sink, &mut self.piece)?;
         if count == 0 {
             self.ended = true;
+            return Ok(());
         }
         self.bytes.extend_from_slice(&self.piece[..count])?;
         Ok(())

@@ -1,5 +1,5 @@
 //! What one line of a session says.
-ghost use Rattle.std.specs.Prelude.{◌≡◌, ◌<◌, ◌≤◌, ◌∷◌, ◌^◌, [], ℕ, true, false, List, length, map, IfOk, Some, None, Option};
+ghost use Rattle.std.specs.Prelude.{◌≡◌, ◌<◌, ◌≤◌, ◌∷◌, ◌^◌, [], ℕ, true, false, List, length, map, IfOk, IsOk, Some, None, Option};
 ghost use Rattle.session_lines.specs.Prelude.{is_some, lines_of, script_view, first_session, left_open, passed_over, refused_in, script_at, session_line, went_on};
 ghost use Rattle.session_lines.specs.Views.{StepsTo, open_view, session_view};
 ghost use Rattle.session_lines.specs.Prelude.{State, command_view, held_by, is_last_word as ends_line};
@@ -101,7 +101,7 @@ impl Session {
         Said::Runs
     }
 
-    // A line is refused. What was open is given up.
+    // A line is refused. What was open is given up. Where nothing was open that takes no memory.
     fn refuse(
         &mut self,
         alloc: Global,
@@ -112,8 +112,10 @@ impl Session {
     ) -> Result<Said, AllocError>
         requires some { 0 < length line.now }
         requires short { length line.now ≤ 2 ^ 24 }
-        ensures { (s : State) (number : ℕ) (text : List ℕ) → session_view self.old ≡ record s { block = None } → is_some s.block ≡ was_open → lines_of line.now ≡ text ∷ []
+        ensures steps { (s : State) (number : ℕ) (text : List ℕ)
+            → session_view self.old ≡ record s { block = None } → is_some s.block ≡ was_open → lines_of line.now ≡ text ∷ []
             → IfOk result (StepsTo (refused_in number kind s (ends_line text) s.block) self.new number) }
+        ensures at_once { was_open ≡ false → IsOk result }
     {
         if !was_open {
             return Ok(Said::Refuses(kind));

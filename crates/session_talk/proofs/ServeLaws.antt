@@ -28,7 +28,7 @@ use Rattle.session_lines.specs.declared.intake.NoMore.TheVariants as no_more
 use Rattle.job_model.specs.declared.ScriptKind.TheVariants.{OpenBlock}
 use Rattle.session_lines.specs.Views.{open_view}
 use Rattle.session_lines.specs.Printing.{Printing, with_refused, with_text}
-use Rattle.session_lines.specs.Taking.{IsUnbroken, line_end}
+use Rattle.session_lines.specs.Taking.{IsUnbroken, NextIsShort, line_end}
 use Rattle.session_talk.specs.Answering.{AnswersLines, EndsLines, IsFed, SoFar, Way}
 use Rattle.session_talk.specs.Entries.{Entry, Refused, at_ready, commands_in, outcomes_in, said_in, with_entries}
 use Rattle.session_talk.specs.Serving.{AtWork, BeginsAt, Finished, IsTooLong, LeftOpen, LinesDone, Settled, Stands}
@@ -234,6 +234,11 @@ too_long_of no_more.Fault is = cc
 too_long_of no_more.TooLong is = refl
 too_long_of no_more.Memory is = cc
 
+pub memory_of : (e : NoMore) → stop.Memory ≡ stop_of e → e ≡ no_more.Memory
+memory_of no_more.Fault is = cc
+memory_of no_more.TooLong is = cc
+memory_of no_more.Memory is = refl
+
 pub passed_as : {A B : Type 0} (r : Result A Stop) (e x : Stop) → IsErrAnd r (λ y. y ≡ e) → IsErrOf {T = B} (Err e) x → r ≡ Err x
 passed_as (Ok a) e x f k = absurd f
 passed_as (Err y) e x f k = let s : e ≡ x = cc in ap Err (f ∙ s)
@@ -275,3 +280,10 @@ module _ {ran : List Command → List Outcome → Type 0} {way : Way} {origin : 
 pub err_left : {A E : Type 0} (P Q : Type 0) (r : Result A E) → OnErr r P → OnErr r (P ⊎ Q)
 err_left P Q (Ok x) p = tt
 err_left P Q (Err e) p = inl p
+
+-- the first line, which is there whole, is short; or so few bytes are there
+pub short_line : (bytes now : List ℕ) (count : ℕ) → now ≡ bytes → line_end bytes ≡ Some count → count ≤ 2 ^ 24 → NextIsShort now
+short_line bytes now count same e le = inl (count, ap line_end same ∙ e, le)
+
+pub few_bytes : (bytes now : List ℕ) → now ≡ bytes → length bytes ≤ 2 ^ 24 → NextIsShort now
+few_bytes bytes now same le = inr (let n = ap {B = ℕ} (λ l. length l) same in omega (arith, n, le))

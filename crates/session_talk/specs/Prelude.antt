@@ -8,6 +8,6 @@ pub use Rattle.job_model.specs.Sessions.{Session as State, first_session, sessio
 pub use Rattle.job_script.specs.Views.{command_view}
 pub use Rattle.report_laws.specs.Changes.{AllAsked}
 pub use Rattle.session_lines.specs.Printing.{printing}
-pub use Rattle.session_lines.specs.Taking.{IsUnbroken, line_end}
+pub use Rattle.session_lines.specs.Taking.{IsUnbroken, NextIsShort, line_end}
 pub use Rattle.session_lines.specs.Views.{said_view, session_view}
 pub use Rattle.session_lines.specs.Well.{RunsWell}

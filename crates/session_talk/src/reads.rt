@@ -1,6 +1,6 @@
 //! The reads of a session.
 ghost use Rattle.std.specs.Prelude.{◌≡◌, ◌⊎◌, ◌<◌, ◌≤◌, ◌+◌, ◌^◌, true, IsTrue, IsErrOf, OnOk, length};
-ghost use Rattle.session_talk.specs.Prelude.{Rose};
+ghost use Rattle.session_talk.specs.Prelude.{NextIsShort, Rose};
 ghost use Rattle.session_talk.specs.Answering.{Way};
 ghost use Rattle.session_talk.specs.Between.{CanGoOn, IsAtWork, MayGoOn};
 ghost use Rattle.session_talk.specs.Serving.{IsTooLong, Settled, Stands};
@@ -34,6 +34,7 @@ pub fn serve_lines<W: Worker, K: Sink, T: Talk<K>>(
     ensures sink_fault { IsErrOf result Stop.Sink → Rose (K.faults sink.old) (K.faults sink.new) }
     ensures talk_fault { IsErrOf result Stop.Fault → Rose (T.faults talk.old) (T.faults talk.new) }
     ensures quiet_talk { (IsErrOf result Stop.Fault → ⊥) → T.faults talk.new ≡ T.faults talk.old }
+    ensures memory { IsErrOf result Stop.Memory → NextIsShort intake.new.bytes }
     ensures ok { (way : Way) → way.opened.origin ≡ answering.old.origin.now
         → IsAtWork W.has_run answering.old way (T.given talk.old) (K.held sink.old) intake.old.bytes
         → OnOk result (IsAtWork W.has_run answering.new way (T.given talk.new) (K.held sink.new) intake.new.bytes) }

@@ -1,6 +1,6 @@
 //! The loop of a session: what is due for all lines that were taken is written before more are asked for.
 ghost use Rattle.std.specs.Prelude.{◌≡◌, ◌<◌, ◌≤◌, ◌+◌, ◌^◌, ℕ, true, false, Ok, Err, List, Some, IsTrue, IfOk, IsErrOf, OnOk, OnErr, length};
-ghost use Rattle.session_talk.specs.Prelude.{IsUnbroken, Rose, line_end, printing, session_view};
+ghost use Rattle.session_talk.specs.Prelude.{IsUnbroken, NextIsShort, Rose, line_end, printing, session_view};
 ghost use Rattle.session_talk.specs.Answering.{Way};
 ghost use Rattle.session_talk.specs.Between.{CanGoOn, IsAtWork, IsThrough, MayGoOn};
 ghost use Rattle.session_talk.specs.Serving.{Finished, IsTooLong, LeftOpen, Settled, Stands};
@@ -101,6 +101,7 @@ fn answer_next<W: Worker, K: Sink>(
     ensures quiet { (IsErrOf result Stop.Sink → ⊥) → K.faults sink.new ≡ K.faults sink.old }
     ensures failed { IsErrOf result Stop.Sink → Rose (K.faults sink.old) (K.faults sink.new) }
     ensures others { (IsErrOf result Stop.Fault → ⊥) × (IsErrOf result Stop.TooLong → ⊥) }
+    ensures kept { IsErrOf result Stop.Memory → intake.new ≡ intake.old }
     ensures ok { (way : Way) (given : List ℕ) → way.opened.origin ≡ answering.old.origin.now
         → IsAtWork W.has_run answering.old way given (K.held sink.old) intake.old.bytes
         → OnOk result (IsAtWork W.has_run answering.new way given (K.held sink.new) intake.new.bytes) }
@@ -129,6 +130,7 @@ fn answer_lines<W: Worker, K: Sink>(
     ensures quiet { (IsErrOf result Stop.Sink → ⊥) → K.faults sink.new ≡ K.faults sink.old }
     ensures failed { IsErrOf result Stop.Sink → Rose (K.faults sink.old) (K.faults sink.new) }
     ensures others { IsErrOf result Stop.Fault → ⊥ }
+    ensures memory { IsErrOf result Stop.Memory → NextIsShort intake.new.bytes }
     ensures ok { (way : Way) (given : List ℕ) → way.opened.origin ≡ answering.old.origin.now
         → IsAtWork W.has_run answering.old way given (K.held sink.old) intake.old.bytes
         → OnOk result (IsAtWork W.has_run answering.new way given (K.held sink.new) intake.new.bytes) }
@@ -197,6 +199,7 @@ pub fn finish<W: Worker, K: Sink>(
     ensures quiet { (IsErrOf result Stop.Sink → ⊥) → K.faults sink.new ≡ K.faults sink.old }
     ensures failed { IsErrOf result Stop.Sink → Rose (K.faults sink.old) (K.faults sink.new) }
     ensures others { IsErrOf result Stop.Fault → ⊥ }
+    ensures memory { IsErrOf result Stop.Memory → length intake.now.bytes ≤ 2 ^ 24 }
     ensures ok { (way : Way) (given : List ℕ) → way.opened.origin ≡ answering.entry.origin.now
         → IsAtWork W.has_run answering.entry way given (K.held sink.old) intake.now.bytes
         → IfOk result (λ refused. Finished way refused given (K.held sink.new)) }
@@ -236,6 +239,7 @@ pub fn answer_due<W: Worker, K: Sink>(
     ensures quiet { (IsErrOf result Stop.Sink → ⊥) → K.faults sink.new ≡ K.faults sink.old }
     ensures failed { IsErrOf result Stop.Sink → Rose (K.faults sink.old) (K.faults sink.new) }
     ensures others { IsErrOf result Stop.Fault → ⊥ }
+    ensures memory { IsErrOf result Stop.Memory → NextIsShort intake.new.bytes }
     ensures ok { (way : Way) (given : List ℕ) → way.opened.origin ≡ answering.old.origin.now
         → IsAtWork W.has_run answering.old way given (K.held sink.old) intake.old.bytes
         → OnOk result (IsAtWork W.has_run answering.new way given (K.held sink.new) intake.new.bytes) }
@@ -278,6 +282,7 @@ pub fn turn<W: Worker, K: Sink, T: Talk<K>>(
     ensures sink_fault { IsErrOf result Stop.Sink → Rose (K.faults sink.old) (K.faults sink.new) }
     ensures quiet_talk { (IsErrOf result Stop.Fault → ⊥) → T.faults talk.new ≡ T.faults talk.old }
     ensures talk_fault { IsErrOf result Stop.Fault → Rose (T.faults talk.old) (T.faults talk.new) }
+    ensures memory { IsErrOf result Stop.Memory → NextIsShort intake.new.bytes }
     ensures ok { (way : Way) → way.opened.origin ≡ answering.old.origin.now
         → IsAtWork W.has_run answering.old way (T.given talk.old) (K.held sink.old) intake.old.bytes
         → OnOk result (IsAtWork W.has_run answering.new way (T.given talk.new) (K.held sink.new) intake.new.bytes) }

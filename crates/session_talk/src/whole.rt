@@ -1,6 +1,6 @@
 //! A session from its first line to its last.
 ghost use Rattle.std.specs.Prelude.{◌≡◌, ◌⊎◌, ◌<◌, ◌≤◌, ◌+◌, ◌^◌, true, false, ℕ, List, IsTrue, IsErrOf, IfOk, OnErr, OnOk, length};
-ghost use Rattle.session_talk.specs.Prelude.{Rose};
+ghost use Rattle.session_talk.specs.Prelude.{NextIsShort, Rose};
 ghost use Rattle.session_talk.specs.Answering.{Way};
 ghost use Rattle.session_talk.specs.Between.{CanGoOn, IsAtWork, MayGoOn};
 ghost use Rattle.session_talk.specs.Serving.{BeginsAt, Finished, IsTooLong, MayTalk, Settled, Stands};
@@ -25,6 +25,7 @@ fn end_session<W: Worker, K: Sink>(
     ensures quiet { (IsErrOf result Stop.Sink → ⊥) → K.faults sink.new ≡ K.faults sink.old }
     ensures failed { IsErrOf result Stop.Sink → Rose (K.faults sink.old) (K.faults sink.new) }
     ensures others { IsErrOf result Stop.Fault → ⊥ }
+    ensures memory { IsErrOf result Stop.Memory → NextIsShort intake.new.bytes }
     ensures ok { (way : Way) (given : List ℕ) → way.opened.origin ≡ answering.entry.origin.now
         → IsAtWork W.has_run answering.entry way given (K.held sink.old) intake.old.bytes
         → IfOk result (λ refused. Finished way refused given (K.held sink.new)) }
@@ -54,6 +55,7 @@ fn serve_begun<W: Worker, K: Sink, T: Talk<K>>(
     ensures sink_fault { IsErrOf result Stop.Sink → Rose (K.faults sink.old) (K.faults sink.new) }
     ensures quiet_talk { (IsErrOf result Stop.Fault → ⊥) → T.faults talk.new ≡ T.faults talk.old }
     ensures talk_fault { IsErrOf result Stop.Fault → Rose (T.faults talk.old) (T.faults talk.new) }
+    ensures memory { IsErrOf result Stop.Memory → NextIsShort intake.new.bytes }
     ensures unread { intake.old.ended ≡ true → (talk.new ≡ talk.old) × (IsErrOf result Stop.Fault → ⊥) }
     ensures ended { intake.old.ended ≡ false → OnOk result (IsTrue (T.ended talk.new) ⊎ (2 ^ 46 ≤ length (T.given talk.new))) }
     ensures ok { (way : Way) → way.opened.origin ≡ answering.entry.origin.now
@@ -99,6 +101,7 @@ pub fn serve<W: Worker, K: Sink, T: Talk<K>>(
     ensures sink_fault { IsErrOf result Stop.Sink → Rose (K.faults sink.old) (K.faults sink.new) }
     ensures quiet_talk { (IsErrOf result Stop.Fault → ⊥) → T.faults talk.new ≡ T.faults talk.old }
     ensures talk_fault { IsErrOf result Stop.Fault → Rose (T.faults talk.old) (T.faults talk.new) }
+    ensures memory { IsErrOf result Stop.Memory → NextIsShort intake.new.bytes ⊎ (K.held sink.new ≡ K.held sink.old) }
     ensures unread { intake.old.ended ≡ true → (talk.new ≡ talk.old) × (IsErrOf result Stop.Fault → ⊥) }
     ensures ended { intake.old.ended ≡ false → OnOk result (IsTrue (T.ended talk.new) ⊎ (2 ^ 46 ≤ length (T.given talk.new))) }
     ensures ok { (way : Way) → BeginsAt (W.has_run worker way.opened) way origin.now first names (T.given talk.old) (K.held sink.old) intake.old.bytes

@@ -67,3 +67,6 @@ returns-in_err-goes_on-clause-quiet_talk g c = λ h.
 
 pub returns-clause-ended : goal.returns-clause-ended
 returns-clause-ended g c = either_end c.reads.intake.ended _ _ c.reads.counter _ c.reads.invariant.ended c.reads.invariant.many c.reads-test.false
+
+pub returns-in_err-goes_on-clause-memory : goal.returns-in_err-goes_on-clause-memory
+returns-in_err-goes_on-clause-memory g c = λ is. c.in_err-goes_on.ensures.memory (ap Err (sym (same_error c.from_residual.result _ _ c.from_residual.ensures.1 is)))

@@ -37,3 +37,8 @@ returns-clause-long g c = λ way given same w0 over.
     let le : 2 ^ 24 ≤ length c.answer_lines.new.intake.bytes = omega arith in
     too_long_by way given _ _ _ _ _ _ c.answer_lines.new.intake.bytes w (front_unbroken (2 ^ 24) c.answer_lines.new.intake.bytes le c.in_ok-answer_lines.ensures.rest) over
     (c.in_ok-put.ensures.answers way.opened way.first w.done w.written w.so_far) c.in_ok-put.ensures.ok
+
+pub returns-in_err-answer_lines-clause-memory : goal.returns-in_err-answer_lines-clause-memory
+returns-in_err-answer_lines-clause-memory g c = λ is.
+    let n = same_error c.from_residual.result _ _ c.from_residual.ensures.1 is in
+    c.in_err-answer_lines.ensures.memory (ap Err (sym n))

@@ -1,5 +1,5 @@
 use Rattle.std.proofs.Common.{◌≡◌, ◌∙◌, ℕ, length, Err, refl, sym, ap, arith}
-use Rattle.session_talk.proofs.ServeLaws.{grows_front, long_line, put_stands, same_error, too_long_by}
+use Rattle.session_talk.proofs.ServeLaws.{grows_front, long_line, put_stands, same_error, short_line, too_long_by}
 use Rattle.session_talk.specs.declared.serving.Stop.TheVariants.{Sink, TooLong}
 use Rattle.session_talk.proofs.serving.answer_lines.Goals as goal
 
@@ -45,3 +45,9 @@ pub returns-in_err-answer_next-clause-too_long : goal.returns-in_err-answer_next
 returns-in_err-answer_next-clause-too_long g c = λ way given same w is.
     let n = same_error c.from_residual-in_err-answer_next.result _ _ c.from_residual-in_err-answer_next.ensures.1 is in
     absurd (c.in_err-answer_next.ensures.others.1 (ap Err (sym n)))
+
+pub returns-in_err-answer_next-clause-memory : goal.returns-in_err-answer_next-clause-memory
+returns-in_err-answer_next-clause-memory g c = λ is.
+    let n = same_error c.from_residual-in_err-answer_next.result _ _ c.from_residual-in_err-answer_next.ensures.1 is in
+    let kept = c.in_err-answer_next.ensures.kept (ap Err (sym n)) in
+    short_line c.lines.intake.bytes _ c.in-Some.count (ap (λ i. i.bytes) (kept ∙ c.next_line.ensures.same)) (sym c.next_line.ensures.found ∙ c.in-Some.is) (omega arith)

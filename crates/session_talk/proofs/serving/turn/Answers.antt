@@ -1,5 +1,5 @@
 use Rattle.std.proofs.Common.{◌∙◌, Err, sym, ap}
-use Rattle.session_talk.proofs.ServeLaws.{fault_of, more_stands, more_work, same_error, too_long_of}
+use Rattle.session_talk.proofs.ServeLaws.{few_bytes, fault_of, memory_of, more_stands, more_work, same_error, too_long_of}
 use Rattle.session_talk.proofs.serving.turn.Goals as goal
 
 pub take-requires : goal.take-requires
@@ -46,3 +46,12 @@ pub returns-in_err-answer_due-clause-too_long : goal.returns-in_err-answer_due-c
 returns-in_err-answer_due-clause-too_long g c = λ is way same w.
     let n = same_error c.from_residual.result _ _ c.from_residual.ensures.1 is in
     c.in_err-answer_due.ensures.too_long way _ same w (ap Err (sym n))
+
+pub returns-in_err-take-clause-memory : goal.returns-in_err-take-clause-memory
+returns-in_err-take-clause-memory g c = λ is.
+    let n = memory_of _ (same_error c.from_residual-in_err-take.result _ _ c.from_residual-in_err-take.ensures.1 is) in
+    let m = c.in_err-take.ensures.memory (ap Err n) in
+    few_bytes c.answer_due.new.intake.bytes _ (ap (λ i. i.bytes) m.1) m.0
+
+pub returns-in_err-answer_due-clause-memory : goal.returns-in_err-answer_due-clause-memory
+returns-in_err-answer_due-clause-memory g c = λ is. c.in_err-answer_due.ensures.memory (ap Err (sym (same_error c.from_residual.result _ _ c.from_residual.ensures.1 is)))

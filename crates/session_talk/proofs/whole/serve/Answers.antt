@@ -38,3 +38,6 @@ pub returns-in_err-put-clause-stands : goal.returns-in_err-put-clause-stands
 returns-in_err-put-clause-stands g c = λ way b.
     let h = begun_so_far b (c.in_ok-answering.ensures.so_far way.opened b.origin_is b.names_are b.ran) in
     on_err c.from_residual-in_err-put.result (inl (begun_stands b _ _ c.in_err-put.ensures.err (c.in_err-put.ensures.answers way.opened way.first [] [] h)))
+
+pub returns-clause-memory : goal.returns-clause-memory
+returns-clause-memory g c = λ is. inl (c.serve_begun.ensures.memory is)

@@ -32,3 +32,6 @@ returns-in_err-serve_lines-clause-quiet_sink g c = λ h. c.in_err-serve_lines.en
 
 pub returns-in_err-serve_lines-clause-quiet_talk : goal.returns-in_err-serve_lines-clause-quiet_talk
 returns-in_err-serve_lines-clause-quiet_talk g c = λ h. c.in_err-serve_lines.ensures.quiet_talk (λ k. h (passed_as c.from_residual.result _ stop.Fault c.from_residual.ensures.1 k))
+
+pub returns-in_err-serve_lines-clause-memory : goal.returns-in_err-serve_lines-clause-memory
+returns-in_err-serve_lines-clause-memory g c = λ is. c.in_err-serve_lines.ensures.memory (ap Err (sym (same_error c.from_residual.result _ _ c.from_residual.ensures.1 is)))
