@@ -5,6 +5,7 @@ ghost use Rattle.live_session.specs.Dues.{IsSettled};
 ghost use Rattle.live_session.specs.Ends.{EndedSo, Fits, ServedSo, StartsOn, ZoneStops};
 ghost use Rattle.live_session.specs.Prelude.{AreAll, AreNew, CanBeDumped, Entries, MayTalk, OpensAt, known_at, known_in, table_size};
 ghost use Rattle.live_session.specs.Zones.{TookZone};
+ghost use Rattle.job_threads.specs.Ready.{AreOfOne};
 
 use crate::chunks::chunks_for;
 use crate::early::EarlyEnd;
@@ -40,10 +41,7 @@ fn serve_opened<R: Wait, N: Named, K: Sink, T: Talk<K>>(
     talk: &mut T,
     sink: &mut K,
 ) -> Result<bool, EarlyEnd>
-    requires count { length passes.items ≡ 2 }
-    requires here { All (λ p. (IsSome p.seat) × (p.place ≡ index.now.place)) passes.items }
-    requires opens { All (λ p. OpensAt origin.now (known_at p.seat)) passes.items }
-    requires all { AreAll 2 (known_in passes.items) }
+    requires passes { AreOfOne origin.now index.now.place passes.items }
     requires two { (table_size index.now).passes ≡ 2 }
     requires first { 0 < first }
     requires few { first + length intake.old.bytes ≤ 2 ^ 26 }

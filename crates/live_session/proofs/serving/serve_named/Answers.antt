@@ -8,12 +8,12 @@ use Rattle.live_session.proofs.serving.serve_named.Goals as goal
 pub serve_opened-requires-clause-may : goal.serve_opened-requires-clause-may
 serve_opened-requires-clause-may g c = λ e.
     let m = c.requires.may e in
-    (entries_of_items c.args.items.now, m.0, c.in-Ok.ensures.new, length-map c.args.items.now entry_of, starts_as (sym (ap (λ k. k.chunks) c.in-Ok.ensures.size)) m.1, m.2 (fits_by m.1 c.in-Ok.ensures.fits))
+    (entries_of_items c.args.items.now, m.0, c.in-Ok.ensures.opens.new, length-map c.args.items.now entry_of, starts_as (sym (ap (λ k. k.chunks) c.in-Ok.ensures.opens.size)) m.1, m.2 (fits_by m.1 c.in-Ok.ensures.opens.fits))
 
 pub returns-in-Ok-clause-served : goal.returns-in-Ok-clause-served
 returns-in-Ok-clause-served g c = λ way s.
-    c.serve_opened.ensures.served (entries_of_items c.args.items.now) way c.in-Ok.ensures.new (length-map c.args.items.now entry_of) (starts_as (sym (ap (λ k. k.chunks) c.in-Ok.ensures.size)) s)
-    (fits_by s c.in-Ok.ensures.fits)
+    c.serve_opened.ensures.served (entries_of_items c.args.items.now) way c.in-Ok.ensures.opens.new (length-map c.args.items.now entry_of) (starts_as (sym (ap (λ k. k.chunks) c.in-Ok.ensures.opens.size)) s)
+    (fits_by s c.in-Ok.ensures.opens.fits)
 
 pub returns-in-Err-Full-clause-served : goal.returns-in-Err-Full-clause-served
 returns-in-Err-Full-clause-served g c = λ way s.
