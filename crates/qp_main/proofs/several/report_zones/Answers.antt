@@ -1,6 +1,8 @@
 use Rattle.std.proofs.Common.{◌≡◌, ◌∙◌, List, map, arith, rules, sym, ap, subst}
 use Rattle.std.proofs.lemmas.List.Elements.{All-from_recursion}
-use Rattle.std.specs.List.{AllByRecursion}
+use Rattle.std.specs.List.{All, AllByRecursion}
+use Rattle.std.proofs.lemmas.List.{length-map}
+use Rattle.shared_cells.specs.declared.view.TableSize.{TableSize}
 use Rattle.zone_model.specs.Names.{Name}
 use Rattle.job_commands.specs.Histories.{IsZone}
 use Rattle.job_report.specs.Pieces.{pieces_text}
@@ -27,16 +29,17 @@ run_zone_items-requires-clause-can g c κs within =
     let counted = c.len-2.ensures in
     let held = c.args.zones.ok.0 in
     let listed = c.requires.listed in
+    let sizes = map (λ b. b.shared.table.shared.key) c.in_ok-blanks.blanks.items in
     let stand = they_stand c.args.zones.items items are in
     let over = subst (λ (o : List Name). AllByRecursion (AllByRecursion (IsSaid o)) (workers_view c.args.script.now)) stand.origins c.requires.said in
     record {
       table_chunks = search rules;
       table_passes = search rules;
       few_workers = search rules;
-      passes = search rules;
+      passes = subst (λ (n : ℕ). All (λ (s : TableSize). s.passes ≡ n) sizes) (sym c.in_ok-table.ensures.passes) c.in_ok-blanks.ensures.passes;
       some = (let some = listed.some in omega arith);
       few = (let few = listed.few in omega arith);
-      each = omega arith;
+      each = length-map c.in_ok-blanks.blanks.items (λ b. b.shared.table.shared.key) ∙ (let e : length c.in_ok-blanks.blanks.items ≡ length items = omega arith in e);
       different = different c.args.zones.items items listed are;
       zones = All-from_recursion (λ z. IsZone z.origin (opening.entries_in z)) items (all_zones c.args.zones.items items c.requires.zones are);
       said = subst (λ (ws : List (List Command)). AllByRecursion (AllByRecursion (IsSaid (opening.origins_of items))) ws) (sym (ap (map worker_view) c.deref-3.ensures.value)) over;
