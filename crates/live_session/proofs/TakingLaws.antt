@@ -4,7 +4,7 @@ use Rattle.std.specs.Prelude.{IsTrue}
 use Rattle.session_lines.specs.Taking.{IsUnbroken, Pending}
 use Rattle.zone_model.specs.Lines.{lines_of}
 use Rattle.session_talk.proofs.FedLaws.{last_one}
-use Rattle.live_session.specs.Zones.{CutOff, EndsZone, IsLongZone, IsWithinZone, IsZoneSoFar, TookZone, has_cut}
+use Rattle.live_session.specs.Zones.{CutOff, EndsZone, IsLongZone, IsWithinZone, IsZoneSoFar, TookZone, WantsLine, WantsMemory, WantsRead, has_cut}
 use Rattle.live_session.specs.declared.zone.ZoneBytes.{ZoneBytes}
 use Rattle.live_session.proofs.CutLaws.{long_uncut, uncut_more}
 use Rattle.live_session.proofs.ZoneLaws.{cut_front}
@@ -57,4 +57,26 @@ took_whole before given all ended pending z e gave none over told = record {
   most = (let n : length pending.bytes ≡ 0 = ap (λ (l : List ℕ). length l) none in omega (arith, n));
   told = λ h. told;
   parts = inr (over, none, e.front);
+}
+
+-- memory was wanted for a line
+pub wants_for_line : (before given zone pending all all' : List ℕ) → given ≡ before ++ all' → all ≡ all' → WantsLine zone pending all → WantsMemory before given pending
+wants_for_line before given zone pending all all' gave same w = record { all = all; gave = gave ∙ ap (λ (l : List ℕ). before ++ l) (sym same); zone = zone; wants = inl w }
+
+-- memory was wanted for what a read gave
+pub wants_for_read : (before given now pending left more : List ℕ) (z : ZoneBytes) → given ≡ before ++ (z.bytes.items ++ pending) → now ≡ given ++ more → left ≡ pending → IsZoneSoFar z → length pending ≤ 2 ^ 24 → length given < length now
+    → WantsMemory before now left
+wants_for_read before given now pending left more z gave grew same s short some = record {
+  all = (z.bytes.items ++ left) ++ more;
+  gave = grew ∙ ap (λ (l : List ℕ). l ++ more) (gave ∙ ap (λ (l : List ℕ). before ++ (z.bytes.items ++ l)) (sym same)) ∙ append_assoc before (z.bytes.items ++ left) more;
+  zone = z.bytes.items;
+  wants = inr (
+    more,
+    record {
+      is = refl;
+      uncut = s.uncut;
+      short = (let n = ap (λ (l : List ℕ). length l) same in omega (arith, n, short));
+      some = (let n : length now ≡ length given + length more = ap (λ (l : List ℕ). length l) grew ∙ length-append given more in omega (arith, n, some));
+    },
+  );
 }

@@ -8,7 +8,7 @@ use Rattle.zone_model.specs.Lines.{lines_of}
 use Rattle.session_lines.specs.Taking.{IsUnbroken, line_end}
 use Rattle.session_talk.specs.Answering.{IsFed}
 use Rattle.session_talk.proofs.FedLaws.{count_inside, fed_line, front-of, lines_behind, one_line, rest-of}
-use Rattle.live_session.specs.Zones.{CutOff, EndsZone, HasTaken, IsCutFront, IsLongZone, IsWholeFront, IsZoneSoFar, has_cut}
+use Rattle.live_session.specs.Zones.{CutOff, EndsZone, HasTaken, IsCutFront, IsLongZone, IsWholeFront, IsZoneSoFar, WantsLine, has_cut}
 use Rattle.live_session.specs.declared.zone.ZoneBytes.{ZoneBytes}
 use Rattle.live_session.proofs.CutLaws.{any_here, cut_of, cut_parts, some_line, uncut_more, uncut_parts}
 
@@ -67,6 +67,13 @@ long_by z bytes all count s same h = record {
   over = h.0;
   uncut = uncut_more z.bytes.items (take count bytes) s.fed s.uncut h.1;
 }
+
+-- memory was wanted for a line of the zone, which is left where it lies
+pub wants_line : (old new bytes left all : List ℕ) (count : ℕ) → new ≡ old → left ≡ bytes → has_cut old ≡ false → all ≡ old ++ bytes → ((line_end bytes ≡ Some count) ⊎ (length bytes ≡ count))
+    → (length old + count ≤ 2 ^ 24) × (has_cut (take count bytes) ≡ false) → WantsLine new left all
+wants_line old new bytes left all count z b uncut is next h =
+    let w : WantsLine old bytes all = record { is = is; uncut = uncut; count = count; next = next; line_uncut = h.1; short = h.0 } in
+    subst (λ (l : List ℕ). WantsLine l left all) (sym z) (subst (λ (l : List ℕ). WantsLine old l all) (sym b) w)
 
 -- ---- the whole zone
 

@@ -14,4 +14,5 @@ pub use Rattle.job_commands.specs.Prelude.{AreAll, AreNew, OpensAt, known_at, kn
 pub use Rattle.outer_io.specs.Bytes.{Held}
 pub use Rattle.zone_text.specs.Views.{Reads}
 pub use Rattle.master_file.specs.Rows.{CanBeDumped}
+pub use Rattle.qp_multi.specs.Openings.{Refuses}
 pub use Rattle.job_model.specs.Feeds.{passes_fed}

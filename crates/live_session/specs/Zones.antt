@@ -1,9 +1,9 @@
 -- The lines of a zone that a session begins with.
-use Rattle.std.specs.Prelude.{◌≡◌, ◌⊎◌, ◌<◌, ◌≤◌, ◌+◌, ◌^◌, ℕ, Bool, true, false, IsTrue, List, [], ◌∷◌, ◌++◌, length}
+use Rattle.std.specs.Prelude.{◌≡◌, ◌⊎◌, ◌<◌, ◌≤◌, ◌+◌, ◌^◌, ℕ, Bool, true, false, IsTrue, List, [], ◌∷◌, ◌++◌, Option, Some, length, take}
 use Rattle.std.specs.List.{list_any}
 use Rattle.zone_model.specs.Lines.{lines_of}
 use Rattle.job_model.specs.Jobs.{is_cut, script_lines, script_start, zone_lines}
-use Rattle.session_lines.specs.Taking.{IsUnbroken, Pending}
+use Rattle.session_lines.specs.Taking.{IsUnbroken, Pending, line_end}
 use Rattle.session_talk.specs.Answering.{IsFed}
 use Rattle.live_session.specs.declared.zone.ZoneBytes.{ZoneBytes}
 
@@ -33,6 +33,22 @@ pub record IsZoneSoFar (z : ZoneBytes) : Type 0 where
 abbrev pub HasTaken : ZoneBytes → ZoneBytes → List ℕ → Bool → Type 0
 HasTaken old new line true = (has_cut line ≡ true) × (new.bytes.items ≡ old.bytes.items) × (new.lines ≡ old.lines + 1)
 HasTaken old new line false = (has_cut line ≡ false) × (new.bytes.items ≡ old.bytes.items ++ line) × (new.lines ≡ old.lines + 1) × (length new.bytes.items ≤ 2 ^ 24)
+
+-- Bytes are a zone's lines and others, of which the first line, whole or the last, is the zone's too, and isn't too long for it.
+pub record WantsLine (zone pending all : List ℕ) : Type 0 where
+  pub is : all ≡ zone ++ pending
+  pub uncut : has_cut zone ≡ false
+  pub count : ℕ
+  pub next : (line_end pending ≡ Some count) ⊎ (length pending ≡ count)
+  pub line_uncut : has_cut (take count pending) ≡ false
+  pub short : length zone + count ≤ 2 ^ 24
+
+-- Bytes are a zone's lines and others, and a read gave more.
+pub record WantsRead (zone pending more all : List ℕ) : Type 0 where
+  pub is : all ≡ (zone ++ pending) ++ more
+  pub uncut : has_cut zone ≡ false
+  pub short : length pending ≤ 2 ^ 24
+  pub some : 0 < length more
 
 -- Bytes are a zone's lines, which are these, the line behind them, and a rest.
 pub record CutOff (z : ZoneBytes) (bytes rest : List ℕ) : Type 0 where
@@ -87,3 +103,10 @@ pub record IsWithinZone (bytes : List ℕ) : Type 0 where
   pub fed : IsFed zone
   pub uncut : has_cut zone ≡ false
   pub unbroken : IsUnbroken rest
+
+-- Behind what had come before bytes came of which these are left, and memory was wanted for the zone's next line, or for what a read gave.
+pub record WantsMemory (before given pending : List ℕ) : Type 0 where
+  pub all : List ℕ
+  pub gave : given ≡ before ++ all
+  pub zone : List ℕ
+  pub wants : WantsLine zone pending all ⊎ ((more : List ℕ) × WantsRead zone pending more all)

@@ -3,7 +3,7 @@ ghost use Rattle.std.specs.Prelude.{◌≡◌, ◌⊎◌, ◌<◌, ◌≤◌, �
 ghost use Rattle.live_session.specs.Prelude.{IsZone, Held, Reads, Rose, Version, Way, entries_of_items, lines_of, passes_fed, zone_of};
 ghost use Rattle.live_session.specs.Dues.{IsSettled};
 ghost use Rattle.live_session.specs.Ends.{EndedSo, Fits, ServedSo, StartsOn, ZoneStops};
-ghost use Rattle.live_session.specs.Prelude.{AreAll, AreNew, CanBeDumped, Entries, MayTalk, OpensAt, known_at, known_in, table_size};
+ghost use Rattle.live_session.specs.Prelude.{AreAll, AreNew, CanBeDumped, Entries, MayTalk, OpensAt, Refuses, known_at, known_in, table_size};
 ghost use Rattle.live_session.specs.Zones.{TookZone};
 ghost use Rattle.job_threads.specs.Ready.{AreOfOne};
 
@@ -91,6 +91,7 @@ fn serve_named<R: Wait, N: Named, K: Sink, T: Talk<K>>(
     ensures served { (way : Way) → StartsOn way blank.shared.table.shared.key.chunks origin.now (entries_of_items items.now) first (T.given talk.old) (K.held sink.old) intake.old.bytes
         → ServedSo way (T.given talk.old) (T.given talk.new) (K.held sink.old) (K.held sink.new) result }
     ensures unread { intake.old.ended ≡ true → (talk.new ≡ talk.old) × (IsErrOf result EarlyEnd.TalkFault → ⊥) }
+    ensures memory { IsErrOf result EarlyEnd.Memory → Refuses blank.shared.table.shared.key.chunks (entries_of_items items.now) OpenRefusal.Memory }
     ensures ended { intake.old.ended ≡ false → OnOk result (IsTrue (T.ended talk.new) ⊎ (2 ^ 46 ≤ length (T.given talk.new))) }
     ensures quiet_sink { (IsErrOf result EarlyEnd.SinkFault → ⊥) → K.faults sink.new ≡ K.faults sink.old }
     ensures sink_fault { IsErrOf result EarlyEnd.SinkFault → Rose (K.faults sink.old) (K.faults sink.new) }

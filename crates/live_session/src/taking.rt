@@ -1,7 +1,7 @@
 //! The zone that a session begins with.
 ghost use Rattle.std.specs.Prelude.{◌≡◌, ◌≤◌, ◌<◌, ◌++◌, ◌^◌, [], ℕ, List, false, length, IfOk, OnOk, IsErrOf, IsTrue};
 ghost use Rattle.live_session.specs.Prelude.{IsFed, IsUnbroken, Rose};
-ghost use Rattle.live_session.specs.Zones.{EndsZone, IsLongZone, IsWithinZone, IsZoneSoFar, TookZone};
+ghost use Rattle.live_session.specs.Zones.{EndsZone, IsLongZone, IsWithinZone, IsZoneSoFar, TookZone, WantsLine, WantsMemory};
 
 use crate::zone::{ZoneBytes, take_line, take_lines};
 use outer_io::{Sink, Talk};
@@ -19,6 +19,7 @@ fn take_rest(zone: &mut ZoneBytes, intake: &mut Intake) -> Result<(), NoMore>
     ensures nothing { OnOk result (intake.new.bytes ≡ []) }
     ensures ended { intake.new.ended ≡ intake.old.ended }
     ensures too_long { IsErrOf result NoMore.TooLong → IsLongZone (zone.old.bytes.items ++ intake.old.bytes) }
+    ensures memory { IsErrOf result NoMore.Memory → WantsLine zone.new.bytes.items intake.new.bytes (zone.old.bytes.items ++ intake.old.bytes) }
     ensures others { IsErrOf result NoMore.Fault → ⊥ }
 {
     let rest = intake.len();
@@ -43,6 +44,7 @@ pub fn take_zone<K: Sink, T: Talk<K>>(
     ensures took { IfOk result (TookZone (T.given talk.old) (T.given talk.new) (T.ended talk.new) intake.new) }
     ensures within { IsErrOf result NoMore.Fault → (bytes : List ℕ) × (T.given talk.new ≡ T.given talk.old ++ bytes) × IsWithinZone bytes }
     ensures too_long { IsErrOf result NoMore.TooLong → (bytes : List ℕ) × (T.given talk.new ≡ T.given talk.old ++ bytes) × IsLongZone bytes }
+    ensures memory { IsErrOf result NoMore.Memory → WantsMemory (T.given talk.old) (T.given talk.new) intake.new.bytes }
     ensures fault { IsErrOf result NoMore.Fault → Rose (T.faults talk.old) (T.faults talk.new) }
     ensures quiet { (IsErrOf result NoMore.Fault → ⊥) → T.faults talk.new ≡ T.faults talk.old }
 {

@@ -1,7 +1,7 @@
 //! The lines of a zone, one by one.
-ghost use Rattle.std.specs.Prelude.{◌≡◌, ◌≤◌, ◌<◌, ◌+◌, ◌++◌, ◌∷◌, ◌^◌, [], ℕ, List, Ok, true, false, length, take, drop, IfOk, OnOk, IsErrOf};
+ghost use Rattle.std.specs.Prelude.{◌≡◌, ◌≤◌, ◌<◌, ◌+◌, ◌++◌, ◌∷◌, ◌^◌, [], ℕ, List, Ok, true, false, length, take, drop, IfOk, OnOk, OnErr, IsErrOf};
 ghost use Rattle.live_session.specs.Prelude.{IsUnbroken, is_cut, lines_of};
-ghost use Rattle.live_session.specs.Zones.{CutOff, HasTaken, IsLongZone, IsZoneSoFar, has_cut};
+ghost use Rattle.live_session.specs.Zones.{CutOff, HasTaken, IsLongZone, IsZoneSoFar, WantsLine, has_cut};
 
 use session_lines::{Intake, LONGEST, NoMore};
 use zone_text::line_at;
@@ -33,6 +33,8 @@ pub fn take_line(zone: &mut ZoneBytes, intake: &mut Intake, count: usize) -> Res
     ensures rest { OnOk result (intake.new.bytes ≡ drop count intake.old.bytes) }
     ensures ended { intake.new.ended ≡ intake.old.ended }
     ensures too_long { IsErrOf result NoMore.TooLong → (2 ^ 24 < length (zone.old.bytes.items ++ take count intake.old.bytes)) × (has_cut (take count intake.old.bytes) ≡ false) }
+    ensures memory { IsErrOf result NoMore.Memory → (length zone.old.bytes.items + count ≤ 2 ^ 24) × (has_cut (take count intake.old.bytes) ≡ false) }
+    ensures kept { OnErr result ((zone.new.bytes.items ≡ zone.old.bytes.items) × (intake.new ≡ intake.old)) }
     ensures others { IsErrOf result NoMore.Fault → ⊥ }
 {
     if count > LONGEST {
@@ -58,6 +60,7 @@ pub fn take_lines(zone: &mut ZoneBytes, intake: &mut Intake) -> Result<bool, NoM
     ensures came { result ≡ Ok true → CutOff zone.new (zone.old.bytes.items ++ intake.old.bytes) intake.new.bytes }
     ensures ended { intake.new.ended ≡ intake.old.ended }
     ensures too_long { IsErrOf result NoMore.TooLong → IsLongZone (zone.old.bytes.items ++ intake.old.bytes) }
+    ensures memory { IsErrOf result NoMore.Memory → WantsLine zone.new.bytes.items intake.new.bytes (zone.old.bytes.items ++ intake.old.bytes) }
     ensures others { IsErrOf result NoMore.Fault → ⊥ }
 {
     'lines: while let Some(count) = intake.next_line() {

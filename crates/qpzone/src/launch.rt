@@ -1,6 +1,8 @@
 //! What the program makes of the words that the runtime gives, and of the status.
-ghost use Rattle.std.specs.Prelude.{◌≡◌, IfOk};
+ghost use Rattle.std.specs.IoError.{error_kind};
+ghost use Rattle.std.specs.Prelude.{◌≡◌, IfErr, IfOk, IsErr, IsOk};
 ghost use Rattle.std.specs.Process.{exit_status};
+ghost use Rattle.std.specs.declared.io.ErrorKind.TheVariants.{OutOfMemory};
 ghost use Rattle.std.specs.Vec.Iter.{into_iter_items};
 ghost use Rattle.qp_main.specs.Statuses.{code_of};
 ghost use Rattle.qp_main.specs.declared.status.Status.{Status};
@@ -37,9 +39,12 @@ fn listed(alloc: Global, args: Args) -> Result<Vec<String>, AllocError>
     Ok(words)
 }
 
-/// The words of the command line. Where one of them isn't UTF-8 there are none, and no words are no command line.
+/// The words of the command line. Where one of them isn't UTF-8 there are none, and no words are no command line. Memory is wanting only where the
+/// runtime wanted it, or for words that it gave.
 fn words_of(alloc: Global, args: io::Result<Args>) -> Result<Vec<String>, AllocError>
-    ensures { IfOk result (λ words. words.items ≡ words_in args) }
+    ensures words { IfOk result (λ words. words.items ≡ words_in args) }
+    ensures none { IfErr args (λ error. (error_kind error ≡ OutOfMemory → ⊥) → IsOk result) }
+    ensures memory { IfErr args (λ error. error_kind error ≡ OutOfMemory → IsErr result) }
 {
     match args {
         Ok(args) => listed(alloc, args),

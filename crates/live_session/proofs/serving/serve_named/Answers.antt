@@ -1,4 +1,4 @@
-use Rattle.std.proofs.Common.{rules, ◌≡◌, ◌∙◌, ℕ, length, refl, sym, ap, subst, inr}
+use Rattle.std.proofs.Common.{rules, ◌≡◌, ◌∙◌, ℕ, length, refl, sym, ap, subst, inl, inr}
 use Rattle.std.proofs.lemmas.List.{length-map}
 use Rattle.trie_write.specs.Entries.{entries_of_items, entry_of}
 use Rattle.qp_multi.specs.Openings.{Refuses}
@@ -21,3 +21,9 @@ returns-in-Err-Full-clause-served g c = λ way s.
 
 pub returns-in-Err-Memory-clause-served : goal.returns-in-Err-Memory-clause-served
 returns-in-Err-Memory-clause-served g c = λ way s. inr (refl, refl)
+
+pub returns-in-Ok-clause-memory : goal.returns-in-Ok-clause-memory
+returns-in-Ok-clause-memory g c = λ is. inl c.in-Ok.ensures.opens.fits
+
+pub returns-in-Err-Memory-clause-memory : goal.returns-in-Err-Memory-clause-memory
+returns-in-Err-Memory-clause-memory g c = λ is. subst (Refuses c.args.blank.shared.table.shared.key.chunks (entries_of_items c.args.items.now)) c.in-Err-Memory.field-0-is c.in-Err-Memory.ensures.full

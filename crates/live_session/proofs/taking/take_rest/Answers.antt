@@ -1,10 +1,10 @@
-use Rattle.std.proofs.Common.{◌≡◌, ◌∙◌, ◌≤◌, ◌<◌, List, ℕ, Err, length, take, refl, sym, ap, arith, subst}
+use Rattle.std.proofs.Common.{◌≡◌, ◌∙◌, ◌≤◌, ◌<◌, List, ℕ, Err, length, take, refl, sym, ap, arith, inr, subst}
 use Rattle.std.proofs.lemmas.List.{take_all}
 use Rattle.zone_model.specs.Lines.{lines_of}
 use Rattle.session_talk.proofs.FedLaws.{last_one}
 use Rattle.live_session.specs.Zones.{HasTaken}
 use Rattle.live_session.proofs.ErrorLaws.{same_error}
-use Rattle.live_session.proofs.ZoneLaws.{ends_alone, ends_line, long_by, none_of}
+use Rattle.live_session.proofs.ZoneLaws.{ends_alone, ends_line, long_by, none_of, wants_line}
 use Rattle.live_session.proofs.taking.take_rest.Goals as goal
 
 pub returns-then-rest-eq0-clause-whole : goal.returns-then-rest-eq0-clause-whole
@@ -29,3 +29,9 @@ returns-clause-whole c =
     let one = last_one bytes some c.requires.rest in
     ends_line c.args.zone.now c.take_line.new.zone bytes one.0 c.in_ok-take_line.field-0 c.requires.zone one.1
     (subst (λ (l : List ℕ). HasTaken c.args.zone.now c.take_line.new.zone l c.in_ok-take_line.field-0) all c.in_ok-take_line.ensures.went)
+
+pub returns-in_err-take_line-clause-memory : goal.returns-in_err-take_line-clause-memory
+returns-in_err-take_line-clause-memory c = λ is.
+    let kept = c.in_err-take_line.ensures.kept in
+    wants_line c.args.zone.now.bytes.items _ c.args.intake.now.bytes _ _ c.len-rest.result kept.0 (ap (λ i. i.bytes) kept.1) c.requires.zone.uncut refl (inr (sym c.len-rest.ensures))
+    (c.in_err-take_line.ensures.memory (ap Err (sym (same_error c.from_residual.result _ _ c.from_residual.ensures.1 is))))

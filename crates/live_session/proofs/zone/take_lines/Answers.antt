@@ -1,8 +1,8 @@
-use Rattle.std.proofs.Common.{◌≡◌, ◌∙◌, ◌++◌, Ok, Err, Some, sym, ap}
+use Rattle.std.proofs.Common.{◌≡◌, ◌∙◌, ◌++◌, Ok, Err, Some, sym, ap, inl}
 use Rattle.session_lines.specs.Taking.{line_end}
 use Rattle.session_talk.proofs.FedLaws.{one_line}
 use Rattle.live_session.proofs.ErrorLaws.{same_error}
-use Rattle.live_session.proofs.ZoneLaws.{cut_by, long_by, one_more_by, same_by}
+use Rattle.live_session.proofs.ZoneLaws.{cut_by, long_by, one_more_by, same_by, wants_line}
 use Rattle.live_session.proofs.zone.take_lines.Goals as goal
 
 pub take_line-requires-clause-one : goal.take_line-requires-clause-one
@@ -32,3 +32,11 @@ returns-then-cuts-clause-came c = λ is.
     let found : line_end c.next_line.new.self.bytes ≡ Some c.in-Some.count = ap (λ i. line_end i.bytes) c.next_line.ensures.same ∙ sym c.next_line.ensures.found ∙ c.in-Some.is in
     cut_by c.lines.zone c.take_line.new.zone c.next_line.new.self.bytes c.take_line.new.intake.bytes _ c.in-Some.count c.in_ok-cuts.cuts c.lines.invariant.zone found c.if-cuts.true c.in_ok-cuts.ensures.went c.in_ok-cuts.ensures.rest
     (ap (λ i. c.lines.zone.bytes.items ++ i.bytes) c.next_line.ensures.same ∙ c.lines.invariant.same)
+
+pub returns-in_err-cuts-clause-memory : goal.returns-in_err-cuts-clause-memory
+returns-in_err-cuts-clause-memory c = λ is.
+    let found : line_end c.next_line.new.self.bytes ≡ Some c.in-Some.count = ap (λ i. line_end i.bytes) c.next_line.ensures.same ∙ sym c.next_line.ensures.found ∙ c.in-Some.is in
+    let kept = c.in_err-cuts.ensures.kept in
+    wants_line c.lines.zone.bytes.items _ c.next_line.new.self.bytes _ _ c.in-Some.count kept.0 (ap (λ i. i.bytes) kept.1) c.lines.invariant.zone.uncut
+    (sym (ap (λ i. c.lines.zone.bytes.items ++ i.bytes) c.next_line.ensures.same ∙ c.lines.invariant.same)) (inl found)
+    (c.in_err-cuts.ensures.memory (ap Err (sym (same_error c.from_residual.result _ _ c.from_residual.ensures.1 is))))

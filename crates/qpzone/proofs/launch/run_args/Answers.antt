@@ -29,7 +29,7 @@ returns-in_default g c = record {
 pub returns : goal.returns
 returns g c =
     let ran = c.run-status.ensures in
-    let are = c.deref.ensures.value ∙ c.in-Ok.ensures in
+    let are = c.deref.ensures.value ∙ c.in-Ok.ensures.words in
     record {
       ran = (
         c.run-status.result,
