@@ -1,9 +1,9 @@
 //! A session from its first byte to its last.
-ghost use Rattle.std.specs.Prelude.{◌≡◌, ◌⊎◌, ◌<◌, ◌≤◌, ◌+◌, ◌++◌, ◌^◌, ℕ, List, Some, false, true, All, IsSome, IsTrue, IsErrOf, IfOk, IfSome, OnOk, length, slice_get};
-ghost use Rattle.live_session.specs.Prelude.{IsZone, Held, Reads, Rose, Version, Way, entries_of_items, lines_of, passes_fed, zone_of};
+ghost use Rattle.std.specs.Prelude.{◌≡◌, ◌⊎◌, ◌<◌, ◌≤◌, ◌+◌, ◌++◌, ◌^◌, ℕ, List, Some, false, true, IsTrue, IsErrOf, IfOk, IfSome, OnOk, length, slice_get};
+ghost use Rattle.live_session.specs.Prelude.{IsZone, Held, Reads, Rose, Way, entries_of_items, lines_of, passes_fed, zone_of};
 ghost use Rattle.live_session.specs.Dues.{IsSettled};
 ghost use Rattle.live_session.specs.Ends.{EndedSo, Fits, ServedSo, StartsOn, ZoneStops};
-ghost use Rattle.live_session.specs.Prelude.{AreAll, AreNew, CanBeDumped, Entries, MayTalk, OpensAt, Refuses, known_at, known_in, table_size};
+ghost use Rattle.live_session.specs.Prelude.{AreNew, CanBeDumped, Entries, MayTalk, Refuses, known_in, table_size};
 ghost use Rattle.live_session.specs.Zones.{TookZone};
 ghost use Rattle.job_threads.specs.Ready.{AreOfOne};
 

@@ -1,6 +1,6 @@
 //! The zone that a session begins with.
-ghost use Rattle.std.specs.Prelude.{◌≡◌, ◌≤◌, ◌<◌, ◌++◌, ◌^◌, [], ℕ, List, false, length, IfOk, OnOk, IsErrOf, IsTrue};
-ghost use Rattle.live_session.specs.Prelude.{IsFed, IsUnbroken, Rose};
+ghost use Rattle.std.specs.Prelude.{◌≡◌, ◌<◌, ◌++◌, [], ℕ, List, false, IfOk, OnOk, IsErrOf};
+ghost use Rattle.live_session.specs.Prelude.{IsUnbroken, Rose};
 ghost use Rattle.live_session.specs.Zones.{EndsZone, IsLongZone, IsWithinZone, IsZoneSoFar, TookZone, WantsLine, WantsMemory};
 
 use crate::zone::{ZoneBytes, take_line, take_lines};
