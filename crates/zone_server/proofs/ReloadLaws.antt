@@ -213,6 +213,9 @@ module _ (origin : Name) (asked : Transaction) (old : Known) (heard : is_told ol
 
 -- ---- a zone that is exchanged
 
+pub ok_is : {T E : Type 0} (P : T → Type 0) (r : Result T E) (x : T) → r ≡ Ok x → IfOk r P → P x
+ok_is P r x is h = subst (λ (r : Result _ _). IfOk r P) is h
+
 pub ran_grows : (s : Setup) (asked : Transaction) (old new : Known) (r : Result ℕ ReloadRefusal) → RanOn s asked old new r → IsPartOf new.seen old.seen
 ran_grows s asked old new (Ok version) ran = ran.ran.grows
 ran_grows s asked old new (Err refusal.NoZone) ran = absurd ran
@@ -249,7 +252,7 @@ module _ (origin : Name) (zone : Version) (can : CanBeDumped origin zone) (old l
   makes_by operations is = subst (λ (l : List Said). MakesZone origin (changes l) looked number) (sym is) makes_zone
 
   module _ (s : Setup) (named : s.origin ≡ origin) (opening : first_version old.seen ≡ s.opening) where
-    looked_opening : first_version looked.seen ≡ s.opening
+    pub looked_opening : first_version looked.seen ≡ s.opening
     looked_opening = opened_same looked.seen old.seen heard shown.grows ∙ opening
 
     looked_was : StandsAs (version_after applied s.opening looked.seen.history) before
