@@ -23,10 +23,14 @@ const TRIES: u32 = 100_000;
 const LOOKS: u32 = 20_000;
 
 /// The zone at first, in which the host has one address.
-const ONE: &str = "example. 300 IN NS ns.example.\nexample. 300 IN SOA ns.example. hostmaster.example. 1 3600 600 86400 60\nns.example. 300 IN A 192.0.2.1\nold.example. 300 IN A 192.0.2.3\nwww.example. 300 IN A 192.0.2.2\n";
+const ONE: &str =
+    "example. 300 IN NS ns.example.\nexample. 300 IN SOA ns.example. hostmaster.example. 1 3600 600 86400 60\n\
+    ns.example. 300 IN A 192.0.2.1\nold.example. 300 IN A 192.0.2.3\nwww.example. 300 IN A 192.0.2.2\n";
 
 /// Another one, in which the host has two, and a name is gone.
-const TWO: &str = "example. 300 IN NS ns.example.\nexample. 300 IN SOA ns.example. hostmaster.example. 2 3600 600 86400 60\nns.example. 300 IN A 192.0.2.1\nwww.example. 300 IN A 192.0.2.4\nwww.example. 300 IN A 192.0.2.5\n";
+const TWO: &str =
+    "example. 300 IN NS ns.example.\nexample. 300 IN SOA ns.example. hostmaster.example. 2 3600 600 86400 60\n\
+    ns.example. 300 IN A 192.0.2.1\nwww.example. 300 IN A 192.0.2.4\nwww.example. 300 IN A 192.0.2.5\n";
 
 /// Writes the zone down, and tells which version it was and how many addresses the host has in it; none where it is neither of both zones.
 fn write_down<H: Home>(
