@@ -18,7 +18,7 @@ use Rattle.job_report.specs.declared.outcomes.Told.{Told}
 use Rattle.job_report.specs.declared.outcomes.Told.TheVariants as told
 use Rattle.shared_cells.specs.declared.pass.PassSeat.{PassSeat}
 use Rattle.shared_cells.specs.declared.view.TableSize.{TableSize}
-use Rattle.shared_cells.specs.History.{IsPartOf, StartsWith, version_after}
+use Rattle.shared_cells.specs.History.{IsPartOf, StartsWith, entry_of, version_after}
 use Rattle.shared_cells.specs.Views.{is_told, with_pinned}
 use Rattle.pin_core.specs.declared.version.Spent.{Spent as NoNumber}
 use Rattle.chunk_usage.specs.declared.space.Shortage.{Shortage as Request}
@@ -145,7 +145,7 @@ module _ (origin : Name) (asked : Transaction) (old : Known) (heard : is_told ol
             (none_made d d b goes here, omega (arith, last, base_is, long, seen, moved))
 
     module _ (second : Option Draft) (unmoved : base ≡ number) where
-      Two : Result (Unit {0}) EditRefusal → Type 0
+      abbrev Two : Result (Unit {0}) EditRefusal → Type 0
       Two r = Both (Begins IsLawful old) (EditsInOrder s.origin (done_of asked.operations r) (Executes s.origin asked r)) first second
 
       named_edits : (r : Result (Unit {0}) EditRefusal) → Edited origin asked r first second → Edited s.origin asked r first second
@@ -170,12 +170,15 @@ module _ (origin : Name) (asked : Transaction) (old : Known) (heard : is_told ol
           let n = there (λ d. t.version ≡ d.seat.version + 1) second x.after x.new_is next in
           let own : old.pass ≡ Some c.own = sym x.met.joined.pass ∙ sym x.related.edits.known.pass ∙ c.joined in
           let block = commits_block s asked old x.before x.after x.met heard opening x.related.edits.known (known_at seat) x.related c c.own own in
-          let history = base_history x.before x.old_is x.met unmoved in
-          let is = x.after.seat.version_is ∙ ap length x.related.edits.known.history ∙ ap length history in
+          let is = x.after.seat.version_is ∙ ap length x.related.edits.known.history ∙ ap length (base_history x.before x.old_is x.met unmoved) in
+          let long = ap length c.history ∙ length-append x.after.seat.place.me.0.seen.history (entry_of c.own.number x.after.log.operations ∷ []) in
+          let one = ap length block.history ∙ length-append block.base (entry_of c.own.number block.changes ∷ []) in
+          let seen = ap length x.related.edits.known.history ∙ ap length (base_history x.before x.old_is x.met unmoved) in
+          let base_is : block.base ≡ old.seen.history = all_of block.base old.seen.history block.before (omega (arith, long, one, seen)) in
           record {
             ran = ran_as told.Committed t.version (committed_ran s asked ending.Commit old (record { version = t.version; told = told.Committed }) first second heard opening begins seat (Ok t) (named_edits (Ok tt) edits) refl commits next back spent last (refl, refl) tt);
             next = omega (arith, n, is);
-            makes = λ before stands. block.makes before (subst (λ (h : List Commit). StandsAs (version_after applied s.opening h) before) (sym history) stands);
+            makes = λ before stands. block.makes before (subst (λ (h : List Commit). StandsAs (version_after applied s.opening h) before) (sym base_is) stands);
           }
       committed_on (Err t) edits commits next back spent last =
           let x = two (Ok tt) edits in
@@ -228,11 +231,14 @@ module _ (origin : Name) (zone : Version) (can : CanBeDumped origin zone) (old l
   pub looked_opens : OpensAt origin looked
   looked_opens = opens_still origin old looked heard shown.grows opens
 
-  looked_zone : IsZone origin (version_seen looked.seen)
+  abbrev pub looked_zone : IsZone origin (version_seen looked.seen)
   looked_zone = lawful_zone origin (first_version looked.seen) (version_seen looked.seen) looked_opens shown.lawful
 
-  pub before : Version
+  abbrev pub before : Version
   before = looked_zone.version
+
+  makes_it : whole origin (exchange before zone) before ≡ Ok zone
+  makes_it = difference_makes Keep origin before zone looked_zone.zone can ∙ ap (λ (v : Version). Ok v) (made_keep origin before zone looked_zone.zone can)
 
   makes_zone : MakesZone origin (exchange before zone) looked number
   makes_zone = record {
@@ -240,7 +246,7 @@ module _ (origin : Name) (zone : Version) (can : CanBeDumped origin zone) (old l
     before = before;
     stands = looked_zone.stands;
     after = zone;
-    makes = difference_makes Keep origin before zone looked_zone.zone can ∙ ap (λ (v : Version). Ok v) (made_keep origin before zone looked_zone.zone can);
+    makes = makes_it;
     zone = can;
   }
 
@@ -268,7 +274,7 @@ module _ (origin : Name) (zone : Version) (can : CanBeDumped origin zone) (old l
     is_zone new (Err e) ran = tt
     is_zone new (Ok version) ran =
         let made = ran.makes before looked_was in
-        let it : whole s.origin (exchange before zone) before ≡ Ok zone = subst (λ (o : Name). whole o (exchange before zone) before ≡ Ok zone) (sym named) makes_zone.makes in
+        let it : whole s.origin (exchange before zone) before ≡ Ok zone = subst (λ (o : Name). whole o (exchange before zone) before ≡ Ok zone) (sym named) makes_it in
         let same : made.0 ≡ zone = (let a = made.1 in cc) in
         subst (λ (h : List Commit). StandsAs (version_after applied s.opening h) zone) (sym (take_all version new.seen.history (let v = ran.ran.version_is in omega (arith, v))))
         (subst (StandsAs (version_after applied s.opening new.seen.history)) same made.2)
