@@ -72,6 +72,9 @@ all_of : {A : Type 0} (all part : List A) → StartsWith all part → length all
 all_of all part s e =
     s.1 ∙ ap (λ (r : List _). part ++ r) (nothing s.0 (let n = ap length s.1 in let m = length-append part s.0 in omega (arith, n, m, e))) ∙ append-nil part
 
+one_more : (all part : List Commit) (x : Commit) → all ≡ part ++ x ∷ [] → length all ≡ length part + 1
+one_more all part x e = ap length e ∙ length-append part (x ∷ [])
+
 there : (P : Draft → Type 0) (o : Option Draft) (d : Draft) → o ≡ Some d → IfSome o P → P d
 there P o d is h = subst (λ (x : Option Draft). IfSome x P) is h
 
@@ -171,8 +174,8 @@ module _ (origin : Name) (asked : Transaction) (old : Known) (heard : is_told ol
           let own : old.pass ≡ Some c.own = sym x.met.joined.pass ∙ sym x.related.edits.known.pass ∙ c.joined in
           let block = commits_block s asked old x.before x.after x.met heard opening x.related.edits.known (known_at seat) x.related c c.own own in
           let is = x.after.seat.version_is ∙ ap length x.related.edits.known.history ∙ ap length (base_history x.before x.old_is x.met unmoved) in
-          let long = ap length c.history ∙ length-append x.after.seat.place.me.0.seen.history (entry_of c.own.number x.after.log.operations ∷ []) in
-          let one = ap length block.history ∙ length-append block.base (entry_of c.own.number block.changes ∷ []) in
+          let long = one_more (known_at seat).seen.history x.after.seat.place.me.0.seen.history (entry_of c.own.number x.after.log.operations) c.history in
+          let one = one_more (known_at seat).seen.history block.base (entry_of c.own.number block.changes) block.history in
           let seen = ap length x.related.edits.known.history ∙ ap length (base_history x.before x.old_is x.met unmoved) in
           let base_is : block.base ≡ old.seen.history = all_of block.base old.seen.history block.before (omega (arith, long, one, seen)) in
           record {
