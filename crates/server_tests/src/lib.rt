@@ -6,4 +6,6 @@ mod attaching;
 #[cfg(test)]
 mod growing;
 #[cfg(test)]
+mod reloading;
+#[cfg(test)]
 mod zones;

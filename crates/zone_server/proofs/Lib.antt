@@ -7,3 +7,4 @@ mod OpeningLaws
 mod LoadLaws
 mod TransferLaws
 mod WireLaws
+mod ReloadLaws

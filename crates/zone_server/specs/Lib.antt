@@ -7,6 +7,7 @@ pub mod Loadings
 pub mod Notes
 pub mod Openings
 pub mod Prelude
+pub mod Reloads
 pub mod Replies
 pub mod Servings
 pub mod Transfers

@@ -4,16 +4,24 @@ pub use Rattle.zone_model.specs.DataWords.{data_type}
 pub use Rattle.zone_model.specs.Lines.{lines_of}
 pub use Rattle.zone_model.specs.MasterFile.{zone_of}
 pub use Rattle.zone_model.specs.Names.{Name, same_name}
+pub use Rattle.zone_model.specs.Records.{item_limit}
+pub use Rattle.master_file.specs.Rows.{CanBeDumped}
 pub use Rattle.zone_text.specs.Views.{Reads}
 pub use Rattle.job_model.specs.Outcomes.{RolledBack}
 pub use Rattle.job_report.specs.Outcomes.{EndsBlock, ended_view}
 pub use Rattle.job_script.specs.Views.{asked_view}
 pub use Rattle.report_laws.specs.Changes.{AllSaid, IsSaid}
 pub use Rattle.shared_cells.specs.History.{IsPartOf}
+pub use Rattle.zone_change.specs.Views.{operation_view}
+pub use Rattle.zone_diff.specs.Blocks.{changes}
+pub use Rattle.zone_diff.specs.Differences.{difference}
+pub use Rattle.zone_diff.specs.NamesAhead.{Stands, pairs_ahead}
+pub use Rattle.zone_diff.specs.declared.Serial.TheVariants.{Keep}
 pub use Rattle.zone_answer.specs.Prelude.{Version, answer, respond, IsGiven, IsResponded, Shows, ShowsSome}
+pub use Rattle.qp_multi.specs.Keepings.{versions_in}
 pub use Rattle.qp_multi.specs.Passes.{Known, known_at}
-pub use Rattle.job_commands.specs.Commands.{BlockRan, BlockWants}
-pub use Rattle.job_commands.specs.Histories.{IsZone, StandsAs}
+pub use Rattle.job_commands.specs.Commands.{BlockRan, BlockWants, IsSetup, OpensAt}
+pub use Rattle.job_commands.specs.Histories.{IsZone, Setup, StandsAs}
 pub use Rattle.zone_table.specs.Openings.{entries_in}
 pub use Rattle.zone_server.specs.Asks.{Needs, Takes, adds}
 pub use Rattle.zone_server.specs.Attachings.{Attached, Detached, attach_told}
@@ -23,6 +31,7 @@ pub use Rattle.zone_server.specs.Homes.{Served, setup_of}
 pub use Rattle.zone_server.specs.Loadings.{Loads}
 pub use Rattle.zone_server.specs.Notes.{HasLearnt, IsNote, Tells, told_of}
 pub use Rattle.zone_server.specs.Openings.{IsOpening, OpeningView, origin_in, served_of}
+pub use Rattle.zone_server.specs.Reloads.{MakesZone, NoRule, RanOn, Reloading, Reloads, StopsReload, commit_told}
 pub use Rattle.zone_server.specs.Replies.{HasGrown, IsAfter, IsFrom, IsReply, IsShown, IsTold, reply_map}
 pub use Rattle.zone_server.specs.Servings.{IsServed, IsServing, ServerKnown, known_of, of_zone}
 pub use Rattle.zone_server.specs.Updates.{IsUpdate, UpdateView}

@@ -1,0 +1,61 @@
+use Rattle.std.proofs.Common.{◌∙◌, Some, refl, sym, ap}
+use Rattle.std.proofs.lemmas.Option.{slice_get_within}
+use Rattle.qp_multi.specs.Passes.{known_at}
+use Rattle.job_commands.proofs.ShowLaws.{seat_told}
+use Rattle.zone_table.proofs.PassLaws.{with_zone}
+use Rattle.zone_server.specs.Homes.{setup_of}
+use Rattle.zone_server.specs.Reloads.{Reloading}
+use Rattle.zone_server.specs.Servings.{known_of}
+use Rattle.zone_server.proofs.ReloadLaws.{reloading_grows, reloads_as}
+use Rattle.zone_server.proofs.ServingLaws.{asked_serving, happened_there, none_has, opens_at, pass_in, served_at, setup_at}
+use Rattle.zone_server.proofs.reloading.reload_zones.Goals as goal
+
+pub returns-in_default-clause-reloads : goal.returns-in_default-clause-reloads
+returns-in_default-clause-reloads g c =
+    (none_has g.H.Home.zones c.args.zones.now c.requires.zones c.args.loaded.now.origin (λ zone other at same. c.in_default.ensures.none refl zone other at (same ∙ sym c.origin.ensures)), refl)
+
+pub zone-index-requires : goal.zone-index-requires
+zone-index-requires g c = slice_get_within c.args.zones.now.origins.items c.in-Some.zone c.origin.result.now c.in-Some.ensures.found
+
+pub zone-place-requires-clause-pass : goal.zone-place-requires-clause-pass
+zone-place-requires-clause-pass g c = pass_in g.H.Home.zones c.args.zones.now c.requires.zones c.args.pass.now c.requires.pass.pass
+
+pub zone-place-requires-clause-zone : goal.zone-place-requires-clause-zone
+zone-place-requires-clause-zone g c = slice_get_within c.args.zones.now.origins.items c.in-Some.zone c.origin.result.now c.in-Some.ensures.found
+
+pub reload_index-requires-clause-opens : goal.reload_index-requires-clause-opens
+reload_index-requires-clause-opens g c =
+    opens_at g.H.Home.zones c.args.zones.now c.requires.zones c.args.pass.now c.requires.pass c.in-Some.zone c.args.loaded.now.origin (c.in-Some.ensures.found ∙ ap Some c.origin.ensures) c.zone-place.result.now c.zone-place.ensures.known
+
+pub returns-clause-pass : goal.returns-clause-pass
+returns-clause-pass g c =
+    let served = g.H.Home.zones in
+    let zones = c.args.zones.now in
+    let is = c.requires.zones in
+    let pass = c.args.pass.now in
+    let at = c.in-Some.ensures.found ∙ ap Some c.origin.ensures in
+    let origin = c.args.loaded.now.origin in
+    let place = c.zone-place.result.now in
+    let s = served_at served zones is c.in-Some.zone origin at in
+    let setup = setup_at served zones is pass c.requires.pass c.in-Some.zone origin at place c.zone-place.ensures.known c.zone-index.result.now c.zone-index.ensures.value in
+    asked_serving served zones is pass pass c.requires.pass refl (pass_in served zones is pass c.requires.pass.pass)
+    c.in-Some.zone place c.reload_index.new.pass c.zone-place.ensures.value c.reload_index.ensures.here c.reload_index.ensures.place c.zone-place.ensures.known
+    (reloading_grows (setup_of s.0) c.args.loaded.now.pairs (known_at place.seat) (known_at c.reload_index.new.pass.seat) c.reload_index.result (seat_told place.seat c.zone-place.ensures.here) (c.reload_index.ensures.reloading (setup_of s.0) setup))
+
+pub returns-clause-reloads : goal.returns-clause-reloads
+returns-clause-reloads g c =
+    let served = g.H.Home.zones in
+    let zones = c.args.zones.now in
+    let is = c.requires.zones in
+    let pass = c.args.pass.now in
+    let at = c.in-Some.ensures.found ∙ ap Some c.origin.ensures in
+    let loaded = c.args.loaded.now in
+    let place = c.zone-place.result.now in
+    let next = c.reload_index.new.pass in
+    let result = c.reload_index.result in
+    let s = served_at served zones is c.in-Some.zone loaded.origin at in
+    let setup = setup_at served zones is pass c.requires.pass c.in-Some.zone loaded.origin at place c.zone-place.ensures.known c.zone-index.result.now c.zone-index.ensures.value in
+    reloads_as served loaded (known_of pass) (known_of (with_zone pass c.in-Some.zone next)) result
+    (happened_there served zones is pass pass c.requires.pass refl (pass_in served zones is pass c.requires.pass.pass)
+    c.in-Some.zone place next c.zone-place.ensures.value c.reload_index.ensures.here c.reload_index.ensures.place c.zone-place.ensures.known
+    (λ x v w. Reloading (setup_of x) loaded.pairs v w result) loaded.origin at (c.reload_index.ensures.reloading (setup_of s.0) setup))
