@@ -1,6 +1,6 @@
 //! The words of the command line.
-ghost use Rattle.std.specs.Prelude.{◌≡◌, ℕ, List, map, Option, IfOk};
-ghost use Rattle.command_line.specs.Prelude.{option_map, string_bytes, invocation_view, invocation_of};
+ghost use Rattle.std.specs.Prelude.{◌≡◌, ℕ, List, map, Option, IfOk, IsOk, IsSome};
+ghost use Rattle.command_line.specs.Prelude.{option_map, string_bytes, invocation_view, invocation_of, plain_of};
 
 use crate::asked::plain_of;
 use crate::invocation::Invocation;
@@ -8,9 +8,10 @@ use crate::parsed::parsed_of;
 use std::alloc::{AllocError, Global};
 
 /// What the words say, the first of which is the program's name; None where they are refused. Plain words are read as they
-/// stand, and all others by clap.
+/// stand, which takes no memory, and all others by clap.
 pub fn invocation_of(alloc: Global, words: &[String]) -> Result<Option<Invocation>, AllocError>
-    ensures { IfOk result (λ i. option_map invocation_view i ≡ invocation_of (map string_bytes words.now)) }
+    ensures says { IfOk result (λ i. option_map invocation_view i ≡ invocation_of (map string_bytes words.now)) }
+    ensures plain { IsSome (plain_of (map string_bytes words.now)) → IsOk result }
 {
     match plain_of(words) {
         Some(invocation) => Ok(Some(invocation)),

@@ -45,6 +45,10 @@ pub if_err : {T E : Type 0} (P Q : E → Type 0) (r : Result T E) → ((x : E) �
 if_err P Q (Ok x) f h = h
 if_err P Q (Err e) f h = f e h
 
+pub of_err : {T E : Type 0} (P : E → Type 0) (r : Result T E) (e : E) → IfErr r P → r ≡ Err e → P e
+of_err P (Ok x) e h is = absurd cc
+of_err P (Err y) e h is = let same : y ≡ e = cc in subst P same h
+
 -- chunks and words alone say what the cells are
 has_there : (a b : Cells) → b.chunks ≡ a.chunks → b.words ≡ a.words → (q : ℕ) (c : Cell) → HasCell a q c → HasCell b q c
 has_there a b chunks words q c h = record {

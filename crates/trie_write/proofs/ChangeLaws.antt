@@ -87,7 +87,7 @@ module _ {S A : Type 0} {has : S → ℕ → Cell → Type 0} {account : A → A
   }
 
 module _ {S A : Type 0} {has : S → ℕ → Cell → Type 0} {kept : S → List ℕ} {given : S → List Bool} {account : A → Account} {s s1 s2 : S} {a a1 a2 : A} {c : CellChange} (f : Frame has kept given account s a s1 a1) (taken_is : IsTaken (account a) (account a1) c) where
-  pub refused_back : {lacks : A → Shortage → Type 0} {full : Shortage} → GivenBack has account lacks s1 a1 s2 a2 (taken c) full → Refused has account lacks s a s2 a2 full
+  pub refused_back : {lacks : A → Shortage → Type 0} {asks : ℕ → Type 0} {full : Shortage} → GivenBack has account lacks s1 a1 s2 a2 (taken c) asks full → Refused has account lacks s a s2 a2 full
   refused_back b = record {
     untouched = λ q x u h. b.untouched q x (f.grows.stays q u) (f.stays q x u h);
     counts = λ k. let x = b.counts k in let y = taken_is.counts k in omega arith;

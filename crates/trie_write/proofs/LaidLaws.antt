@@ -17,6 +17,7 @@ use Rattle.chunk_cells.specs.declared.extents.Extents.{Extents as Laid}
 use Rattle.chunk_usage.specs.Rooms.{Account, Handed}
 use Rattle.trie_write.specs.Laid.{HandedItem, IsItemAt, IsLaid, extent_sizes}
 use Rattle.trie_write.specs.Puts.{item_span}
+use Rattle.trie_write.specs.Steps.{Releases}
 use Rattle.chunk_usage.specs.declared.space.Shortage.{Shortage}
 use Rattle.trie_space.specs.Spaces.{Ready, Frame, Refused}
 use Rattle.trie_write.proofs.AskLaws.{first_of as first_of_list, later_of, either_of}
@@ -101,6 +102,10 @@ module _ {S A : Type 0} {kept : S → List ℕ} {given : S → List Bool} {accou
     in_given = subst (λ (gs : List Bool). EachCell (λ q. IsGiven gs (q / 1024)) n x) (sym r1.same) h.in_given;
     unkept = each_weaker (λ q. (account a).used q ≡ false) (λ q. Contains (kept s1) q → ⊥) (λ q u k. true≢false (sym (r.in_use q (subst (λ (qs : List ℕ). Contains qs q) keeps k)) ∙ u)) n x h.unused;
   }
+
+-- what an item weighs that is given back
+pub released_item : {A : Type 0} {account : A → Account} {lacks : A → Shortage → Type 0} {a a1 : A} {n : ℕ} (l : Laid) → Releases account lacks (λ w. weigh_extents w l.len (extents_in l)) a a1 → l.len ≡ n → (k : ℕ) → (account a1).live k + weigh_extents (in_chunk k) n (extents_in l) ≡ (account a).live k
+released_item {account = account} {a = a} {a1} l r is k = subst (λ (m : ℕ). (account a1).live k + weigh_extents (in_chunk k) m (extents_in l) ≡ (account a).live k) is (r.counts k)
 
 module _ {S A : Type 0} {has : S → ℕ → Cell → Type 0} {kept : S → List ℕ} {given : S → List Bool} {account : A → Account} where
   -- and once they are, what was there is as it was

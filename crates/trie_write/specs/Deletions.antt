@@ -1,5 +1,5 @@
 -- An entry taken out, by its key.
-use Rattle.std.specs.Prelude.{◌≡◌, ℕ, List, []}
+use Rattle.std.specs.Prelude.{◌≡◌, ℕ, Bool, List, []}
 use Rattle.packed_node.specs.declared.Cell.{Cell}
 use Rattle.trie_model.specs.Changes.{Removed, Shrunk}
 use Rattle.trie_model.specs.Extents.{Extents}
@@ -12,7 +12,8 @@ use Rattle.trie_write.specs.declared.descend.Descent.{Descent}
 use Rattle.trie_write.specs.declared.change.CellChange.{CellChange}
 use Rattle.trie_write.specs.Asks.{HasKey}
 use Rattle.trie_write.specs.Mutable.{WayAsks}
-use Rattle.trie_write.specs.Puts.{Makes}
+use Rattle.trie_space.specs.Spaces.{Ready}
+use Rattle.trie_write.specs.Puts.{IsTaken, Makes}
 use Rattle.trie_write.specs.Descents.{IsDescent, IsLastDescent}
 use Rattle.trie_space.specs.Ways.{Fork, plug}
 
@@ -49,3 +50,15 @@ pub record DropAsked {S A : Type 0} (has : S → ℕ → Cell → Type 0) (accou
   pub t : Tree
   pub version : List Entry
   pub asks : DropAsks has account s a r key descent t version
+
+-- ---- the step to that
+
+-- the leaf of the last descent may be taken from its branch
+pub record CanTakeLeaf {S A : Type 0} (has : S → ℕ → Cell → Type 0) (kept : S → List ℕ) (given : S → List Bool) (account : A → Account) (s : S) (a : A) (key : List ℕ) (descent : Descent) : Type 0 where
+  pub last : LeafTurned has account s a key descent
+  pub ready : Ready kept given account s a
+
+-- the change does so, in cells that weren't in use
+pub record TakesLeaf {S A : Type 0} (has : S → ℕ → Cell → Type 0) (account : A → Account) (s : S) (a : A) (s_new : S) (a_new : A) (key : List ℕ) (descent : Descent) (c : CellChange) : Type 0 where
+  pub without : (lower : List Fork) (e : Entry) (x : Extents) → LeafDescent has account s a key descent lower e x → IsWithout has s_new c e (plug lower (leaf e x))
+  pub taken : IsTaken (account a) (account a_new) c

@@ -1,4 +1,5 @@
 pub mod Named
+pub mod Steps
 pub mod Entries
 pub mod Laid
 pub mod Points
@@ -14,4 +15,5 @@ pub mod Descents
 pub mod Mutable
 pub mod Asks
 pub mod Puts
+pub mod Changes
 pub mod Prelude

@@ -1,5 +1,5 @@
 -- A change that is put at the end of a way.
-use Rattle.std.specs.Prelude.{◌≡◌, ℕ, ◌+◌, ◌%◌, ◌≤◌, true, List}
+use Rattle.std.specs.Prelude.{◌≡◌, ℕ, ◌+◌, ◌%◌, ◌≤◌, ◌∷◌, Bool, true, List, map, Contains}
 use Rattle.packed_node.specs.declared.Cell.{Cell}
 use Rattle.trie_model.specs.Extents.{AreExtents, row, weigh_extents}
 use Rattle.trie_model.specs.Memory.{Beneath, top_cell}
@@ -13,7 +13,9 @@ use Rattle.trie_write.specs.declared.change.Span.{Span}
 use Rattle.trie_write.specs.declared.change.CellChange.{CellChange}
 use Rattle.trie_space.specs.Rooted.{Rooted, no_spare}
 use Rattle.trie_write.specs.Mutable.{SlotAsks}
-use Rattle.trie_space.specs.Ways.{Fork, plug, Along}
+use Rattle.trie_write.specs.Roots.{IsOutside}
+use Rattle.trie_space.specs.Spaces.{Fenced, Ready}
+use Rattle.trie_space.specs.Ways.{Fork, plug, Along, twigs_of, copied_along}
 use Rattle.trie_space.specs.Weights.{at_place, mark}
 
 -- what cells side by side weigh, and those of an item; what was taken for a change, and what it leaves
@@ -67,8 +69,26 @@ pub record IsPut {S A : Type 0} (has : S → ℕ → Cell → Type 0) (account :
   pub entries : entries_of (plug copy end) ≡ entries_of (plug way end)
   pub rooted : Rooted has account s_new a_new no_spare root (plug copy u)
 
--- no room was found, and these cells count no more
-pub record GivenBack {S A : Type 0} (has : S → ℕ → Cell → Type 0) (account : A → Account) (lacks : A → Shortage → Type 0) (s : S) (a : A) (s_new : S) (a_new : A) (spare : (ℕ → ℕ) → ℕ) (f : Shortage) : Type 0 where
+-- No room was found, and these cells count no more.
+pub record GivenBack {S A : Type 0} (has : S → ℕ → Cell → Type 0) (account : A → Account) (lacks : A → Shortage → Type 0) (s : S) (a : A) (s_new : S) (a_new : A) (spare : (ℕ → ℕ) → ℕ) (may_be_asked : ℕ → Type 0) (f : Shortage) : Type 0 where
   pub untouched : (q : ℕ) (c : Cell) → (account a).used q ≡ true → has s q c → has s_new q c
   pub counts : (k : ℕ) → (account a_new).live k + spare (in_chunk k) ≡ (account a).live k
   pub lack : lacks a_new f
+  -- so many cells side by side were asked for
+  pub asked : may_be_asked f.needed
+
+-- the root's cell, or as many as a branch on the way has twigs
+abbrev pub MayAskToPut : {S A : Type 0} → (S → ℕ → Cell → Type 0) → (A → Account) → S → A → ℕ → List ℕ → ℕ → CellChange → ℕ → Type 0
+MayAskToPut has account s a place key r c n = (way : List Fork) (end u : Tree) → PutAsks has account s a place key r c way end u → Contains (1 ∷ map twigs_of way) n
+
+-- A change is put, or there is no room to do so.
+pub record PutsChange {S A : Type 0} (has : S → ℕ → Cell → Type 0) (kept : S → List ℕ) (given : S → List Bool) (account : A → Account) (s : S) (a : A) (s_new : S) (a_new : A) (place : ℕ) (key : List ℕ) (r : ℕ) (c : CellChange) : Type 0 where
+  -- cells in use that the root doesn't meet say what they said
+  pub outside : (way : List Fork) (end u : Tree) → PutAsks has account s a place key r c way end u
+      → (q : ℕ) (x : Cell) → (account a).used q ≡ true → IsOutside r (plug way end) q → has s q x → has s_new q x
+  -- as many were consumed at most as had to be copied
+  pub consumes : (way : List Fork) (end u : Tree) → PutAsks has account s a place key r c way end u
+      → (account a_new).consumed ≤ (account a).consumed + copied_along (account a).mutable 1 r way
+  -- none but mutable cells in use were written, and what is kept is kept
+  pub frame : Fenced has kept given account s a s_new a_new
+  pub ready : Ready kept given account s_new a_new

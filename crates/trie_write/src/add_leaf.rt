@@ -1,8 +1,8 @@
 //! A leaf more, at a node where its key first differs from those below.
 
-ghost use Rattle.std.specs.Prelude.{◌≡◌, ◌+◌, ◌/◌, ◌<◌, ◌≤◌, ℕ, suc, List, ◌∷◌, map, Contains, IfOk, IfErr, count_ones};
-ghost use Rattle.trie_write.specs.Prelude.{Cell, IsBranch, branch_cell, Deep, Tree, Handed, WithAsks, WithAsked, PairAsked, JoinAsked};
-ghost use Rattle.trie_write.specs.Prelude.{IsWith, IsNoItem, twigs_on_path, branches_on_path, Ready, Frame, Refused, IsBranchTop};
+ghost use Rattle.std.specs.Prelude.{◌≡◌, ◌+◌, ◌<◌, ◌≤◌, ℕ, List, IfOk, IfErr, count_ones};
+ghost use Rattle.trie_write.specs.Prelude.{IsBranch, Tree, AddsLeaf, CanAddLeaf, CanJoin, CanPair, IsLeafAdded, JoinAsks, LeafAsks, MayAskForLeaf};
+ghost use Rattle.trie_write.specs.Prelude.{PairAsks, WithAsks, twigs_on_path, LacksRoom, TakesCells};
 
 use super::alloc::{copy_apart, room_for};
 use super::change::{CellChange, NO_CELLS, NO_ITEM, Span};
@@ -27,11 +27,7 @@ fn place_of_two(position: u8, other: u8) -> u32
 /// The change to a branch, whose twigs and leaf are new.
 fn leaf_added(branch: Branch, twigs: u32, item: &Extents, old_twigs: Span) -> CellChange
     requires { IsBranch branch }
-    ensures cell { result.cell ≡ branch_cell branch }
-    ensures new_twigs { result.new_twigs ≡ record { at = branch.twigs; n = twigs } }
-    ensures new_item { result.new_item ≡ item.now }
-    ensures old_twigs { result.old_twigs ≡ old_twigs }
-    ensures old_item { IsNoItem result.old_item }
+    ensures { IsLeafAdded branch twigs item.now old_twigs result }
 {
     CellChange {
         cell: Node::Branch(branch).pack(),
@@ -54,18 +50,11 @@ fn pair_with<C: CellWrite, U: Space>(
     node: Cell,
     item: &Extents,
 ) -> Result<CellChange, Shortage>
-    requires asks { PairAsked C.has U.account cells.old usage.old key.now first node item.now }
-    requires ready { Ready C.kept C.given U.account cells.old usage.old }
-    ensures with { IfOk result (λ change. (octets : List ℕ) (end : Tree) → WithAsks C.has U.account cells.old usage.old key.now octets first node item.now end
-        → Deep first.place end
-        → IsWith C.has cells.new change first.place (record { key = key.now; item = octets }) end) }
-    ensures handed { IfOk result (λ change. Handed (U.account usage.old) (U.account usage.new) change.new_twigs.at change.new_twigs.n) }
-    ensures item { IfOk result (λ change. change.new_item ≡ item.now) }
-    ensures consumes { (U.account usage.new).consumed ≤ (U.account usage.old).consumed + 2 }
-    ensures refused { IfErr result (λ f. Refused C.has U.account U.lacks cells.old usage.old cells.new usage.new f) }
-    ensures asked { IfErr result (λ f. f.needed ≡ 2) }
-    ensures frame { Frame C.has C.kept C.given U.account cells.old usage.old cells.new usage.new }
-    ensures ready { Ready C.kept C.given U.account cells.new usage.new }
+    requires { CanPair C.has C.kept C.given U.account cells.old usage.old key.now first node item.now }
+    ensures added { IfOk result (λ change. AddsLeaf C.has U.account usage.old cells.new usage.new key.now first item.now
+        (PairAsks C.has U.account cells.old usage.old key.now first node item.now) change) }
+    ensures lacks { IfErr result (λ f. LacksRoom C.has U.account U.lacks cells.old usage.old cells.new usage.new (λ n. n ≡ 2) f) }
+    ensures takes { TakesCells C.has C.kept C.given U.account cells.old usage.old cells.new usage.new 2 }
 {
     let position = key.at(first.place);
     let to = room_for(cells, usage, 2)?;
@@ -89,18 +78,11 @@ fn join_twigs<C: CellWrite, U: Space>(
     branch: Branch,
     item: &Extents,
 ) -> Result<CellChange, Shortage>
-    requires asks { JoinAsked C.has U.account cells.old usage.old key.now first branch item.now }
-    requires ready { Ready C.kept C.given U.account cells.old usage.old }
-    ensures with { IfOk result (λ change. (node : Cell) (octets : List ℕ) (end : Tree)
-        → WithAsks C.has U.account cells.old usage.old key.now octets first node item.now end → IsBranchTop end branch
-        → IsWith C.has cells.new change first.place (record { key = key.now; item = octets }) end) }
-    ensures handed { IfOk result (λ change. Handed (U.account usage.old) (U.account usage.new) change.new_twigs.at change.new_twigs.n) }
-    ensures item { IfOk result (λ change. change.new_item ≡ item.now) }
-    ensures consumes { (U.account usage.new).consumed ≤ (U.account usage.old).consumed + (count_ones branch.bitmap + 1) }
-    ensures refused { IfErr result (λ f. Refused C.has U.account U.lacks cells.old usage.old cells.new usage.new f) }
-    ensures asked { IfErr result (λ f. f.needed ≡ count_ones branch.bitmap + 1) }
-    ensures frame { Frame C.has C.kept C.given U.account cells.old usage.old cells.new usage.new }
-    ensures ready { Ready C.kept C.given U.account cells.new usage.new }
+    requires { CanJoin C.has C.kept C.given U.account cells.old usage.old key.now first branch item.now }
+    ensures added { IfOk result (λ change. AddsLeaf C.has U.account usage.old cells.new usage.new key.now first item.now
+        (JoinAsks C.has U.account cells.old usage.old key.now first branch item.now) change) }
+    ensures lacks { IfErr result (λ f. LacksRoom C.has U.account U.lacks cells.old usage.old cells.new usage.new (λ n. n ≡ count_ones branch.bitmap + 1) f) }
+    ensures takes { TakesCells C.has C.kept C.given U.account cells.old usage.old cells.new usage.new (count_ones branch.bitmap + 1) }
 {
     let position = key.at(first.place);
     let old_twigs = Span {
@@ -127,20 +109,14 @@ pub fn with_leaf<C: CellWrite, U: Space>(
     node: Cell,
     item: &Extents,
 ) -> Result<CellChange, Shortage>
-    requires asks { WithAsked C.has U.account cells.old usage.old key.now first node item.now }
-    requires ready { Ready C.kept C.given U.account cells.old usage.old }
-    ensures with { IfOk result (λ change. (octets : List ℕ) (end : Tree) → WithAsks C.has U.account cells.old usage.old key.now octets first node item.now end
-        → IsWith C.has cells.new change first.place (record { key = key.now; item = octets }) end) }
-    ensures handed { IfOk result (λ change. Handed (U.account usage.old) (U.account usage.new) change.new_twigs.at change.new_twigs.n) }
-    ensures item { IfOk result (λ change. change.new_item ≡ item.now) }
+    requires { CanAddLeaf C.has C.kept C.given U.account cells.old usage.old key.now first node item.now }
+    ensures added { IfOk result (λ change. AddsLeaf C.has U.account usage.old cells.new usage.new key.now first item.now
+        (LeafAsks C.has U.account cells.old usage.old key.now first node item.now) change) }
     ensures consumes { (octets : List ℕ) (end : Tree) → WithAsks C.has U.account cells.old usage.old key.now octets first node item.now end
         → (U.account usage.new).consumed ≤ (U.account usage.old).consumed + (2 + twigs_on_path key.now end) }
-    ensures copies { (U.account usage.new).consumed ≤ (U.account usage.old).consumed + 47 }
-    ensures refused { IfErr result (λ f. Refused C.has U.account U.lacks cells.old usage.old cells.new usage.new f) }
-    ensures asked { IfErr result (λ f. (octets : List ℕ) (end : Tree) → WithAsks C.has U.account cells.old usage.old key.now octets first node item.now end
-        → Contains (2 ∷ map suc (branches_on_path key.now end)) f.needed) }
-    ensures frame { Frame C.has C.kept C.given U.account cells.old usage.old cells.new usage.new }
-    ensures ready { Ready C.kept C.given U.account cells.new usage.new }
+    ensures lacks { IfErr result (λ f. LacksRoom C.has U.account U.lacks cells.old usage.old cells.new usage.new
+        (MayAskForLeaf C.has U.account cells.old usage.old key.now first node item.now) f) }
+    ensures takes { TakesCells C.has C.kept C.given U.account cells.old usage.old cells.new usage.new 47 }
 {
     match branch_at(node, first.place) {
         None => pair_with(cells, usage, key, first, node, item),

@@ -1,7 +1,7 @@
 //! Cells for what is written.
 
-ghost use Rattle.std.specs.Prelude.{◌≡◌, ◌≢◌, ◌+◌, ◌-◌, ◌^◌, ◌<◌, ◌≤◌, ℕ, true, IfOk, IfErr, Some, length, slice_get};
-ghost use Rattle.trie_write.specs.Prelude.{Cell, IsRow, row_of, in_chunk, Handed, Ready, Frame, Refused, MayWrite, Wrote};
+ghost use Rattle.std.specs.Prelude.{◌≡◌, ◌+◌, ◌-◌, ◌^◌, ◌≤◌, ℕ, IfOk, IfErr, Some, length, slice_get};
+ghost use Rattle.trie_write.specs.Prelude.{Cell, Handed, MayWrite, Wrote, CanAsk, CanCopyApart, IsCopiedApart, IsRoom, LacksRoom, TakesCells};
 
 use super::change::Span;
 use chunk_cells::CellWrite;
@@ -15,17 +15,11 @@ pub fn room_for<C: CellWrite, U: Space>(
     usage: &mut U,
     n: u32,
 ) -> Result<Ref, Shortage>
-    requires some { 0 < n }
-    requires few { n ≤ 256 }
-    requires ready { Ready C.kept C.given U.account cells.old usage.old }
-    ensures handed { IfOk result (λ at. Handed (U.account usage.old) (U.account usage.new) at n) }
-    ensures blank { IfOk result (λ at. MayWrite C.kept C.given cells.new at n) }
+    requires { CanAsk C.kept C.given U.account cells.old usage.old n }
+    ensures room { IfOk result (λ at. IsRoom C.kept C.given U.account usage.old cells.new usage.new at n) }
     ensures all { (q : ℕ) (c : Cell) → C.has cells.old q c → C.has cells.new q c }
-    ensures consumes { (U.account usage.new).consumed ≤ (U.account usage.old).consumed + n }
-    ensures refused { IfErr result (λ f. Refused C.has U.account U.lacks cells.old usage.old cells.new usage.new f) }
-    ensures asked { IfErr result (λ f. f.needed ≡ n) }
-    ensures frame { Frame C.has C.kept C.given U.account cells.old usage.old cells.new usage.new }
-    ensures ready { Ready C.kept C.given U.account cells.new usage.new }
+    ensures lacks { IfErr result (λ f. LacksRoom C.has U.account U.lacks cells.old usage.old cells.new usage.new (λ m. m ≡ n) f) }
+    ensures takes { TakesCells C.has C.kept C.given U.account cells.old usage.old cells.new usage.new n }
 {
     let grant = usage.alloc(n)?;
     if let Some(chunk) = grant.given {
@@ -53,16 +47,11 @@ pub fn lay_row<C: CellWrite, U: Space>(
     usage: &mut U,
     row: &[Cell],
 ) -> Result<Ref, Shortage>
-    requires some { 0 < length row.now }
-    requires few { length row.now ≤ 256 }
-    requires ready { Ready C.kept C.given U.account cells.old usage.old }
+    requires { CanAsk C.kept C.given U.account cells.old usage.old (length row.now) }
     ensures handed { IfOk result (λ at. Handed (U.account usage.old) (U.account usage.new) at (length row.now)) }
     ensures written { IfOk result (λ at. (i : ℕ) (c : Cell) → slice_get row.now i ≡ Some c → C.has cells.new (at + i) c) }
-    ensures consumes { (U.account usage.new).consumed ≤ (U.account usage.old).consumed + length row.now }
-    ensures refused { IfErr result (λ f. Refused C.has U.account U.lacks cells.old usage.old cells.new usage.new f) }
-    ensures asked { IfErr result (λ f. f.needed ≡ length row.now) }
-    ensures frame { Frame C.has C.kept C.given U.account cells.old usage.old cells.new usage.new }
-    ensures ready { Ready C.kept C.given U.account cells.new usage.new }
+    ensures lacks { IfErr result (λ f. LacksRoom C.has U.account U.lacks cells.old usage.old cells.new usage.new (λ m. m ≡ length row.now) f) }
+    ensures takes { TakesCells C.has C.kept C.given U.account cells.old usage.old cells.new usage.new (length row.now) }
 {
     let at = room_for(cells, usage, row.len() as u32)?;
     put_row(cells, at, row);
@@ -78,23 +67,10 @@ pub fn copy_apart<C: CellWrite, U: Space>(
     skip: u32,
     gap: u32,
 ) -> Result<Ref, Shortage>
-    requires index { index + skip ≤ from.n }
-    requires some { 0 < from.n - skip + gap }
-    requires few { from.n - skip + gap ≤ 256 }
-    requires inside { from.at + from.n ≤ 2 ^ 22 }
-    requires there { (i : ℕ) → i < from.n → (c : Cell) × C.has cells.old (from.at + i) c }
-    requires in_use { (i : ℕ) → i < from.n → (U.account usage.old).used (from.at + i) ≡ true }
-    requires ready { Ready C.kept C.given U.account cells.old usage.old }
-    ensures handed { IfOk result (λ to. Handed (U.account usage.old) (U.account usage.new) to (from.n - skip + gap)) }
-    ensures blank { IfOk result (λ to. MayWrite C.kept C.given cells.new to (from.n - skip + gap)) }
-    ensures before { IfOk result (λ to. (i : ℕ) (c : Cell) → i < index → C.has cells.old (from.at + i) c → C.has cells.new (to + i) c) }
-    ensures after { IfOk result (λ to. (i : ℕ) (c : Cell) → index + skip + i < from.n
-        → C.has cells.old (from.at + (index + skip + i)) c → C.has cells.new (to + (index + gap + i)) c) }
-    ensures consumes { (U.account usage.new).consumed ≤ (U.account usage.old).consumed + (from.n - skip + gap) }
-    ensures refused { IfErr result (λ f. Refused C.has U.account U.lacks cells.old usage.old cells.new usage.new f) }
-    ensures asked { IfErr result (λ f. f.needed ≡ from.n - skip + gap) }
-    ensures frame { Frame C.has C.kept C.given U.account cells.old usage.old cells.new usage.new }
-    ensures ready { Ready C.kept C.given U.account cells.new usage.new }
+    requires { CanCopyApart C.has C.kept C.given U.account cells.old usage.old from index skip gap }
+    ensures copied { IfOk result (λ to. IsCopiedApart C.has C.kept C.given U.account cells.old usage.old cells.new usage.new from index skip gap to) }
+    ensures lacks { IfErr result (λ f. LacksRoom C.has U.account U.lacks cells.old usage.old cells.new usage.new (λ m. m ≡ from.n - skip + gap) f) }
+    ensures takes { TakesCells C.has C.kept C.given U.account cells.old usage.old cells.new usage.new (from.n - skip + gap) }
 {
     let to = room_for(cells, usage, from.n - skip + gap)?;
     copy_twigs(cells, from.at, to, index);

@@ -3,9 +3,10 @@
 //! The items are in the order of their keys, and where each key first differs from the next one tells the whole shape: there a branch parts the two.
 //! So one pass is enough, which makes each leaf, and above it all branches that end with it.
 
-ghost use Rattle.std.specs.Prelude.{◌≡◌, ◌+◌, ◌<◌, ◌≤◌, ℕ, List, [], ◌∷◌, IfOk, IfErr, Some, length};
-ghost use Rattle.trie_write.specs.Prelude.{Cell, Extents, Entry, Rises, cells_of, IsTree, leaf, Account, entry_of};
-ghost use Rattle.trie_write.specs.Prelude.{entries_of_items, Built, BuiltFront, BuiltTwig, Stopped, Ready, Frame, HasTrie};
+ghost use Rattle.std.specs.Prelude.{◌≡◌, ◌+◌, ◌<◌, ℕ, List, [], ◌∷◌, IfOk, IfErr, Some, length};
+ghost use Rattle.trie_write.specs.Prelude.{Extents, Entry, cells_of, IsTree, leaf, Account, Ready, HasTrie, Built, BuiltTwig, CanBuild};
+ghost use Rattle.trie_write.specs.Prelude.{CanBuildBranch, CanBuildFront, IsBranchBuilt, IsFront, Stopped, entries_of_items, entry_of, OnlyAdds};
+ghost use Rattle.trie_write.specs.Prelude.{TakesCells};
 
 use super::Item;
 use super::alloc::lay_row;
@@ -33,15 +34,11 @@ pub fn build<C: CellWrite, U: Space>(
     usage: &mut U,
     items: &[Item],
 ) -> Result<Root, Shortage>
-    requires rising { Rises (entries_of_items items.now) }
-    requires uncounted { (k : ℕ) → (U.account usage.old).live k ≡ 0 }
-    requires ready { Ready C.kept C.given U.account cells.old usage.old }
+    requires { CanBuild C.kept C.given U.account cells.old usage.old items.now }
     ensures built { IfOk result (λ root. HasTrie C.has U.account cells.new usage.new root (entries_of_items items.now)) }
     ensures uncounted { IfErr result (λ _. (k : ℕ) → (U.account usage.new).live k ≡ 0) }
-    ensures consumes { (U.account usage.new).consumed ≤ (U.account usage.old).consumed + cells_of (entries_of_items items.now) }
     ensures full { IfErr result (λ f. U.lacks usage.new f) }
-    ensures frame { Frame C.has C.kept C.given U.account cells.old usage.old cells.new usage.new }
-    ensures ready { Ready C.kept C.given U.account cells.new usage.new }
+    ensures takes { TakesCells C.has C.kept C.given U.account cells.old usage.old cells.new usage.new (cells_of (entries_of_items items.now)) }
 {
     if items.is_empty() {
         return Ok(None);
@@ -62,14 +59,10 @@ fn build_root<C: CellWrite, U: Space>(
     items: &[Item],
 ) -> Result<Ref, Shortage>
     requires some { 0 < length items.now }
-    requires rising { Rises (entries_of_items items.now) }
-    requires uncounted { (k : ℕ) → (U.account usage.old).live k ≡ 0 }
-    requires ready { Ready C.kept C.given U.account cells.old usage.old }
+    requires can { CanBuild C.kept C.given U.account cells.old usage.old items.now }
     ensures built { IfOk result (λ root. HasTrie C.has U.account cells.new usage.new (Some root) (entries_of_items items.now)) }
-    ensures consumes { (U.account usage.new).consumed ≤ (U.account usage.old).consumed + cells_of (entries_of_items items.now) }
     ensures full { IfErr result (λ f. U.lacks usage.new f) }
-    ensures frame { Frame C.has C.kept C.given U.account cells.old usage.old cells.new usage.new }
-    ensures ready { Ready C.kept C.given U.account cells.new usage.new }
+    ensures takes { TakesCells C.has C.kept C.given U.account cells.old usage.old cells.new usage.new (cells_of (entries_of_items items.now)) }
 {
     let whole = build_front(cells, usage, items, 0)?;
     let root = lay_row(cells, usage, &[whole.cell])?;
@@ -87,8 +80,7 @@ fn build_leaf<C: CellWrite, U: Space>(
         × Built (C.has cells.new) (U.account usage.old) (U.account usage.new) (leaf (entry_of item.now) at) cell) }
     ensures consumes { (U.account usage.new).consumed < (U.account usage.old).consumed + cells_of (entry_of item.now ∷ []) }
     ensures full { IfErr result (λ f. U.lacks usage.new f) }
-    ensures frame { Frame C.has C.kept C.given U.account cells.old usage.old cells.new usage.new }
-    ensures ready { Ready C.kept C.given U.account cells.new usage.new }
+    ensures adds { OnlyAdds C.has C.kept C.given U.account cells.old usage.old cells.new usage.new }
 {
     let there = lay_item(cells, usage, item.octets())?;
     Ok(Node::Leaf(there.leaf()).pack())
@@ -102,17 +94,11 @@ fn build_front<'a, C: CellWrite, U: Space>(
     items: &'a [Item],
     low: u16,
 ) -> Result<Part<'a>, Shortage>
-    requires some { 0 < length items.now }
-    requires rising { Rises (entries_of_items items.now) }
-    requires low { low ≤ 504 }
-    requires ready { Ready C.kept C.given U.account cells.old usage.old }
-    ensures built { IfOk result (λ part. BuiltFront (C.has cells.new) (U.account usage.old) (U.account usage.new) low
-        (entries_of_items items.now) (entries_of_items part.rest.now) part.next part.cell) }
-    ensures shorter { IfOk result (λ part. length part.rest.now < length items.now) }
+    requires { CanBuildFront C.kept C.given U.account cells.old usage.old low items.now }
+    ensures front { IfOk result (λ part. IsFront (C.has cells.new) (U.account usage.old) (U.account usage.new) low items.now part) }
     ensures stopped { IfErr result (λ _. Stopped (U.account usage.old) (U.account usage.new) low (entries_of_items items.now)) }
     ensures full { IfErr result (λ f. U.lacks usage.new f) }
-    ensures frame { Frame C.has C.kept C.given U.account cells.old usage.old cells.new usage.new }
-    ensures ready { Ready C.kept C.given U.account cells.new usage.new }
+    ensures adds { OnlyAdds C.has C.kept C.given U.account cells.old usage.old cells.new usage.new }
 {
     let (item, rest) = items.split_first().unwrap();
     let cell = build_leaf(cells, usage, item)?;
@@ -132,17 +118,12 @@ fn build_branch<'a, C: CellWrite, U: Space>(
     first: Part<'a>,
     point: BranchPoint,
 ) -> Result<Part<'a>, Shortage>
-    requires first { (base : Account) × (es : List Entry) × BuiltTwig (C.has cells.old) base (U.account usage.old) point es first }
-    requires point { first.next ≡ Some point }
-    requires ready { Ready C.kept C.given U.account cells.old usage.old }
-    ensures built { IfOk result (λ part. (base : Account) (es : List Entry) → BuiltTwig (C.has cells.old) base (U.account usage.old) point es first.entry
-        → BuiltFront (C.has cells.new) base (U.account usage.new) point.offset es (entries_of_items part.rest.now) part.next part.cell) }
-    ensures shorter { IfOk result (λ part. length part.rest.now < length first.entry.rest.now) }
+    requires { CanBuildBranch C.has C.kept C.given U.account cells.old usage.old first point }
+    ensures branch { IfOk result (λ part. IsBranchBuilt C.has U.account cells.old usage.old cells.new usage.new first.entry point part) }
     ensures stopped { IfErr result (λ _. (base : Account) (es : List Entry) → BuiltTwig (C.has cells.old) base (U.account usage.old) point es first.entry
         → Stopped base (U.account usage.new) point.offset es) }
     ensures full { IfErr result (λ f. U.lacks usage.new f) }
-    ensures frame { Frame C.has C.kept C.given U.account cells.old usage.old cells.new usage.new }
-    ensures ready { Ready C.kept C.given U.account cells.new usage.new }
+    ensures adds { OnlyAdds C.has C.kept C.given U.account cells.old usage.old cells.new usage.new }
 {
     let mut row = Row::new();
     row.push(first.cell);

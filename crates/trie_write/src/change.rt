@@ -1,8 +1,8 @@
 //! A change at a place of the trie: the way there is made mutable, and one cell is put.
 
-ghost use Rattle.std.specs.Prelude.{◌≡◌, ◌+◌, ◌/◌, ◌%◌, ◌≤◌, ℕ, true, List, ◌∷◌, map, Contains, IfOk, IfErr, length};
-ghost use Rattle.trie_write.specs.Prelude.{Cell, AreExtents, in_chunk, Entry, top_cell, Tree, IsTree, leaf, extents_in, IsTop, span, item_span};
-ghost use Rattle.trie_write.specs.Prelude.{taken, PutAsks, PutAsked, IsPut, GivenBack, IsOutside, Ready, Fenced, Fork, plug, twigs_of, copied_along};
+ghost use Rattle.std.specs.Prelude.{◌≡◌, ◌+◌, ◌%◌, ◌≤◌, ℕ, List, IfOk, IfErr, length};
+ghost use Rattle.trie_write.specs.Prelude.{AreExtents, Entry, in_chunk, Tree, leaf, extents_in, IsTop, Ready, Fork, GivenBack, IsPut, MayAskToPut};
+ghost use Rattle.trie_write.specs.Prelude.{PutAsked, PutAsks, PutsChange, item_span, span, taken, Releases};
 
 use super::laying::release_item;
 use super::mutable::make_mutable;
@@ -47,9 +47,7 @@ pub fn let_go<U: Space>(usage: &mut U, twigs: Span, item: &Extents)
     requires counted { (k : ℕ) → span twigs (in_chunk k) + item_span item.now (in_chunk k) ≤ (U.account usage.old).live k }
     requires twigs { twigs.at % 1024 + twigs.n ≤ 1024 }
     requires item { AreExtents item.now.len (extents_in item.now) }
-    ensures counts { (k : ℕ) → (U.account usage.new).live k + (span twigs (in_chunk k) + item_span item.now (in_chunk k)) ≡ (U.account usage.old).live k }
-    ensures rest { U.account usage.new ≡ record (U.account usage.old) { live = (U.account usage.new).live } }
-    ensures lacks { (f : _) → U.lacks usage.old f → U.lacks usage.new f }
+    ensures { Releases U.account U.lacks (λ w. span twigs w + item_span item.now w) usage.old usage.new }
 {
     usage.release(twigs.at, twigs.n);
     release_item(usage, item);
@@ -70,15 +68,9 @@ pub fn put_change<C: CellWrite, U: Space>(
     requires ready { Ready C.kept C.given U.account cells.old usage.old }
     ensures put { IfOk result (λ new. (way : List Fork) (end u : Tree) → PutAsks C.has U.account cells.old usage.old place key.now root change way end u
         → IsPut C.has U.account cells.new usage.new place key.now way end u new) }
-    ensures outside { (way : List Fork) (end u : Tree) → PutAsks C.has U.account cells.old usage.old place key.now root change way end u
-        → (q : ℕ) (c : Cell) → (U.account usage.old).used q ≡ true → IsOutside root (plug way end) q → C.has cells.old q c → C.has cells.new q c }
-    ensures consumes { (way : List Fork) (end u : Tree) → PutAsks C.has U.account cells.old usage.old place key.now root change way end u
-        → (U.account usage.new).consumed ≤ (U.account usage.old).consumed + copied_along (U.account usage.old).mutable 1 root way }
-    ensures refused { IfErr result (λ f. GivenBack C.has U.account U.lacks cells.old usage.old cells.new usage.new (taken change) f) }
-    ensures asked { IfErr result (λ f. (way : List Fork) (end u : Tree) → PutAsks C.has U.account cells.old usage.old place key.now root change way end u
-        → Contains (1 ∷ map twigs_of way) f.needed) }
-    ensures frame { Fenced C.has C.kept C.given U.account cells.old usage.old cells.new usage.new }
-    ensures ready { Ready C.kept C.given U.account cells.new usage.new }
+    ensures given_back { IfErr result (λ f. GivenBack C.has U.account U.lacks cells.old usage.old cells.new usage.new (taken change)
+        (MayAskToPut C.has U.account cells.old usage.old place key.now root change) f) }
+    ensures changes { PutsChange C.has C.kept C.given U.account cells.old usage.old cells.new usage.new place key.now root change }
 {
     match make_mutable(cells, usage, root, key, place) {
         Err(full) => {

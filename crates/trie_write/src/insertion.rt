@@ -1,9 +1,9 @@
 //! A name put in.
 
-ghost use Rattle.std.specs.Prelude.{◌≡◌, ◌+◌, ◌/◌, ◌<◌, ◌≤◌, ◌∷◌, ◌++◌, [], ℕ, suc, List, map, Contains, true, IfOk, IfErr, Err, Some, ◌↔◌, length};
-ghost use Rattle.trie_write.specs.Prelude.{Cell, Leads, most_item_octets, cells_in, Entry, IsEntry, InList, Tree, Inserted, EachTells, LacksKey};
-ghost use Rattle.trie_write.specs.Prelude.{KeyIsMissing, IsWith, twigs_on_path, branches_on_path, insert_asks, to_copy, extent_sizes, IsTaken};
-ghost use Rattle.trie_write.specs.Prelude.{TwigsOnPath, BranchesOnPath, ToCopy, IsOutside, Beyond, Ready, Frame, Fenced, Same, Refused, HasTrie};
+ghost use Rattle.std.specs.Prelude.{◌≡◌, ◌+◌, ◌≤◌, ◌∷◌, ◌++◌, [], ℕ, List, Contains, IfOk, IfErr, Err, Some, ◌↔◌, length};
+ghost use Rattle.trie_write.specs.Prelude.{Leads, Inserted, cells_in, Entry, InList, IsEntry, Tree, EachTells, HasTrie, CanPut, ChangesTree};
+ghost use Rattle.trie_write.specs.Prelude.{ChangesTrie, MayAsk, StaysAsItWas, CanInsert, IsNewLeaf, LacksKey, MayAskForName, CanLay, extent_sizes};
+ghost use Rattle.trie_write.specs.Prelude.{insert_asks, twigs_on_path, LacksRoom, TakesCells};
 
 use super::add_leaf::with_leaf;
 use super::alloc::room_for;
@@ -25,16 +25,12 @@ fn insert_first<C: CellWrite, U: Space>(
     usage: &mut U,
     item: &[u8],
 ) -> Result<Ref, Shortage>
-    requires some { 0 < length item.now }
-    requires short { length item.now ≤ most_item_octets }
+    requires can { CanLay C.kept C.given U.account cells.old usage.old (length item.now) }
     requires uncounted { (k : ℕ) → (U.account usage.old).live k ≡ 0 }
-    requires ready { Ready C.kept C.given U.account cells.old usage.old }
     ensures stands { IfOk result (λ root. (e : Entry) → IsEntry e → e.item ≡ item.now → HasTrie C.has U.account cells.new usage.new (Some root) (e ∷ [])) }
-    ensures consumes { (U.account usage.new).consumed ≤ (U.account usage.old).consumed + (cells_in item.now + 1) }
-    ensures refused { IfErr result (λ f. Refused C.has U.account U.lacks cells.old usage.old cells.new usage.new f) }
-    ensures asked { IfErr result (λ f. Contains (extent_sizes (length item.now) ++ (1 ∷ [])) f.needed) }
-    ensures frame { Frame C.has C.kept C.given U.account cells.old usage.old cells.new usage.new }
-    ensures ready { Ready C.kept C.given U.account cells.new usage.new }
+    ensures lacks { IfErr result (λ f. LacksRoom C.has U.account U.lacks cells.old usage.old cells.new usage.new
+        (Contains (extent_sizes (length item.now) ++ (1 ∷ []))) f) }
+    ensures takes { TakesCells C.has C.kept C.given U.account cells.old usage.old cells.new usage.new (cells_in item.now + 1) }
 {
     let there = lay_item(cells, usage, item)?;
     match room_for(cells, usage, 1) {
@@ -59,20 +55,13 @@ fn new_leaf<C: CellWrite, U: Space>(
     item: &[u8],
     trace: &mut Trace,
 ) -> Result<CellChange, Shortage>
-    requires leads { Leads key.now item.now }
-    requires missing { KeyIsMissing C.has U.account cells.old usage.old root key.now first }
-    requires ready { Ready C.kept C.given U.account cells.old usage.old }
-    ensures with { IfOk result (λ change. (t : Tree) (version : List Entry) (h : LacksKey C.has U.account cells.old usage.old root key.now first t version)
-        → IsWith C.has cells.new change first.place (record { key = key.now; item = item.now }) h.end) }
-    ensures taken { IfOk result (λ change. IsTaken (U.account usage.old) (U.account usage.new) change) }
+    requires { CanInsert C.has C.kept C.given U.account cells.old usage.old root key.now first item.now }
+    ensures new { IfOk result (λ change. IsNewLeaf C.has U.account cells.old usage.old cells.new usage.new root key.now first item.now change) }
     ensures consumes { (t : Tree) (version : List Entry) (h : LacksKey C.has U.account cells.old usage.old root key.now first t version)
         → (U.account usage.new).consumed ≤ (U.account usage.old).consumed + (cells_in item.now + (2 + twigs_on_path key.now h.end)) }
-    ensures copies { (U.account usage.new).consumed ≤ (U.account usage.old).consumed + (cells_in item.now + 47) }
-    ensures refused { IfErr result (λ f. Refused C.has U.account U.lacks cells.old usage.old cells.new usage.new f) }
-    ensures asked { IfErr result (λ f. (t : Tree) (version : List Entry) (h : LacksKey C.has U.account cells.old usage.old root key.now first t version)
-        → Contains (extent_sizes (length item.now) ++ (2 ∷ map suc (branches_on_path key.now h.end))) f.needed) }
-    ensures frame { Frame C.has C.kept C.given U.account cells.old usage.old cells.new usage.new }
-    ensures ready { Ready C.kept C.given U.account cells.new usage.new }
+    ensures lacks { IfErr result (λ f. LacksRoom C.has U.account U.lacks cells.old usage.old cells.new usage.new
+        (MayAskForName C.has U.account cells.old usage.old root key.now first item.now) f) }
+    ensures takes { TakesCells C.has C.kept C.given U.account cells.old usage.old cells.new usage.new (cells_in item.now + 47) }
 {
     let top = cells.cell(root);
     let node = end_node(cells, key, first.place, 0, top, trace);
@@ -95,23 +84,14 @@ fn insert_further<C: CellWrite, U: Space>(
     first: Difference,
     item: &[u8],
 ) -> Result<Ref, Shortage>
-    requires leads { Leads key.now item.now }
-    requires missing { KeyIsMissing C.has U.account cells.old usage.old root key.now first }
-    requires ready { Ready C.kept C.given U.account cells.old usage.old }
+    requires { CanInsert C.has C.kept C.given U.account cells.old usage.old root key.now first item.now }
     ensures stands { IfOk result (λ new. (t : Tree) (version : List Entry) → LacksKey C.has U.account cells.old usage.old root key.now first t version
         → (next : List Entry) × Inserted (record { key = key.now; item = item.now }) version next
         × HasTrie C.has U.account cells.new usage.new (Some new) next) }
-    ensures outside { (t : Tree) (version : List Entry) → LacksKey C.has U.account cells.old usage.old root key.now first t version
-        → (q : ℕ) (c : Cell) → (U.account usage.old).used q ≡ true → IsOutside root t q → C.has cells.old q c → C.has cells.new q c }
-    ensures consumes { (t : Tree) (version : List Entry) → LacksKey C.has U.account cells.old usage.old root key.now first t version
-        → (U.account usage.new).consumed ≤ (U.account usage.old).consumed + (3 + cells_in item.now + twigs_on_path key.now t) }
-    ensures copies { (t : Tree) (version : List Entry) → LacksKey C.has U.account cells.old usage.old root key.now first t version
-        → (U.account usage.new).consumed ≤ (U.account usage.old).consumed + (47 + cells_in item.now + to_copy (U.account usage.old).mutable key.now root t) }
-    ensures refused { IfErr result (λ f. Refused C.has U.account U.lacks cells.old usage.old cells.new usage.new f) }
-    ensures asked { IfErr result (λ f. (t : Tree) (version : List Entry) → LacksKey C.has U.account cells.old usage.old root key.now first t version
-        → Contains (insert_asks item.now (branches_on_path key.now t)) f.needed) }
-    ensures frame { Fenced C.has C.kept C.given U.account cells.old usage.old cells.new usage.new }
-    ensures ready { Ready C.kept C.given U.account cells.new usage.new }
+    ensures lacks { IfErr result (λ f. LacksRoom C.has U.account U.lacks cells.old usage.old cells.new usage.new
+        (MayAsk key.now (LacksKey C.has U.account cells.old usage.old root key.now first) (insert_asks item.now)) f) }
+    ensures changes { ChangesTree C.has C.kept C.given U.account cells.old usage.old cells.new usage.new root key.now
+        (LacksKey C.has U.account cells.old usage.old root key.now first) (3 + cells_in item.now) (47 + cells_in item.now) }
 {
     let mut trace = Trace::new();
     let change = new_leaf(cells, usage, root, key, first, item, &mut trace)?;
@@ -128,27 +108,14 @@ pub fn insert<C: CellWrite, U: Space>(
     key: &Key,
     item: &[u8],
 ) -> Result<Root, NotDone>
-    requires stands { (version : List Entry) × HasTrie C.has U.account cells.old usage.old root version × EachTells Leads version }
-    requires leads { Leads key.now item.now }
-    requires ready { Ready C.kept C.given U.account cells.old usage.old }
+    requires { CanPut C.has C.kept C.given U.account cells.old usage.old root key.now item.now }
     ensures inserted { IfOk result (λ new. (version : List Entry) → HasTrie C.has U.account cells.old usage.old root version → EachTells Leads version
         → (next : List Entry) × Inserted (record { key = key.now; item = item.now }) version next × HasTrie C.has U.account cells.new usage.new new next) }
     ensures exists { (version : List Entry) → HasTrie C.has U.account cells.old usage.old root version → EachTells Leads version
         → (result ≡ Err NotDone.Refused) ↔ ((x : Entry) × InList x version × (x.key ≡ key.now)) }
-    ensures refused { IfErr result (λ _. (version : List Entry) → HasTrie C.has U.account cells.old usage.old root version
-        → HasTrie C.has U.account cells.new usage.new root version) }
-    ensures unchanged { IfErr result (λ _. Same C.has U.account cells.old usage.old cells.new usage.new) }
-    ensures outside { (q : ℕ) (c : Cell) → Beyond C.has U.account cells.old usage.old root q → C.has cells.old q c → C.has cells.new q c }
-    ensures denied { result ≡ Err NotDone.Refused → usage.new ≡ usage.old }
-    ensures full { (f : _) → result ≡ Err (NotDone.Full f) → U.lacks usage.new f }
-    ensures asked { (f : _) → result ≡ Err (NotDone.Full f) → (branches : List ℕ)
-        → BranchesOnPath C.has U.account cells.old usage.old root key.now branches → Contains (insert_asks item.now branches) f.needed }
-    ensures consumes { (n : ℕ) → TwigsOnPath C.has U.account cells.old usage.old root key.now n
-        → (U.account usage.new).consumed ≤ (U.account usage.old).consumed + (3 + cells_in item.now + n) }
-    ensures copies { (n : ℕ) → ToCopy C.has U.account cells.old usage.old root key.now n
-        → (U.account usage.new).consumed ≤ (U.account usage.old).consumed + (47 + cells_in item.now + n) }
-    ensures frame { Fenced C.has C.kept C.given U.account cells.old usage.old cells.new usage.new }
-    ensures ready { Ready C.kept C.given U.account cells.new usage.new }
+    ensures stays { IfErr result (λ why. StaysAsItWas C.has U.account U.lacks cells.old usage.old cells.new usage.new root key.now (insert_asks item.now) why) }
+    ensures changes { ChangesTrie C.has C.kept C.given U.account cells.old usage.old cells.new usage.new
+        root key.now (3 + cells_in item.now) (47 + cells_in item.now) }
 {
     let Some(at) = root else {
         return Ok(Some(insert_first(cells, usage, item)?));

@@ -1,8 +1,8 @@
 //! Cells for items.
 
-ghost use Rattle.std.specs.Prelude.{◌≡◌, ◌+◌, ◌<◌, ◌≤◌, ℕ, Contains, IfOk, IfErr, length};
-ghost use Rattle.trie_write.specs.Prelude.{AreExtents, ItemLies, cells_in, content_cells, links, weigh_extents, in_chunk};
-ghost use Rattle.trie_write.specs.Prelude.{extents_at, extents_in, HandedItem, extent_sizes, Frame, Ready, Refused};
+ghost use Rattle.std.specs.Prelude.{◌+◌, ◌<◌, ◌≤◌, ℕ, Contains, IfOk, IfErr, length};
+ghost use Rattle.trie_write.specs.Prelude.{AreExtents, cells_in, content_cells, links, weigh_extents, in_chunk, extents_at, extents_in, CanLay};
+ghost use Rattle.trie_write.specs.Prelude.{CanPlace, HandedItem, IsLaidAnew, extent_sizes, LacksRoom, Releases, TakesCells};
 
 use super::alloc::room_for;
 use chunk_cells::extents::{LAST_OCTETS, LINKED_OCTETS, content_cells_for, linked_extent};
@@ -16,17 +16,11 @@ pub fn lay_item<C: CellWrite, U: Space>(
     usage: &mut U,
     item: &[u8],
 ) -> Result<Extents, Shortage>
-    requires some { 0 < length item.now }
-    requires short { length item.now ≤ 65535 }
-    requires ready { Ready C.kept C.given U.account cells.old usage.old }
-    ensures len { IfOk result (λ x. x.len ≡ length item.now) }
-    ensures handed { IfOk result (λ x. HandedItem (U.account usage.old) (U.account usage.new) (length item.now) (extents_in x)) }
-    ensures lies { IfOk result (λ x. ItemLies (C.has cells.new) (extents_in x) item.now) }
-    ensures consumes { (U.account usage.new).consumed ≤ (U.account usage.old).consumed + cells_in item.now }
-    ensures refused { IfErr result (λ f. Refused C.has U.account U.lacks cells.old usage.old cells.new usage.new f) }
-    ensures asked { IfErr result (λ f. Contains (extent_sizes (length item.now)) f.needed) }
-    ensures frame { Frame C.has C.kept C.given U.account cells.old usage.old cells.new usage.new }
-    ensures ready { Ready C.kept C.given U.account cells.new usage.new }
+    requires { CanLay C.kept C.given U.account cells.old usage.old (length item.now) }
+    ensures laid { IfOk result (λ x. IsLaidAnew C.has U.account usage.old cells.new usage.new item.now x) }
+    ensures lacks { IfErr result (λ f. LacksRoom C.has U.account U.lacks cells.old usage.old cells.new usage.new
+        (Contains (extent_sizes (length item.now))) f) }
+    ensures takes { TakesCells C.has C.kept C.given U.account cells.old usage.old cells.new usage.new (cells_in item.now) }
 {
     let len = item.len() as u16;
     let mut at = [0; 17];
@@ -43,15 +37,10 @@ fn room_for_extents<C: CellWrite, U: Space>(
     len: u16,
     out: &mut [Ref],
 ) -> Result<(), Shortage>
-    requires some { 0 < len }
-    requires enough { links len < length out.old }
-    requires ready { Ready C.kept C.given U.account cells.old usage.old }
+    requires { CanPlace C.kept C.given U.account cells.old usage.old len (length out.old) }
     ensures handed { IfOk result (λ _. HandedItem (U.account usage.old) (U.account usage.new) len (extents_at (links len) out.new)) }
-    ensures consumes { (U.account usage.new).consumed ≤ (U.account usage.old).consumed + (content_cells len + links len) }
-    ensures refused { IfErr result (λ f. Refused C.has U.account U.lacks cells.old usage.old cells.new usage.new f) }
-    ensures asked { IfErr result (λ f. Contains (extent_sizes len) f.needed) }
-    ensures frame { Frame C.has C.kept C.given U.account cells.old usage.old cells.new usage.new }
-    ensures ready { Ready C.kept C.given U.account cells.new usage.new }
+    ensures lacks { IfErr result (λ f. LacksRoom C.has U.account U.lacks cells.old usage.old cells.new usage.new (Contains (extent_sizes len)) f) }
+    ensures takes { TakesCells C.has C.kept C.given U.account cells.old usage.old cells.new usage.new (content_cells len + links len) }
 {
     if len as usize <= LAST_OCTETS {
         out[0] = room_for(cells, usage, content_cells_for(len))?;
@@ -75,9 +64,7 @@ fn room_for_extents<C: CellWrite, U: Space>(
 pub fn release_item<U: Space>(usage: &mut U, item: &Extents)
     requires counted { (k : ℕ) → weigh_extents (in_chunk k) item.now.len (extents_in item.now) ≤ (U.account usage.old).live k }
     requires are { AreExtents item.now.len (extents_in item.now) }
-    ensures counts { (k : ℕ) → (U.account usage.new).live k + weigh_extents (in_chunk k) item.now.len (extents_in item.now) ≡ (U.account usage.old).live k }
-    ensures rest { U.account usage.new ≡ record (U.account usage.old) { live = (U.account usage.new).live } }
-    ensures lacks { (f : _) → U.lacks usage.old f → U.lacks usage.new f }
+    ensures { Releases U.account U.lacks (λ w. weigh_extents w item.now.len (extents_in item.now)) usage.old usage.new }
 {
     release_extents(usage, item.len, &item.at);
 }
@@ -87,9 +74,7 @@ fn release_extents<U: Space>(usage: &mut U, len: u16, at: &[Ref])
     requires enough { links len < length at.now }
     requires counted { (k : ℕ) → weigh_extents (in_chunk k) len (extents_at (links len) at.now) ≤ (U.account usage.old).live k }
     requires are { AreExtents len (extents_at (links len) at.now) }
-    ensures counts { (k : ℕ) → (U.account usage.new).live k + weigh_extents (in_chunk k) len (extents_at (links len) at.now) ≡ (U.account usage.old).live k }
-    ensures rest { U.account usage.new ≡ record (U.account usage.old) { live = (U.account usage.new).live } }
-    ensures lacks { (f : _) → U.lacks usage.old f → U.lacks usage.new f }
+    ensures { Releases U.account U.lacks (λ w. weigh_extents w len (extents_at (links len) at.now)) usage.old usage.new }
 {
     if len as usize <= LAST_OCTETS {
         return usage.release(at[0], content_cells_for(len));

@@ -1,9 +1,9 @@
 //! The way to a place on a key's path is made mutable: what isn't mutable yet is copied, and no entry changes.
 
-ghost use Rattle.std.specs.Prelude.{◌≡◌, ◌≢◌, ◌+◌, ◌<◌, ◌≤◌, ℕ, false, List, ◌∷◌, map, Contains, IfOk, IfErr, count_ones};
-ghost use Rattle.trie_write.specs.Prelude.{Cell, IsBranch, branch_cell, IsRow, row, in_chunk, Tree, Ready, Frame, Fenced};
-ghost use Rattle.trie_write.specs.Prelude.{Refused, MayWrite, Wrote, IsWritable, Fork, plug, IsWay, twigs_of, twigs_along};
-ghost use Rattle.trie_write.specs.Prelude.{copied_along, WayAsks, WayAsked, IsCopied, IsParted, SlotAsks, SlotAsked, IsSlot};
+ghost use Rattle.std.specs.Prelude.{◌≡◌, List, IfOk, IfErr};
+ghost use Rattle.trie_write.specs.Prelude.{branch_cell, Tree, IsWritable, Ready, Fork, CanMoveTwigs, CanOpenAnew, CanOpenBelow, CopiesWay, IsCopied};
+ghost use Rattle.trie_write.specs.Prelude.{IsLastMutable, IsSlot, MayAskAlong, MayAskBelow, MayAskToOpen, MovesTwigs, OpensWay, SlotAsked, SlotAsks};
+ghost use Rattle.trie_write.specs.Prelude.{WayAsked, WayAsks, LacksRoom};
 
 use super::alloc::room_for;
 use super::descend::{Descent, next_descent};
@@ -54,23 +54,10 @@ fn move_twigs<C: CellWrite, U: Space>(
     to: Ref,
     below: Copied,
 ) -> Copied
-    requires index { descent.index < count_ones descent.branch.bitmap }
-    requires node { IsBranch (record descent.branch { twigs = to }) }
-    requires old { IsRow descent.branch.twigs (count_ones descent.branch.bitmap) }
-    requires new { IsRow to (count_ones descent.branch.bitmap) }
-    requires there { (i : ℕ) → i < count_ones descent.branch.bitmap → (c : Cell) × C.has cells.old (descent.branch.twigs + i) c }
-    requires apart { (i j : ℕ) → i < count_ones descent.branch.bitmap → j < count_ones descent.branch.bitmap → descent.branch.twigs + i ≢ to + j }
-    requires blank { MayWrite C.kept C.given cells.old to (count_ones descent.branch.bitmap) }
-    requires counted { (k : ℕ) → row (in_chunk k) descent.branch.twigs (count_ones descent.branch.bitmap) ≤ (U.account usage.old).live k }
+    requires { CanMoveTwigs C.has C.kept C.given U.account cells.old usage.old descent to }
     ensures node { result.node ≡ branch_cell (record descent.branch { twigs = to }) }
     ensures slot { result.slot ≡ below.slot }
-    ensures twig { C.has cells.new (to + descent.index) below.node }
-    ensures copied { (i : ℕ) (c : Cell) → i < count_ones descent.branch.bitmap → i ≢ descent.index
-        → C.has cells.old (descent.branch.twigs + i) c → C.has cells.new (to + i) c }
-    ensures wrote { Wrote C.has C.kept C.given cells.old cells.new to (count_ones descent.branch.bitmap) }
-    ensures counts { (k : ℕ) → (U.account usage.new).live k + row (in_chunk k) descent.branch.twigs (count_ones descent.branch.bitmap)
-        ≡ (U.account usage.old).live k }
-    ensures rest { U.account usage.new ≡ record (U.account usage.old) { live = (U.account usage.new).live } }
+    ensures moves { MovesTwigs C.has C.kept C.given U.account cells.old usage.old cells.new usage.new descent to below.node }
 {
     let branch = descent.branch;
     let n = branch.twig_count();
@@ -102,14 +89,9 @@ fn copy_way<C: CellWrite, U: Space>(
     requires ready { Ready C.kept C.given U.account cells.old usage.old }
     ensures copied { IfOk result (λ copied. (way : List Fork) (end : Tree) → WayAsks C.has U.account cells.old usage.old place low key.now from.node way end
         → IsCopied C.has C.given U.account usage.old cells.new usage.new place low key.now from.at way end copied.node copied.slot) }
-    ensures consumes { (way : List Fork) (end : Tree) → WayAsks C.has U.account cells.old usage.old place low key.now from.node way end
-        → (U.account usage.new).consumed ≤ (U.account usage.old).consumed + twigs_along way }
-    ensures refused { IfErr result (λ f. Refused C.has U.account U.lacks cells.old usage.old cells.new usage.new f) }
-    // A branch on the way has so many twigs.
-    ensures asked { IfErr result (λ f. (way : List Fork) (end : Tree) → WayAsks C.has U.account cells.old usage.old place low key.now from.node way end
-        → Contains (map twigs_of way) f.needed) }
-    ensures frame { Frame C.has C.kept C.given U.account cells.old usage.old cells.new usage.new }
-    ensures ready { Ready C.kept C.given U.account cells.new usage.new }
+    ensures lacks { IfErr result (λ f. LacksRoom C.has U.account U.lacks cells.old usage.old cells.new usage.new
+        (MayAskAlong C.has U.account cells.old usage.old place low key.now from.node) f) }
+    ensures copies { CopiesWay C.has C.kept C.given U.account cells.old usage.old cells.new usage.new place low key.now from.node }
 {
     match next_descent(cells, key, place, from.node) {
         None => Ok(left_alone(from)),
@@ -144,9 +126,7 @@ fn last_mutable<C: CellWrite, U: Space>(
     requires writable { IsWritable C.given U.account cells.old usage.now from.at }
     requires ready { Ready C.kept C.given U.account cells.old usage.now }
     ensures same { cells.new ≡ cells.old }
-    ensures parted { (way : List Fork) (end : Tree) → WayAsks C.has U.account cells.old usage.now place low key.now from.node way end
-        → IsParted (U.account usage.now).mutable from.at way end result.at result.node }
-    ensures writable { IsWritable C.given U.account cells.new usage.now result.at }
+    ensures last { IsLastMutable C.has C.given U.account cells.old usage.now cells.new place low key.now from result }
 {
     match next_descent(cells, key, place, from.node) {
         None => from,
@@ -174,19 +154,12 @@ fn open_below<C: CellWrite, U: Space>(
     place: u16,
     top: Spot,
 ) -> Result<Slot, Shortage>
-    requires asks { SlotAsked C.has U.account cells.old usage.old place key.now top.at }
-    requires node { (c : Cell) → C.has cells.old top.at c → top.node ≡ c }
-    requires writable { IsWritable C.given U.account cells.old usage.old top.at }
-    requires ready { Ready C.kept C.given U.account cells.old usage.old }
+    requires { CanOpenBelow C.has C.kept C.given U.account cells.old usage.old place key.now top }
     ensures slot { IfOk result (λ slot. (spare : _) (way : _) (end : _) → SlotAsks C.has U.account cells.old usage.old place key.now spare top.at way end
         → IsSlot C.has C.given U.account cells.old usage.old cells.new usage.new place key.now spare top.at way end slot.root slot.at) }
-    ensures consumes { (spare : _) (way : _) (end : _) → SlotAsks C.has U.account cells.old usage.old place key.now spare top.at way end
-        → (U.account usage.new).consumed ≤ (U.account usage.old).consumed + copied_along (U.account usage.old).mutable 1 top.at way }
-    ensures refused { IfErr result (λ f. Refused C.has U.account U.lacks cells.old usage.old cells.new usage.new f) }
-    ensures asked { IfErr result (λ f. (spare : _) (way : _) (end : _) → SlotAsks C.has U.account cells.old usage.old place key.now spare top.at way end
-        → Contains (map twigs_of way) f.needed) }
-    ensures frame { Fenced C.has C.kept C.given U.account cells.old usage.old cells.new usage.new }
-    ensures ready { Ready C.kept C.given U.account cells.new usage.new }
+    ensures lacks { IfErr result (λ f. LacksRoom C.has U.account U.lacks cells.old usage.old cells.new usage.new
+        (MayAskBelow C.has U.account cells.old usage.old place key.now top.at) f) }
+    ensures opens { OpensWay C.has C.kept C.given U.account cells.old usage.old cells.new usage.new place key.now top.at }
 {
     let last = last_mutable(cells, usage, key, place, 0, top);
     let copied = copy_way(cells, usage, key, place, 0, last)?;
@@ -205,19 +178,12 @@ fn open_anew<C: CellWrite, U: Space>(
     place: u16,
     top: Spot,
 ) -> Result<Slot, Shortage>
-    requires asks { SlotAsked C.has U.account cells.old usage.old place key.now top.at }
-    requires node { (c : Cell) → C.has cells.old top.at c → top.node ≡ c }
-    requires immutable { (U.account usage.old).mutable top.at ≡ false }
-    requires ready { Ready C.kept C.given U.account cells.old usage.old }
+    requires { CanOpenAnew C.has C.kept C.given U.account cells.old usage.old place key.now top }
     ensures slot { IfOk result (λ slot. (spare : _) (way : _) (end : _) → SlotAsks C.has U.account cells.old usage.old place key.now spare top.at way end
         → IsSlot C.has C.given U.account cells.old usage.old cells.new usage.new place key.now spare top.at way end slot.root slot.at) }
-    ensures consumes { (spare : _) (way : _) (end : _) → SlotAsks C.has U.account cells.old usage.old place key.now spare top.at way end
-        → (U.account usage.new).consumed ≤ (U.account usage.old).consumed + copied_along (U.account usage.old).mutable 1 top.at way }
-    ensures refused { IfErr result (λ f. Refused C.has U.account U.lacks cells.old usage.old cells.new usage.new f) }
-    ensures asked { IfErr result (λ f. (spare : _) (way : _) (end : _) → SlotAsks C.has U.account cells.old usage.old place key.now spare top.at way end
-        → Contains (1 ∷ map twigs_of way) f.needed) }
-    ensures frame { Fenced C.has C.kept C.given U.account cells.old usage.old cells.new usage.new }
-    ensures ready { Ready C.kept C.given U.account cells.new usage.new }
+    ensures lacks { IfErr result (λ f. LacksRoom C.has U.account U.lacks cells.old usage.old cells.new usage.new
+        (MayAskToOpen C.has U.account cells.old usage.old place key.now top.at) f) }
+    ensures opens { OpensWay C.has C.kept C.given U.account cells.old usage.old cells.new usage.new place key.now top.at }
 {
     let root = room_for(cells, usage, 1)?;
     let from = Spot {
@@ -251,14 +217,9 @@ pub fn make_mutable<C: CellWrite, U: Space>(
     requires ready { Ready C.kept C.given U.account cells.old usage.old }
     ensures slot { IfOk result (λ slot. (spare : _) (way : _) (end : _) → SlotAsks C.has U.account cells.old usage.old place key.now spare root way end
         → IsSlot C.has C.given U.account cells.old usage.old cells.new usage.new place key.now spare root way end slot.root slot.at) }
-    ensures consumes { (spare : _) (way : _) (end : _) → SlotAsks C.has U.account cells.old usage.old place key.now spare root way end
-        → (U.account usage.new).consumed ≤ (U.account usage.old).consumed + copied_along (U.account usage.old).mutable 1 root way }
-    ensures refused { IfErr result (λ f. Refused C.has U.account U.lacks cells.old usage.old cells.new usage.new f) }
-    // The root's cell alone, or as many as a branch on the way has twigs.
-    ensures asked { IfErr result (λ f. (spare : _) (way : _) (end : _) → SlotAsks C.has U.account cells.old usage.old place key.now spare root way end
-        → Contains (1 ∷ map twigs_of way) f.needed) }
-    ensures frame { Fenced C.has C.kept C.given U.account cells.old usage.old cells.new usage.new }
-    ensures ready { Ready C.kept C.given U.account cells.new usage.new }
+    ensures lacks { IfErr result (λ f. LacksRoom C.has U.account U.lacks cells.old usage.old cells.new usage.new
+        (MayAskToOpen C.has U.account cells.old usage.old place key.now root) f) }
+    ensures opens { OpensWay C.has C.kept C.given U.account cells.old usage.old cells.new usage.new place key.now root }
 {
     let node = cells.cell(root);
     let top = Spot { at: root, node };

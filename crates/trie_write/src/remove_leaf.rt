@@ -1,8 +1,7 @@
 //! A branch without one of its leaves.
 
-ghost use Rattle.std.specs.Prelude.{◌≡◌, ◌+◌, ◌-◌, ◌≤◌, ℕ, List, IfOk, IfErr, count_ones};
-ghost use Rattle.trie_write.specs.Prelude.{Entry, Tree, leaf, LeafDescent, LeafTurned, IsWithout};
-ghost use Rattle.trie_write.specs.Prelude.{IsNoItem, IsTaken, Ready, Frame, Refused, Fork, plug};
+ghost use Rattle.std.specs.Prelude.{◌≡◌, ◌+◌, ◌-◌, ◌≤◌, IfOk, IfErr, count_ones};
+ghost use Rattle.trie_write.specs.Prelude.{CanTakeLeaf, TakesLeaf, IsNoItem, LacksRoom, OnlyAdds};
 
 use super::alloc::copy_apart;
 use super::change::{CellChange, NO_CELLS, NO_ITEM, Span, item_below};
@@ -36,17 +35,12 @@ pub fn without_leaf<C: CellWrite, U: Space>(
     key: &Key,
     descent: Descent,
 ) -> Result<CellChange, Shortage>
-    requires last { LeafTurned C.has U.account cells.old usage.old key.now descent }
-    requires ready { Ready C.kept C.given U.account cells.old usage.old }
-    ensures without { IfOk result (λ change. (lower : List Fork) (e : Entry) (x : _)
-        → LeafDescent C.has U.account cells.old usage.old key.now descent lower e x
-        → IsWithout C.has cells.new change e (plug lower (leaf e x))) }
-    ensures taken { IfOk result (λ change. IsTaken (U.account usage.old) (U.account usage.new) change) }
+    requires { CanTakeLeaf C.has C.kept C.given U.account cells.old usage.old key.now descent }
+    ensures takes { IfOk result (λ change. TakesLeaf C.has U.account cells.old usage.old cells.new usage.new key.now descent change) }
     ensures consumes { (U.account usage.new).consumed + 1 ≤ (U.account usage.old).consumed + count_ones descent.branch.bitmap }
-    ensures refused { IfErr result (λ f. Refused C.has U.account U.lacks cells.old usage.old cells.new usage.new f) }
-    ensures asked { IfErr result (λ f. f.needed ≡ count_ones descent.branch.bitmap - 1) }
-    ensures frame { Frame C.has C.kept C.given U.account cells.old usage.old cells.new usage.new }
-    ensures ready { Ready C.kept C.given U.account cells.new usage.new }
+    ensures lacks { IfErr result (λ f. LacksRoom C.has U.account U.lacks cells.old usage.old cells.new usage.new
+        (λ n. n ≡ count_ones descent.branch.bitmap - 1) f) }
+    ensures adds { OnlyAdds C.has C.kept C.given U.account cells.old usage.old cells.new usage.new }
 {
     let old_twigs = Span {
         at: descent.branch.twigs,

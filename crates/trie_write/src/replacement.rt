@@ -1,9 +1,8 @@
 //! An item exchanged for another of the same name.
 
-ghost use Rattle.std.specs.Prelude.{◌≡◌, ◌+◌, ◌≤◌, ℕ, List, Contains, true, IfOk, IfErr, Err, Some, ◌↔◌, length};
-ghost use Rattle.trie_write.specs.Prelude.{Cell, Leads, AreExtents, cells_in, extents_in, extent_sizes, Entry, InList, Tree, leaf, EachTells};
-ghost use Rattle.trie_write.specs.Prelude.{HasKey, KeyIsThere, Exchanged, branches_on_path, replace_asks, to_copy, Makes, IsTaken};
-ghost use Rattle.trie_write.specs.Prelude.{TwigsOnPath, BranchesOnPath, ToCopy, IsOutside, Beyond, Ready, Frame, Fenced, Same, Refused, HasTrie};
+ghost use Rattle.std.specs.Prelude.{◌≡◌, ◌+◌, List, Contains, IfOk, IfErr, Err, Some, ◌↔◌, length};
+ghost use Rattle.trie_write.specs.Prelude.{Leads, cells_in, Entry, InList, Tree, EachTells, HasTrie, HasKey, CanPut, ChangesTree, ChangesTrie, MayAsk};
+ghost use Rattle.trie_write.specs.Prelude.{StaysAsItWas, CanReplace, Exchanged, IsOtherLeaf, extent_sizes, replace_asks, LacksRoom, TakesCells};
 
 use super::change::{CellChange, NO_CELLS, item_below, put_change};
 use super::descend::end_node;
@@ -26,18 +25,11 @@ fn other_leaf<C: CellWrite, U: Space>(
     item: &[u8],
     trace: &mut Trace,
 ) -> Result<CellChange, Shortage>
-    requires leads { Leads key.now item.now }
-    requires there { KeyIsThere C.has U.account cells.old usage.old root key.now }
-    requires ready { Ready C.kept C.given U.account cells.old usage.old }
-    ensures makes { IfOk result (λ change. (t : Tree) (version : List Entry) (h : HasKey C.has U.account cells.old usage.old root key.now t version)
-        → Makes C.has cells.new change (leaf h.entry h.first) (leaf (record { key = key.now; item = item.now }) (extents_in change.new_item))) }
-    ensures extents { IfOk result (λ change. AreExtents (length item.now) (extents_in change.new_item)) }
-    ensures taken { IfOk result (λ change. IsTaken (U.account usage.old) (U.account usage.new) change) }
-    ensures consumes { (U.account usage.new).consumed ≤ (U.account usage.old).consumed + cells_in item.now }
-    ensures refused { IfErr result (λ f. Refused C.has U.account U.lacks cells.old usage.old cells.new usage.new f) }
-    ensures asked { IfErr result (λ f. Contains (extent_sizes (length item.now)) f.needed) }
-    ensures frame { Frame C.has C.kept C.given U.account cells.old usage.old cells.new usage.new }
-    ensures ready { Ready C.kept C.given U.account cells.new usage.new }
+    requires { CanReplace C.has C.kept C.given U.account cells.old usage.old root key.now item.now }
+    ensures other { IfOk result (λ change. IsOtherLeaf C.has U.account cells.old usage.old cells.new usage.new root key.now item.now change) }
+    ensures lacks { IfErr result (λ f. LacksRoom C.has U.account U.lacks cells.old usage.old cells.new usage.new
+        (Contains (extent_sizes (length item.now))) f) }
+    ensures takes { TakesCells C.has C.kept C.given U.account cells.old usage.old cells.new usage.new (cells_in item.now) }
 {
     let node = cells.cell(root);
     let old = end_node(cells, key, u16::MAX, 0, node, trace);
@@ -60,21 +52,14 @@ fn replace_item<C: CellWrite, U: Space>(
     key: &Key,
     item: &[u8],
 ) -> Result<Ref, Shortage>
-    requires leads { Leads key.now item.now }
-    requires there { KeyIsThere C.has U.account cells.old usage.old root key.now }
-    requires ready { Ready C.kept C.given U.account cells.old usage.old }
+    requires { CanReplace C.has C.kept C.given U.account cells.old usage.old root key.now item.now }
     ensures stands { IfOk result (λ new. (t : Tree) (version : List Entry) → HasKey C.has U.account cells.old usage.old root key.now t version
         → (next : List Entry) × Exchanged (record { key = key.now; item = item.now }) version next
         × HasTrie C.has U.account cells.new usage.new (Some new) next) }
-    ensures outside { (t : Tree) (version : List Entry) → HasKey C.has U.account cells.old usage.old root key.now t version
-        → (q : ℕ) (c : Cell) → (U.account usage.old).used q ≡ true → IsOutside root t q → C.has cells.old q c → C.has cells.new q c }
-    ensures copies { (t : Tree) (version : List Entry) → HasKey C.has U.account cells.old usage.old root key.now t version
-        → (U.account usage.new).consumed ≤ (U.account usage.old).consumed + (cells_in item.now + to_copy (U.account usage.old).mutable key.now root t) }
-    ensures refused { IfErr result (λ f. Refused C.has U.account U.lacks cells.old usage.old cells.new usage.new f) }
-    ensures asked { IfErr result (λ f. (t : Tree) (version : List Entry) → HasKey C.has U.account cells.old usage.old root key.now t version
-        → Contains (replace_asks item.now (branches_on_path key.now t)) f.needed) }
-    ensures frame { Fenced C.has C.kept C.given U.account cells.old usage.old cells.new usage.new }
-    ensures ready { Ready C.kept C.given U.account cells.new usage.new }
+    ensures lacks { IfErr result (λ f. LacksRoom C.has U.account U.lacks cells.old usage.old cells.new usage.new
+        (MayAsk key.now (HasKey C.has U.account cells.old usage.old root key.now) (replace_asks item.now)) f) }
+    ensures changes { ChangesTree C.has C.kept C.given U.account cells.old usage.old cells.new usage.new root key.now
+        (HasKey C.has U.account cells.old usage.old root key.now) (3 + cells_in item.now) (cells_in item.now) }
 {
     let mut trace = Trace::new();
     let change = other_leaf(cells, usage, root, key, item, &mut trace)?;
@@ -91,27 +76,15 @@ pub fn replace<C: CellWrite, U: Space>(
     key: &Key,
     item: &[u8],
 ) -> Result<Root, NotDone>
-    requires stands { (version : List Entry) × HasTrie C.has U.account cells.old usage.old root version × EachTells Leads version }
-    requires leads { Leads key.now item.now }
-    requires ready { Ready C.kept C.given U.account cells.old usage.old }
+    requires { CanPut C.has C.kept C.given U.account cells.old usage.old root key.now item.now }
     ensures replaced { IfOk result (λ new. (version : List Entry) → HasTrie C.has U.account cells.old usage.old root version → EachTells Leads version
         → (next : List Entry) × Exchanged (record { key = key.now; item = item.now }) version next × HasTrie C.has U.account cells.new usage.new new next) }
     ensures absent { (version : List Entry) → HasTrie C.has U.account cells.old usage.old root version → EachTells Leads version
         → (result ≡ Err NotDone.Refused) ↔ ((x : Entry) → InList x version → x.key ≡ key.now → ⊥) }
-    ensures refused { IfErr result (λ _. (version : List Entry) → HasTrie C.has U.account cells.old usage.old root version
-        → HasTrie C.has U.account cells.new usage.new root version) }
-    ensures unchanged { IfErr result (λ _. Same C.has U.account cells.old usage.old cells.new usage.new) }
-    ensures outside { (q : ℕ) (c : Cell) → Beyond C.has U.account cells.old usage.old root q → C.has cells.old q c → C.has cells.new q c }
-    ensures denied { result ≡ Err NotDone.Refused → usage.new ≡ usage.old }
-    ensures full { (f : _) → result ≡ Err (NotDone.Full f) → U.lacks usage.new f }
-    ensures asked { (f : _) → result ≡ Err (NotDone.Full f) → (branches : List ℕ)
-        → BranchesOnPath C.has U.account cells.old usage.old root key.now branches → Contains (replace_asks item.now branches) f.needed }
-    ensures consumes { (n : ℕ) → TwigsOnPath C.has U.account cells.old usage.old root key.now n
-        → (U.account usage.new).consumed ≤ (U.account usage.old).consumed + (3 + cells_in item.now + n) }
-    ensures copies { (n : ℕ) → ToCopy C.has U.account cells.old usage.old root key.now n
-        → (U.account usage.new).consumed ≤ (U.account usage.old).consumed + (cells_in item.now + n) }
-    ensures frame { Fenced C.has C.kept C.given U.account cells.old usage.old cells.new usage.new }
-    ensures ready { Ready C.kept C.given U.account cells.new usage.new }
+    ensures stays { IfErr result (λ why. StaysAsItWas C.has U.account U.lacks cells.old usage.old cells.new usage.new
+        root key.now (replace_asks item.now) why) }
+    ensures changes { ChangesTrie C.has C.kept C.given U.account cells.old usage.old cells.new usage.new
+        root key.now (3 + cells_in item.now) (cells_in item.now) }
 {
     match root_with(cells, root, key) {
         None => Err(NotDone::Refused),

@@ -1,4 +1,4 @@
-use Rattle.std.proofs.Common.{List, sym, subst}
+use Rattle.std.proofs.Common.{List, rules, sym, subst}
 use Rattle.zone_model.specs.Keys.{Leads}
 use Rattle.trie_model.specs.Keys.{Rises}
 use Rattle.trie_model.specs.Memory.{Stands}
@@ -11,10 +11,10 @@ use Rattle.job_commands.specs.Histories.{StandsAs}
 use Rattle.zone_edit.proofs.SetLaws.{entries_rise}
 use Rattle.job_tests.proofs.responses.responded.Goals as goal
 
-pub build-requires-clause-rising : goal.build-requires-clause-rising
-build-requires-clause-rising c =
+pub build-requires : goal.build-requires
+build-requires c =
     let stands = subst (λ (items : List Item). StandsAs (entries_of_items items) c.args.zone.pairs) (sym c.deref.ensures.value) c.in_ok-items.ensures in
-    subst Rises stands.entries (entries_rise c.args.zone.pairs stands.valid.rising stands.valid.items)
+    record { rising = subst Rises stands.entries (entries_rise c.args.zone.pairs stands.valid.rising stands.valid.items); uncounted = search rules; ready = search rules }
 
 pub reply_text-requires : goal.reply_text-requires
 reply_text-requires c =

@@ -27,12 +27,12 @@ returns-in-Ok-None-clause-cut_short g c = λ short. record {
 pub serve_invocation-requires : goal.serve_invocation-requires
 serve_invocation-requires g c =
     let under : IsUnder (verb_view c.in-Ok-Some.invocation.verb) c.in-Ok-Some.invocation.origin =
-    subst AllUnder (ap (option_map invocation_view) c.in-Ok-Some.field-0-is) (subst AllUnder (sym c.in-Ok-Some.ensures) (words_under (map string_bytes c.args.words.now))) in
+    subst AllUnder (ap (option_map invocation_view) c.in-Ok-Some.field-0-is) (subst AllUnder (sym c.in-Ok-Some.ensures.says) (words_under (map string_bytes c.args.words.now))) in
     search (rules, under)
 
 pub returns-in-Ok-Some-clause-cut_short : goal.returns-in-Ok-Some-clause-cut_short
 returns-in-Ok-Some-clause-cut_short g c =
-    let is : option_map invocation_view (Some c.in-Ok-Some.invocation) ≡ invocation_of (map string_bytes c.args.words.now) = sym (ap (option_map invocation_view) c.in-Ok-Some.field-0-is) ∙ c.in-Ok-Some.ensures in
+    let is : option_map invocation_view (Some c.in-Ok-Some.invocation) ≡ invocation_of (map string_bytes c.args.words.now) = sym (ap (option_map invocation_view) c.in-Ok-Some.field-0-is) ∙ c.in-Ok-Some.ensures.says in
     subst (λ (o : Option Invocation). MayBeShort (streams o) c.serve_invocation.result → CutShort (Due o (g.S.Source.left c.args.source.now)) (g.K.Sink.held c.args.sink.now) (g.K.Sink.held c.serve_invocation.new.sink)) is c.serve_invocation.ensures.cut_short
 
 pub returns-in-Err-clause-cut_short : goal.returns-in-Err-clause-cut_short
@@ -46,7 +46,7 @@ returns-in-Err-clause-cut_short g c = λ streamed.
 pub returns-in-Ok-None-clause-given : goal.returns-in-Ok-None-clause-given
 returns-in-Ok-None-clause-given g c = λ w.
     let given = g.S.Source.given c.args.source.now in
-    let is : option_map invocation_view None ≡ invocation_of (map string_bytes c.args.words.now) = sym (ap (option_map invocation_view) c.in-Ok-None.field-0-is) ∙ c.in-Ok-None.ensures in
+    let is : option_map invocation_view None ≡ invocation_of (map string_bytes c.args.words.now) = sym (ap (option_map invocation_view) c.in-Ok-None.field-0-is) ∙ c.in-Ok-None.ensures.says in
     let whole = c.write_due.ensures.whole w in
     subst (λ (o : Option Invocation). GaveFor o given given (g.S.Source.ended c.args.source.now) (λ left. Written (Due o left) (g.K.Sink.held c.args.sink.now) (g.K.Sink.held c.write_due.new.sink) c.write_due.result)) is (record {
       bytes = [];
@@ -58,7 +58,7 @@ returns-in-Ok-None-clause-given g c = λ w.
 pub returns-in-Ok-None-clause-given_short : goal.returns-in-Ok-None-clause-given_short
 returns-in-Ok-None-clause-given_short g c = λ short some.
     let given = g.S.Source.given c.args.source.now in
-    let is : option_map invocation_view None ≡ invocation_of (map string_bytes c.args.words.now) = sym (ap (option_map invocation_view) c.in-Ok-None.field-0-is) ∙ c.in-Ok-None.ensures in
+    let is : option_map invocation_view None ≡ invocation_of (map string_bytes c.args.words.now) = sym (ap (option_map invocation_view) c.in-Ok-None.field-0-is) ∙ c.in-Ok-None.ensures.says in
     subst (λ (o : Option Invocation). GaveFor o given given (g.S.Source.ended c.args.source.now) (λ left. CutShort (Due o left) (g.K.Sink.held c.args.sink.now) (g.K.Sink.held c.write_due.new.sink))) is (record {
       bytes = [];
       gave = sym (append-nil given);
@@ -73,7 +73,7 @@ returns-in-Ok-None-clause-given_short g c = λ short some.
 
 pub returns-in-Ok-Some-clause-given_short : goal.returns-in-Ok-Some-clause-given_short
 returns-in-Ok-Some-clause-given_short g c =
-    let is : option_map invocation_view (Some c.in-Ok-Some.invocation) ≡ invocation_of (map string_bytes c.args.words.now) = sym (ap (option_map invocation_view) c.in-Ok-Some.field-0-is) ∙ c.in-Ok-Some.ensures in
+    let is : option_map invocation_view (Some c.in-Ok-Some.invocation) ≡ invocation_of (map string_bytes c.args.words.now) = sym (ap (option_map invocation_view) c.in-Ok-Some.field-0-is) ∙ c.in-Ok-Some.ensures.says in
     subst (λ (o : Option Invocation). MayBeShort (streams o) c.serve_invocation.result → (g.K.Sink.held c.serve_invocation.new.sink ≡ g.K.Sink.held c.args.sink.now → ⊥)
     → GaveFor o (g.S.Source.given c.args.source.now) (g.S.Source.given c.serve_invocation.new.source) (g.S.Source.ended c.serve_invocation.new.source) (λ left. CutShort (Due o left) (g.K.Sink.held c.args.sink.now) (g.K.Sink.held c.serve_invocation.new.sink))) is c.serve_invocation.ensures.given_short
 
@@ -84,30 +84,30 @@ returns-in-Ok-None-clause-heard g c = λ ran. absurd (subst HasRun (c.write_due.
 
 pub returns-in-Ok-Some-clause-heard : goal.returns-in-Ok-Some-clause-heard
 returns-in-Ok-Some-clause-heard g c =
-    let is : option_map invocation_view (Some c.in-Ok-Some.invocation) ≡ invocation_of (map string_bytes c.args.words.now) = sym (ap (option_map invocation_view) c.in-Ok-Some.field-0-is) ∙ c.in-Ok-Some.ensures in
+    let is : option_map invocation_view (Some c.in-Ok-Some.invocation) ≡ invocation_of (map string_bytes c.args.words.now) = sym (ap (option_map invocation_view) c.in-Ok-Some.field-0-is) ∙ c.in-Ok-Some.ensures.says in
     subst (λ (o : Option Invocation). HasRun c.serve_invocation.result → GaveFor o (g.S.Source.given c.args.source.now) (g.S.Source.given c.serve_invocation.new.source) (g.S.Source.ended c.serve_invocation.new.source) (λ left. Heard (g.G.Gate.hears c.args.gate.now) o left)) is c.serve_invocation.ensures.heard
 
 -- ---- of a session
 
 pub returns-in-Ok-Some-clause-session : goal.returns-in-Ok-Some-clause-session
 returns-in-Ok-Some-clause-session g c =
-    let is : option_map invocation_view (Some c.in-Ok-Some.invocation) ≡ invocation_of (map string_bytes c.args.words.now) = sym (ap (option_map invocation_view) c.in-Ok-Some.field-0-is) ∙ c.in-Ok-Some.ensures in
+    let is : option_map invocation_view (Some c.in-Ok-Some.invocation) ≡ invocation_of (map string_bytes c.args.words.now) = sym (ap (option_map invocation_view) c.in-Ok-Some.field-0-is) ∙ c.in-Ok-Some.ensures.says in
     subst (λ (o : Option Invocation). SaysSession o (λ (asked : Option ℕ) (origin : Name). SessionRan asked origin (g.S.Source.given c.args.source.now) (g.S.Source.given c.serve_invocation.new.source) (g.S.Source.ended c.serve_invocation.new.source) (g.K.Sink.held c.args.sink.now) (g.K.Sink.held c.serve_invocation.new.sink) c.serve_invocation.result)) is c.serve_invocation.ensures.session
 
 pub returns-in-Ok-Some-clause-unwritten : goal.returns-in-Ok-Some-clause-unwritten
 returns-in-Ok-Some-clause-unwritten g c =
-    let is : option_map invocation_view (Some c.in-Ok-Some.invocation) ≡ invocation_of (map string_bytes c.args.words.now) = sym (ap (option_map invocation_view) c.in-Ok-Some.field-0-is) ∙ c.in-Ok-Some.ensures in
+    let is : option_map invocation_view (Some c.in-Ok-Some.invocation) ≡ invocation_of (map string_bytes c.args.words.now) = sym (ap (option_map invocation_view) c.in-Ok-Some.field-0-is) ∙ c.in-Ok-Some.ensures.says in
     subst (λ (o : Option Invocation). (IsSession o → ⊥) → IsUnwritten (streams o) c.serve_invocation.result → g.K.Sink.held c.serve_invocation.new.sink ≡ g.K.Sink.held c.args.sink.now) is c.serve_invocation.ensures.unwritten
 
 pub returns-in-Ok-Some-clause-taken : goal.returns-in-Ok-Some-clause-taken
 returns-in-Ok-Some-clause-taken g c =
-    let is : option_map invocation_view (Some c.in-Ok-Some.invocation) ≡ invocation_of (map string_bytes c.args.words.now) = sym (ap (option_map invocation_view) c.in-Ok-Some.field-0-is) ∙ c.in-Ok-Some.ensures in
+    let is : option_map invocation_view (Some c.in-Ok-Some.invocation) ≡ invocation_of (map string_bytes c.args.words.now) = sym (ap (option_map invocation_view) c.in-Ok-Some.field-0-is) ∙ c.in-Ok-Some.ensures.says in
     subst (λ (o : Option Invocation). (IsSession o → ⊥) → c.serve_invocation.result ≡ status.TooLong → (bytes : List ℕ) × Consumes (g.S.Source.left c.args.source.now) (g.S.Source.left c.serve_invocation.new.source) bytes × (g.S.Source.given c.serve_invocation.new.source ≡ g.S.Source.given c.args.source.now ++ bytes) × (length bytes ≡ 16777217)) is c.serve_invocation.ensures.taken
 
 pub returns-in-Ok-None-clause-session : goal.returns-in-Ok-None-clause-session
 returns-in-Ok-None-clause-session g c =
     let given = g.S.Source.given c.args.source.now in
-    let is : option_map invocation_view None ≡ invocation_of (map string_bytes c.args.words.now) = sym (ap (option_map invocation_view) c.in-Ok-None.field-0-is) ∙ c.in-Ok-None.ensures in
+    let is : option_map invocation_view None ≡ invocation_of (map string_bytes c.args.words.now) = sym (ap (option_map invocation_view) c.in-Ok-None.field-0-is) ∙ c.in-Ok-None.ensures.says in
     subst (λ (o : Option Invocation). SaysSession o (λ (asked : Option ℕ) (origin : Name). SessionRan asked origin given given (g.S.Source.ended c.args.source.now) (g.K.Sink.held c.args.sink.now) (g.K.Sink.held c.write_due.new.sink) c.write_due.result)) is tt
 
 pub returns-in-Err-clause-session : goal.returns-in-Err-clause-session

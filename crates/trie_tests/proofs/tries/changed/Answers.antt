@@ -10,21 +10,30 @@ use Rattle.trie_tests.proofs.tries.changed.Goals as goal
 leads : (item : Item) (key octets : List ℕ) → key ≡ (entry_of item).key → octets ≡ (entry_of item).item → Leads (entry_of item).key (entry_of item).item → Leads key octets
 leads item key octets k o l = subst (λ (x : List ℕ). Leads x octets) (sym k) (subst (λ (x : List ℕ). Leads (entry_of item).key x) (sym o) l)
 
+pub insert-requires : goal.insert-requires
+insert-requires g c = record { stands = c.requires.stands; leads = leads c.args.item.now c.key-key.result c.octets-octets.result.now c.key-key.ensures c.octets-octets.ensures.octets c.octets-octets.ensures.leads; ready = c.requires.ready }
+
+pub replace-requires : goal.replace-requires
+replace-requires g c = record { stands = c.requires.stands; leads = leads c.args.item.now c.key-key.result c.octets-octets.result.now c.key-key.ensures c.octets-octets.ensures.octets c.octets-octets.ensures.leads; ready = c.requires.ready }
+
+pub delete-requires : goal.delete-requires
+delete-requires g c = record { stands = c.requires.stands; ready = c.requires.ready }
+
 pub returns-in-Insert : goal.returns-in-Insert
 returns-in-Insert g c =
     let s = c.requires.stands in
     let e = entry_with c.key-key.result c.octets-octets.result.now in
     let here = leads c.args.item.now c.key-key.result c.octets-octets.result.now c.key-key.ensures c.octets-octets.ensures.octets c.octets-octets.ensures.leads in
-    ok_map c.insert.result (λ new h. let n = h s.0 s.1 s.2 in record { stands = (n.0, n.2, tells_more Leads e s.0 n.0 s.2 here n.1); ready = c.insert.ensures.ready }) c.insert.ensures.inserted
+    ok_map c.insert.result (λ new h. let n = h s.0 s.1 s.2 in record { stands = (n.0, n.2, tells_more Leads e s.0 n.0 s.2 here n.1); ready = c.insert.ensures.changes.ready }) c.insert.ensures.inserted
 
 pub returns-in-Replace : goal.returns-in-Replace
 returns-in-Replace g c =
     let s = c.requires.stands in
     let e = entry_with c.key-key.result c.octets-octets.result.now in
     let here = leads c.args.item.now c.key-key.result c.octets-octets.result.now c.key-key.ensures c.octets-octets.ensures.octets c.octets-octets.ensures.leads in
-    ok_map c.replace.result (λ new h. let n = h s.0 s.1 s.2 in record { stands = (n.0, n.2, tells_exchanged Leads e s.0 n.0 s.2 here n.1); ready = c.replace.ensures.ready }) c.replace.ensures.replaced
+    ok_map c.replace.result (λ new h. let n = h s.0 s.1 s.2 in record { stands = (n.0, n.2, tells_exchanged Leads e s.0 n.0 s.2 here n.1); ready = c.replace.ensures.changes.ready }) c.replace.ensures.replaced
 
 pub returns-in-Delete : goal.returns-in-Delete
 returns-in-Delete g c =
     let s = c.requires.stands in
-    ok_map c.delete.result (λ new h. let n = h s.0 s.1 s.2 in record { stands = (n.0, n.2, tells_fewer Leads c.key-key.result s.0 n.0 s.2 n.1); ready = c.delete.ensures.ready }) c.delete.ensures.deleted
+    ok_map c.delete.result (λ new h. let n = h s.0 s.1 s.2 in record { stands = (n.0, n.2, tells_fewer Leads c.key-key.result s.0 n.0 s.2 n.1); ready = c.delete.ensures.changes.ready }) c.delete.ensures.deleted

@@ -31,7 +31,7 @@ build_branch-build_front-requires g t c κs within =
     let short : 2 * length c.loop-beside.rest.now < 2 * length c.args.first.rest.now + 1 = omega arith in
     let h = c.requires.first in
     let m = c.loop-beside.invariant.making h.0 h.1 h.2 in
-    (search (rules, short), (within.0, (within.1, (some_left c.loop-beside.rest.now c.in-Some.beside c.in-Some.ensures.some.0 m.so_far, (m.so_far.rises, ((let e = m.so_far.early in omega arith), c.loop-beside.invariant.ready))))))
+    (search (rules, short), (within.0, (within.1, record { some = some_left c.loop-beside.rest.now c.in-Some.beside c.in-Some.ensures.some.0 m.so_far; rising = m.so_far.rises; low = (let e = m.so_far.early in omega arith); ready = c.loop-beside.invariant.ready })))
 
 pub build_branch-returns-in_err-twig-clause-stopped : goal.build_branch-returns-in_err-twig-clause-stopped
 build_branch-returns-in_err-twig-clause-stopped g t c = err_all c.from_residual.result (λ _ base es b.
@@ -62,27 +62,28 @@ build_branch-with-positions-requires-clause-absent g t c =
 pub build_branch-loop-beside-preserved : goal.build_branch-loop-beside-preserved
 build_branch-loop-beside-preserved g t c =
     let next : c.args.point.offset + 1 ≡ suc c.args.point.offset = omega arith in
-    let frame = c.in_ok-twig.ensures.frame in
-    let twig = subst (λ (k : ℕ). BuiltFront (g.C.CellRead.has c.build_front.new.cells) (g.U.Space.account c.loop-beside.usage) (g.U.Space.account c.build_front.new.usage) k (entries_of_items c.loop-beside.rest.now) (entries_of_items c.in_ok-twig.twig.rest.now) c.in_ok-twig.twig.next c.in_ok-twig.twig.cell) next c.in_ok-twig.ensures.built in
+    let frame = c.in_ok-twig.ensures.adds.frame in
+    let twig = subst (λ (k : ℕ). BuiltFront (g.C.CellRead.has c.build_front.new.cells) (g.U.Space.account c.loop-beside.usage) (g.U.Space.account c.build_front.new.usage) k (entries_of_items c.loop-beside.rest.now) (entries_of_items c.in_ok-twig.twig.rest.now) c.in_ok-twig.twig.next c.in_ok-twig.twig.cell) next c.in_ok-twig.ensures.front.built in
     record {
       making = λ base es b.
           let m = building.making_as (sym c.in-Some.ensures.some.0) refl refl (c.loop-beside.invariant.making base es b) in
           building.making_as refl c.with-positions.ensures c.push-in-Some.ensures (building.making_more m c.in-Some.ensures.some.1 twig frame.stays frame.grows.stays);
-      shorter = (let a = c.in_ok-twig.ensures.shorter in let b = c.loop-beside.invariant.shorter in omega arith);
-      went = λ _. let a = c.in_ok-twig.ensures.shorter in let b = c.loop-beside.invariant.shorter in omega arith;
+      shorter = (let a = c.in_ok-twig.ensures.front.shorter in let b = c.loop-beside.invariant.shorter in omega arith);
+      went = λ _. let a = c.in_ok-twig.ensures.front.shorter in let b = c.loop-beside.invariant.shorter in omega arith;
       frame = frame_then c.loop-beside.invariant.frame frame;
-      ready = c.in_ok-twig.ensures.ready;
+      ready = c.in_ok-twig.ensures.adds.ready;
     }
 
-pub build_branch-lay_row-requires-clause-some : goal.build_branch-lay_row-requires-clause-some
-build_branch-lay_row-requires-clause-some g t c =
+pub build_branch-lay_row-requires : goal.build_branch-lay_row-requires
+build_branch-lay_row-requires g t c =
     let h = c.requires.first in
     let two = building.row_some (c.loop-beside.invariant.making h.0 h.1 h.2) (c.in_default.ensures.none refl) in
-    let n = ap (λ (xs : List Cell). length xs) c.as_slice.ensures.cells in omega arith
+    let n = ap (λ (xs : List Cell). length xs) c.as_slice.ensures.cells in
+    record { some = omega arith; few = (let f = c.as_slice.ensures.few in omega arith); ready = c.loop-beside.invariant.ready }
 
 pub build_branch-returns-in_err-twigs-clause-stopped : goal.build_branch-returns-in_err-twigs-clause-stopped
 build_branch-returns-in_err-twigs-clause-stopped g t c = err_all c.from_residual-in_err-twigs.result (λ _ base es b.
-    building.stopped_here (c.loop-beside.invariant.making base es b) (c.in_default.ensures.none refl) (let n = ap (λ (xs : List Cell). length xs) c.as_slice.ensures.cells in let s = c.lay_row.ensures.consumes in omega arith))
+    building.stopped_here (c.loop-beside.invariant.making base es b) (c.in_default.ensures.none refl) (let n = ap (λ (xs : List Cell). length xs) c.as_slice.ensures.cells in let s = c.lay_row.ensures.takes.consumes in omega arith))
 
 pub build_branch-pack-cell-requires : goal.build_branch-pack-cell-requires
 build_branch-pack-cell-requires g t c =
@@ -90,16 +91,25 @@ build_branch-pack-cell-requires g t c =
     let handed = subst (λ (cs : List Cell). Handed (g.U.Space.account c.loop-beside.usage) (g.U.Space.account c.lay_row.new.usage) c.in_ok-twigs.twigs (length cs)) c.as_slice.ensures.cells c.in_ok-twigs.ensures.handed in
     building.branch_node (c.loop-beside.invariant.making h.0 h.1 h.2) (c.in_default.ensures.none refl) handed
 
-pub build_branch-returns-clause-built : goal.build_branch-returns-clause-built
-build_branch-returns-clause-built g t c base es b =
-    let handed = subst (λ (cs : List Cell). Handed (g.U.Space.account c.loop-beside.usage) (g.U.Space.account c.lay_row.new.usage) c.in_ok-twigs.twigs (length cs)) c.as_slice.ensures.cells c.in_ok-twigs.ensures.handed in
-    let frame = c.in_ok-twigs.ensures.frame in
-    building.branch_built (c.loop-beside.invariant.making base es b) (c.in_default.ensures.none refl) handed frame.stays frame.grows.stays
-    (λ i x e. c.in_ok-twigs.ensures.written i x (subst (λ (cs : List Cell). slice_get cs i ≡ Some x) (sym c.as_slice.ensures.cells) e))
-    (let n = ap (λ (xs : List Cell). length xs) c.as_slice.ensures.cells in let s = c.in_ok-twigs.ensures.consumes in omega arith) c.pack-cell.ensures
+pub build_branch-returns-clause-branch : goal.build_branch-returns-clause-branch
+build_branch-returns-clause-branch g t c = record {
+  built = λ base es b.
+      let handed = subst (λ (cs : List Cell). Handed (g.U.Space.account c.loop-beside.usage) (g.U.Space.account c.lay_row.new.usage) c.in_ok-twigs.twigs (length cs)) c.as_slice.ensures.cells c.in_ok-twigs.ensures.handed in
+      let frame = c.in_ok-twigs.ensures.takes.frame in
+      building.branch_built (c.loop-beside.invariant.making base es b) (c.in_default.ensures.none refl) handed frame.stays frame.grows.stays
+      (λ i x e. c.in_ok-twigs.ensures.written i x (subst (λ (cs : List Cell). slice_get cs i ≡ Some x) (sym c.as_slice.ensures.cells) e))
+      (let n = ap (λ (xs : List Cell). length xs) c.as_slice.ensures.cells in let s = c.in_ok-twigs.ensures.takes.consumes in omega arith) c.pack-cell.ensures;
+  shorter = c.loop-beside.invariant.went (c.in_default.ensures.none refl);
+}
 
-pub build_branch-returns-clause-shorter : goal.build_branch-returns-clause-shorter
-build_branch-returns-clause-shorter g t c = c.loop-beside.invariant.went (c.in_default.ensures.none refl)
+pub build_branch-returns-clause-adds : goal.build_branch-returns-clause-adds
+build_branch-returns-clause-adds g t c = record { frame = frame_then c.loop-beside.invariant.frame c.in_ok-twigs.ensures.takes.frame; ready = c.in_ok-twigs.ensures.takes.ready }
+
+pub build_branch-returns-in_err-twigs-clause-adds : goal.build_branch-returns-in_err-twigs-clause-adds
+build_branch-returns-in_err-twigs-clause-adds g t c = record { frame = frame_then c.loop-beside.invariant.frame c.lay_row.ensures.takes.frame; ready = c.lay_row.ensures.takes.ready }
+
+pub build_branch-returns-in_err-twig-clause-adds : goal.build_branch-returns-in_err-twig-clause-adds
+build_branch-returns-in_err-twig-clause-adds g t c = record { frame = frame_then c.loop-beside.invariant.frame c.build_front.ensures.adds.frame; ready = c.build_front.ensures.adds.ready }
 
 -- ---- the first items
 
@@ -124,8 +134,8 @@ build_front-loop-above-init g t c =
         ),
       );
       shorter = (let n = split.1 in omega arith);
-      frame = c.in_ok-cell.ensures.frame;
-      ready = c.in_ok-cell.ensures.ready;
+      frame = c.in_ok-cell.ensures.adds.frame;
+      ready = c.in_ok-cell.ensures.adds.ready;
     }
 
 pub build_front-build_branch-requires : goal.build_front-build_branch-requires
@@ -133,7 +143,7 @@ build_front-build_branch-requires g t c κs within =
     let shorter = c.loop-above.invariant.shorter in
     let short : 2 * length c.loop-above.part.rest.now + 1 < 2 * length c.args.items.now = omega arith in
     let w = c.loop-above.invariant.built in
-    (search (rules, short), (within.0, (within.1, ((g.U.Space.account c.args.usage.now, entries_of_items c.args.items.now, building.built_point c.in-Some.above c.in-Some.ensures.some.0 w.2), (c.in-Some.ensures.some.0, c.loop-above.invariant.ready)))))
+    (search (rules, short), (within.0, (within.1, record { first = (g.U.Space.account c.args.usage.now, entries_of_items c.args.items.now, building.built_point c.in-Some.above c.in-Some.ensures.some.0 w.2); point = c.in-Some.ensures.some.0; ready = c.loop-above.invariant.ready })))
 
 pub build_front-returns-in_err-part-clause-stopped : goal.build_front-returns-in_err-part-clause-stopped
 build_front-returns-in_err-part-clause-stopped g t c =
@@ -144,11 +154,17 @@ pub build_front-loop-above-preserved : goal.build_front-loop-above-preserved
 build_front-loop-above-preserved g t c =
     let w = c.loop-above.invariant.built in
     record {
-      built = (c.in-Some.above.offset, c.in-Some.ensures.some.1, c.in_ok-part.ensures.built (g.U.Space.account c.args.usage.now) (entries_of_items c.args.items.now) (building.built_point c.in-Some.above c.in-Some.ensures.some.0 w.2));
-      shorter = (let a = c.in_ok-part.ensures.shorter in let b = c.loop-above.invariant.shorter in omega arith);
-      frame = frame_then c.loop-above.invariant.frame c.in_ok-part.ensures.frame;
-      ready = c.in_ok-part.ensures.ready;
+      built = (c.in-Some.above.offset, c.in-Some.ensures.some.1, c.in_ok-part.ensures.branch.built (g.U.Space.account c.args.usage.now) (entries_of_items c.args.items.now) (building.built_point c.in-Some.above c.in-Some.ensures.some.0 w.2));
+      shorter = (let a = c.in_ok-part.ensures.branch.shorter in let b = c.loop-above.invariant.shorter in omega arith);
+      frame = frame_then c.loop-above.invariant.frame c.in_ok-part.ensures.adds.frame;
+      ready = c.in_ok-part.ensures.adds.ready;
     }
 
-pub build_front-returns-clause-built : goal.build_front-returns-clause-built
-build_front-returns-clause-built g t c = let w = c.loop-above.invariant.built in building.built_lower w.2 w.1 (c.in_default.ensures.none refl)
+pub build_front-returns-clause-front : goal.build_front-returns-clause-front
+build_front-returns-clause-front g t c = let w = c.loop-above.invariant.built in record { built = building.built_lower w.2 w.1 (c.in_default.ensures.none refl); shorter = c.loop-above.invariant.shorter }
+
+pub build_front-returns-clause-adds : goal.build_front-returns-clause-adds
+build_front-returns-clause-adds g t c = record { frame = c.loop-above.invariant.frame; ready = c.loop-above.invariant.ready }
+
+pub build_front-returns-in_err-part-clause-adds : goal.build_front-returns-in_err-part-clause-adds
+build_front-returns-in_err-part-clause-adds g t c = record { frame = frame_then c.loop-above.invariant.frame c.build_branch.ensures.adds.frame; ready = c.build_branch.ensures.adds.ready }

@@ -1,9 +1,8 @@
 use Rattle.std.proofs.Common.{ℕ, List, Contains, sym, subst, arith}
-use Rattle.chunk_usage.specs.declared.space.Shortage.{Shortage}
 use Rattle.trie_write.specs.Paths.{delete_asks}
-use Rattle.trie_write.proofs.RefusalLaws.{asked_full, not_refused}
+use Rattle.trie_write.proofs.RefusalLaws.{changes_none, not_refused, stays_full, stays_refused}
 use Rattle.trie_write.proofs.RootLaws.{stands_of}
-use Rattle.trie_space.proofs.SpaceLaws.{err_on}
+use Rattle.trie_space.proofs.SpaceLaws.{err_on, fenced_same, refused_same}
 use Rattle.trie_write.proofs.ReplaceLaws.{has_key, on_path, on_branches, copied_path, beyond_key, trie_later}
 use Rattle.trie_write.proofs.deletion.delete.Goals as goal
 
@@ -24,36 +23,48 @@ returns-in_ok-delete_item-in-Some-clause-absent g c version h tells = let x = c.
 pub returns-in_err-delete_item-in-Some-clause-absent : goal.returns-in_err-delete_item-in-Some-clause-absent
 returns-in_err-delete_item-in-Some-clause-absent g c version h tells = let x = c.in-Some.ensures.there version (stands_of _ _ _ version c.args.root h) tells in (λ e. absurd (not_refused _ _ c.from_residual.ensures.1 e), λ never. absurd (never x.0 x.1 x.2))
 
-pub returns-in_ok-delete_item-in-Some-clause-outside : goal.returns-in_ok-delete_item-in-Some-clause-outside
-returns-in_ok-delete_item-in-Some-clause-outside g c q x b h =
-    let o = beyond_key c.in-Some.ensures.same c.in-Some.ensures.root q b c.in-Some.ensures.there in
-    c.delete_item.ensures.outside o.0 o.1 o.2 q x b.0 o.3 (subst (λ s. g.C.CellRead.has s q x) (sym c.in-Some.ensures.same) h)
+pub returns-in_ok-delete_item-in-Some-clause-changes : goal.returns-in_ok-delete_item-in-Some-clause-changes
+returns-in_ok-delete_item-in-Some-clause-changes g c = record {
+  outside = λ q x b h.
+      let o = beyond_key c.in-Some.ensures.same c.in-Some.ensures.root q b c.in-Some.ensures.there in
+      c.delete_item.ensures.changes.outside o.0 o.1 o.2 q x b.0 o.3 (subst (λ s. g.C.CellRead.has s q x) (sym c.in-Some.ensures.same) h);
+  consumes = λ n on.
+      let o = on_path c.in-Some.ensures.same c.in-Some.ensures.root n on c.in-Some.ensures.there in
+      let m = c.delete_item.ensures.changes.consumes o.0 o.1 o.2 in let e = o.3 in omega arith;
+  copies = λ n on.
+      let o = copied_path c.in-Some.ensures.same c.in-Some.ensures.root n on c.in-Some.ensures.there in
+      let m = c.delete_item.ensures.changes.copies o.0 o.1 o.2 in let e = o.3 in omega arith;
+  frame = fenced_same c.in-Some.ensures.same c.delete_item.ensures.changes.frame;
+  ready = c.delete_item.ensures.changes.ready;
+}
 
-pub returns-in_ok-delete_item-in-Some-clause-consumes : goal.returns-in_ok-delete_item-in-Some-clause-consumes
-returns-in_ok-delete_item-in-Some-clause-consumes g c n on =
-    let o = on_path c.in-Some.ensures.same c.in-Some.ensures.root n on c.in-Some.ensures.there in
-    let m = c.delete_item.ensures.consumes o.0 o.1 o.2 in let e = o.3 in omega arith
+pub returns-in_err-delete_item-in-Some-clause-changes : goal.returns-in_err-delete_item-in-Some-clause-changes
+returns-in_err-delete_item-in-Some-clause-changes g c = record {
+  outside = λ q x b h.
+      let o = beyond_key c.in-Some.ensures.same c.in-Some.ensures.root q b c.in-Some.ensures.there in
+      c.delete_item.ensures.changes.outside o.0 o.1 o.2 q x b.0 o.3 (subst (λ s. g.C.CellRead.has s q x) (sym c.in-Some.ensures.same) h);
+  consumes = λ n on.
+      let o = on_path c.in-Some.ensures.same c.in-Some.ensures.root n on c.in-Some.ensures.there in
+      let m = c.delete_item.ensures.changes.consumes o.0 o.1 o.2 in let e = o.3 in omega arith;
+  copies = λ n on.
+      let o = copied_path c.in-Some.ensures.same c.in-Some.ensures.root n on c.in-Some.ensures.there in
+      let m = c.delete_item.ensures.changes.copies o.0 o.1 o.2 in let e = o.3 in omega arith;
+  frame = fenced_same c.in-Some.ensures.same c.delete_item.ensures.changes.frame;
+  ready = c.delete_item.ensures.changes.ready;
+}
 
-pub returns-in_err-delete_item-in-Some-clause-consumes : goal.returns-in_err-delete_item-in-Some-clause-consumes
-returns-in_err-delete_item-in-Some-clause-consumes g c n on =
-    let o = on_path c.in-Some.ensures.same c.in-Some.ensures.root n on c.in-Some.ensures.there in
-    let m = c.delete_item.ensures.consumes o.0 o.1 o.2 in let e = o.3 in omega arith
+pub returns-in_err-delete_item-in-Some-clause-stays : goal.returns-in_err-delete_item-in-Some-clause-stays
+returns-in_err-delete_item-in-Some-clause-stays g c =
+    let same = c.in-Some.ensures.same in let lacks = c.in_err-delete_item-in-Some.ensures.lacks in
+    err_on _ c.from_residual.result c.from_residual.ensures.1 (stays_full
+    (λ version h. trie_later version c.args.root same lacks.refused c.in_err-delete_item-in-Some.ensures.changes.frame h)
+    (refused_same same lacks.refused)
+    (λ branches on.
+    let o = on_branches same c.in-Some.ensures.root branches on c.in-Some.ensures.there in
+    subst (λ (ns : List ℕ). Contains (delete_asks ns) c.in_err-delete_item-in-Some.field-0.0.needed) (sym o.3) (lacks.asked o.0 o.1 o.2)))
 
-pub returns-in_err-delete_item-in-Some-clause-asked : goal.returns-in_err-delete_item-in-Some-clause-asked
-returns-in_err-delete_item-in-Some-clause-asked g c f e branches on =
-    let o = on_branches c.in-Some.ensures.same c.in-Some.ensures.root branches on c.in-Some.ensures.there in
-    asked_full (λ (x : Shortage). Contains (delete_asks branches) x.needed) _ c.from_residual.result c.from_residual.ensures.1 (subst (λ (ns : List ℕ). Contains (delete_asks ns) c.in_err-delete_item-in-Some.field-0.0.needed) (sym o.3) (c.in_err-delete_item-in-Some.ensures.asked o.0 o.1 o.2)) f e
+pub returns-in-None-clause-stays : goal.returns-in-None-clause-stays
+returns-in-None-clause-stays g c = stays_refused c.root_with.ensures.same
 
-pub returns-in_ok-delete_item-in-Some-clause-copies : goal.returns-in_ok-delete_item-in-Some-clause-copies
-returns-in_ok-delete_item-in-Some-clause-copies g c n on =
-    let o = copied_path c.in-Some.ensures.same c.in-Some.ensures.root n on c.in-Some.ensures.there in
-    let m = c.delete_item.ensures.copies o.0 o.1 o.2 in let e = o.3 in omega arith
-
-pub returns-in_err-delete_item-in-Some-clause-copies : goal.returns-in_err-delete_item-in-Some-clause-copies
-returns-in_err-delete_item-in-Some-clause-copies g c n on =
-    let o = copied_path c.in-Some.ensures.same c.in-Some.ensures.root n on c.in-Some.ensures.there in
-    let m = c.delete_item.ensures.copies o.0 o.1 o.2 in let e = o.3 in omega arith
-
-pub returns-in_err-delete_item-in-Some-clause-refused : goal.returns-in_err-delete_item-in-Some-clause-refused
-returns-in_err-delete_item-in-Some-clause-refused g c =
-    err_on _ c.from_residual.result c.from_residual.ensures.1 (λ version h. trie_later version c.args.root c.in-Some.ensures.same c.in_err-delete_item-in-Some.ensures.refused c.in_err-delete_item-in-Some.ensures.frame h)
+pub returns-in-None-clause-changes : goal.returns-in-None-clause-changes
+returns-in-None-clause-changes g c = changes_none c.root_with.ensures.same c.requires.ready

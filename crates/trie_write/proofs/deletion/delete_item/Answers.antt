@@ -39,27 +39,29 @@ returns-in-None g c =
       stands = λ t version h.
           let alone = c.last_descent.ensures.none c.in-None.is h.way _ (same_top g.C.CellRead.has c.cell-node.ensures.same (root_top h c.cell-node.ensures.value)) h.is_way in
           only_gone h alone (only_item h alone (c.last_descent.ensures.same ∙ c.cell-node.ensures.same) c.cell-node.ensures.value c.item_below-item.ensures.len c.item_below-item.ensures.there) c.let_go.ensures.counts;
-      outside = λ t version h q x used out there. subst (λ s. g.C.CellRead.has s q x) (sym same) there;
-      consumes = λ t version h. omega arith;
-      copies = λ t version h. omega arith;
-      refused = tt;
-      asked = tt;
-      frame = fenced_of (frame_counts (frame_same same (frame_refl _ _)) c.let_go.ensures.rest (λ k. let e = c.let_go.ensures.counts k in omega arith));
-      ready = ready_counts c.let_go.ensures.rest (ready_put c.requires.ready (ap g.C.CellWrite.given same) (ap g.C.CellWrite.kept same));
+      lacks = tt;
+      changes = record {
+        outside = λ t version h q x used out there. subst (λ s. g.C.CellRead.has s q x) (sym same) there;
+        consumes = λ t version h. omega arith;
+        copies = λ t version h. omega arith;
+        frame = fenced_of (frame_counts (frame_same same (frame_refl _ _)) c.let_go.ensures.rest (λ k. let e = c.let_go.ensures.counts k in omega arith));
+        ready = ready_counts c.let_go.ensures.rest (ready_put c.requires.ready (ap g.C.CellWrite.given same) (ap g.C.CellWrite.kept same));
+      };
     }
 
 pub returns-in-Ok : goal.returns-in-Ok
 returns-in-Ok g c =
     let same = c.in-Some.ensures.same ∙ c.cell-node.ensures.same in
     record {
-      stands = λ t version h. c.in-Ok.ensures.stands t version (drop_asks (c.in-Some.ensures.same ∙ c.cell-node.ensures.same) h (c.in-Some.ensures.last h.way _ (same_top g.C.CellRead.has c.cell-node.ensures.same (root_top h c.cell-node.ensures.value)) h.is_way));
-      outside = λ t version h q x used out there. c.drop_leaf.ensures.outside t version (drop_asks (c.in-Some.ensures.same ∙ c.cell-node.ensures.same) h (c.in-Some.ensures.last h.way _ (same_top g.C.CellRead.has c.cell-node.ensures.same (root_top h c.cell-node.ensures.value)) h.is_way)) q x used out (subst (λ s. g.C.CellRead.has s q x) (sym same) there);
-      consumes = λ t version h. c.drop_leaf.ensures.consumes t version (drop_asks (c.in-Some.ensures.same ∙ c.cell-node.ensures.same) h (c.in-Some.ensures.last h.way _ (same_top g.C.CellRead.has c.cell-node.ensures.same (root_top h c.cell-node.ensures.value)) h.is_way));
-      copies = λ t version h. c.drop_leaf.ensures.copies t version (drop_asks (c.in-Some.ensures.same ∙ c.cell-node.ensures.same) h (c.in-Some.ensures.last h.way _ (same_top g.C.CellRead.has c.cell-node.ensures.same (root_top h c.cell-node.ensures.value)) h.is_way));
-      refused = tt;
-      asked = tt;
-      frame = fenced_same same c.drop_leaf.ensures.frame;
-      ready = c.drop_leaf.ensures.ready;
+      stands = λ t version h. c.in-Ok.ensures.stands t version (drop_asks same h (c.in-Some.ensures.last h.way _ (same_top g.C.CellRead.has c.cell-node.ensures.same (root_top h c.cell-node.ensures.value)) h.is_way));
+      lacks = tt;
+      changes = record {
+        outside = λ t version h q x used out there. c.drop_leaf.ensures.changes.outside t version (drop_asks same h (c.in-Some.ensures.last h.way _ (same_top g.C.CellRead.has c.cell-node.ensures.same (root_top h c.cell-node.ensures.value)) h.is_way)) q x used out (subst (λ s. g.C.CellRead.has s q x) (sym same) there);
+        consumes = λ t version h. c.drop_leaf.ensures.changes.consumes t version (drop_asks same h (c.in-Some.ensures.last h.way _ (same_top g.C.CellRead.has c.cell-node.ensures.same (root_top h c.cell-node.ensures.value)) h.is_way));
+        copies = λ t version h. c.drop_leaf.ensures.changes.copies t version (drop_asks same h (c.in-Some.ensures.last h.way _ (same_top g.C.CellRead.has c.cell-node.ensures.same (root_top h c.cell-node.ensures.value)) h.is_way));
+        frame = fenced_same same c.drop_leaf.ensures.changes.frame;
+        ready = c.drop_leaf.ensures.changes.ready;
+      };
     }
 
 pub returns-in-Err : goal.returns-in-Err
@@ -67,13 +69,17 @@ returns-in-Err g c =
     let same = c.in-Some.ensures.same ∙ c.cell-node.ensures.same in
     record {
       stands = tt;
-      outside = λ t version h q x used out there. c.drop_leaf.ensures.outside t version (drop_asks (c.in-Some.ensures.same ∙ c.cell-node.ensures.same) h (c.in-Some.ensures.last h.way _ (same_top g.C.CellRead.has c.cell-node.ensures.same (root_top h c.cell-node.ensures.value)) h.is_way)) q x used out (subst (λ s. g.C.CellRead.has s q x) (sym same) there);
-      consumes = λ t version h. c.drop_leaf.ensures.consumes t version (drop_asks (c.in-Some.ensures.same ∙ c.cell-node.ensures.same) h (c.in-Some.ensures.last h.way _ (same_top g.C.CellRead.has c.cell-node.ensures.same (root_top h c.cell-node.ensures.value)) h.is_way));
-      copies = λ t version h. c.drop_leaf.ensures.copies t version (drop_asks (c.in-Some.ensures.same ∙ c.cell-node.ensures.same) h (c.in-Some.ensures.last h.way _ (same_top g.C.CellRead.has c.cell-node.ensures.same (root_top h c.cell-node.ensures.value)) h.is_way));
-      refused = refused_same same c.in-Err.ensures.refused;
-      asked = λ t version h. c.in-Err.ensures.asked t version (drop_asks (c.in-Some.ensures.same ∙ c.cell-node.ensures.same) h (c.in-Some.ensures.last h.way _ (same_top g.C.CellRead.has c.cell-node.ensures.same (root_top h c.cell-node.ensures.value)) h.is_way));
-      frame = fenced_same same c.drop_leaf.ensures.frame;
-      ready = c.drop_leaf.ensures.ready;
+      lacks = record {
+        refused = refused_same same c.in-Err.ensures.lacks.refused;
+        asked = λ t version h. c.in-Err.ensures.lacks.asked t version (drop_asks same h (c.in-Some.ensures.last h.way _ (same_top g.C.CellRead.has c.cell-node.ensures.same (root_top h c.cell-node.ensures.value)) h.is_way));
+      };
+      changes = record {
+        outside = λ t version h q x used out there. c.drop_leaf.ensures.changes.outside t version (drop_asks same h (c.in-Some.ensures.last h.way _ (same_top g.C.CellRead.has c.cell-node.ensures.same (root_top h c.cell-node.ensures.value)) h.is_way)) q x used out (subst (λ s. g.C.CellRead.has s q x) (sym same) there);
+        consumes = λ t version h. c.drop_leaf.ensures.changes.consumes t version (drop_asks same h (c.in-Some.ensures.last h.way _ (same_top g.C.CellRead.has c.cell-node.ensures.same (root_top h c.cell-node.ensures.value)) h.is_way));
+        copies = λ t version h. c.drop_leaf.ensures.changes.copies t version (drop_asks same h (c.in-Some.ensures.last h.way _ (same_top g.C.CellRead.has c.cell-node.ensures.same (root_top h c.cell-node.ensures.value)) h.is_way));
+        frame = fenced_same same c.drop_leaf.ensures.changes.frame;
+        ready = c.drop_leaf.ensures.changes.ready;
+      };
     }
 
 pub item_below-item-requires : goal.item_below-item-requires

@@ -16,10 +16,14 @@ release-requires g t c =
       together = (let r = are.1.together in let n = c.content_cells_for.ensures in omega arith);
     }
 
-pub returns-then-len-le-LAST_OCTETS-clause-counts : goal.returns-then-len-le-LAST_OCTETS-clause-counts
-returns-then-len-le-LAST_OCTETS-clause-counts g t c k =
-    let one = one_extent c.args.len c.args.at.now (omega arith) (let e = c.requires.enough in omega arith) in
-    let w = ap (weigh_extents (in_chunk k) c.args.len) one in let n = ap (row (in_chunk k) (slice_index c.args.at.now 0)) c.content_cells_for.ensures in let r = c.release.ensures.counts k in omega arith
+pub returns-then-len-le-LAST_OCTETS : goal.returns-then-len-le-LAST_OCTETS
+returns-then-len-le-LAST_OCTETS g t c = record {
+  counts = λ k.
+      let one = one_extent c.args.len c.args.at.now (omega arith) (let e = c.requires.enough in omega arith) in
+      let w = ap (weigh_extents (in_chunk k) c.args.len) one in let n = ap (row (in_chunk k) (slice_index c.args.at.now 0)) c.content_cells_for.ensures in let r = c.release.ensures.counts k in omega arith;
+  rest = c.release.ensures.rest;
+  lack = c.release.ensures.lacks;
+}
 
 -- ---- several extents
 pub release-requires-2 : goal.release-requires-2
@@ -55,16 +59,17 @@ release_extents-requires g t c κs within =
       ),
     )
 
-pub returns-clause-counts : goal.returns-clause-counts
-returns-clause-counts g t c k =
-    let enough = c.requires.enough in
-    let places = length-drop 1 c.args.at.now in
-    let at_is : take (length c.args.at.now - 1) (drop 1 c.args.at.now) ≡ drop 1 c.args.at.now = take_all (length c.args.at.now - 1) (drop 1 c.args.at.now) (omega arith) in
-    let more = more_extents c.args.len c.args.at.now (omega arith) (omega arith) in
-    let w = ap (weigh_extents (in_chunk k) c.args.len) more in
-    let v = ap (λ (rs : List ℕ). weigh_extents (in_chunk k) (c.args.len - 4080) (extents_at (links (c.args.len - 4080)) rs)) at_is in
-    let n = ap (row (in_chunk k) (slice_index c.args.at.now 0)) c.linked_extent.ensures in
-    let r = c.release-2.ensures.counts k in let q = c.release_extents.ensures.counts k in omega arith
-
-pub returns-clause-rest : goal.returns-clause-rest
-returns-clause-rest g t c = c.release_extents.ensures.rest ∙ ap (λ (z : Account). record z { live = (g.U.Space.account c.release_extents.new.usage).live }) c.release-2.ensures.rest
+pub returns : goal.returns
+returns g t c = record {
+  counts = λ k.
+      let enough = c.requires.enough in
+      let places = length-drop 1 c.args.at.now in
+      let at_is : take (length c.args.at.now - 1) (drop 1 c.args.at.now) ≡ drop 1 c.args.at.now = take_all (length c.args.at.now - 1) (drop 1 c.args.at.now) (omega arith) in
+      let more = more_extents c.args.len c.args.at.now (omega arith) (omega arith) in
+      let w = ap (weigh_extents (in_chunk k) c.args.len) more in
+      let v = ap (λ (rs : List ℕ). weigh_extents (in_chunk k) (c.args.len - 4080) (extents_at (links (c.args.len - 4080)) rs)) at_is in
+      let n = ap (row (in_chunk k) (slice_index c.args.at.now 0)) c.linked_extent.ensures in
+      let r = c.release-2.ensures.counts k in let q = c.release_extents.ensures.counts k in omega arith;
+  rest = c.release_extents.ensures.rest ∙ ap (λ (z : Account). record z { live = (g.U.Space.account c.release_extents.new.usage).live }) c.release-2.ensures.rest;
+  lack = λ f h. c.release_extents.ensures.lack f (c.release-2.ensures.lacks f h);
+}

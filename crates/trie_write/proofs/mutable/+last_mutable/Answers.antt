@@ -1,7 +1,7 @@
 use Rattle.std.proofs.Common.{◌+◌, ◌-◌, ◌/◌, ◌<◌, Bool, List, Fits-lit, arith, sym, ◌∙◌, ap, subst, rules}
 use Rattle.std.proofs.Math.Facts.{Fits-lt}
 use Rattle.chunk_cells.specs.Chunks.{IsGiven}
-use Rattle.trie_space.specs.Spaces.{Ready}
+use Rattle.trie_space.specs.Spaces.{IsWritable, Ready}
 use Rattle.trie_write.specs.Mutable.{IsParted}
 use Rattle.trie_write.proofs.DescentLaws.{known}
 use Rattle.trie_write.proofs.CopyLaws.{n_here, cell_used, old_lies, asks_on}
@@ -42,16 +42,25 @@ last_mutable-requires g t c κs within =
       ),
     )
 
-pub returns-in-None-clause-parted : goal.returns-in-None-clause-parted
-returns-in-None-clause-parted g t c way end a = parted_end (c.next_descent.ensures.none c.in-None.is c.args.low way end a.hangs.top a.is_way) c.requires.writable.mutable a.hangs.top.is
+pub returns-in-None-clause-last : goal.returns-in-None-clause-last
+returns-in-None-clause-last g t c = record {
+  parted = λ way end a. parted_end (c.next_descent.ensures.none c.in-None.is c.args.low way end a.hangs.top a.is_way) c.requires.writable.mutable a.hangs.top.is;
+  writable = subst (λ s. IsWritable g.C.CellWrite.given g.U.Space.account s c.args.usage.now c.args.from.at) (sym c.next_descent.ensures.same) c.requires.writable;
+}
 
-pub returns-else-is_mutable-clause-parted : goal.returns-else-is_mutable-clause-parted
-returns-else-is_mutable-clause-parted g t c way end a =
-    let told = c.in-Some.ensures.on c.args.low way end a.hangs.top a.is_way in
-    parted_here _ told.through.is c.requires.writable.mutable (ap (λ i. (g.U.Space.account c.args.usage.now).mutable (c.in-Some.descent.branch.twigs + i)) (sym told.index_is) ∙ sym c.is_mutable.ensures.value ∙ c.if-is_mutable.false) a.hangs.top.is
+pub returns-else-is_mutable-clause-last : goal.returns-else-is_mutable-clause-last
+returns-else-is_mutable-clause-last g t c = record {
+  parted = λ way end a.
+      let told = c.in-Some.ensures.on c.args.low way end a.hangs.top a.is_way in
+      parted_here _ told.through.is c.requires.writable.mutable (ap (λ i. (g.U.Space.account c.args.usage.now).mutable (c.in-Some.descent.branch.twigs + i)) (sym told.index_is) ∙ sym c.is_mutable.ensures.value ∙ c.if-is_mutable.false) a.hangs.top.is;
+  writable = subst (λ s. IsWritable g.C.CellWrite.given g.U.Space.account s c.args.usage.now c.args.from.at) (sym c.next_descent.ensures.same) c.requires.writable;
+}
 
-pub returns-then-is_mutable-clause-parted : goal.returns-then-is_mutable-clause-parted
-returns-then-is_mutable-clause-parted g t c way end a =
-    let told = c.in-Some.ensures.on c.args.low way end a.hangs.top a.is_way in
-    let next = asks_on a told.through {a1 = c.args.usage.now} {next = c.in-Some.descent.next} (λ z. omega arith) (λ q x u h. subst (λ s. g.C.CellRead.has s q x) (sym c.next_descent.ensures.same) h) (λ q u. u) told.next_is in
-    parted_on _ told.through.is c.requires.writable.mutable (subst (λ i. IsParted (g.U.Space.account c.args.usage.now).mutable (c.in-Some.descent.branch.twigs + i) told.through.rest end c.last_mutable.result.at c.last_mutable.result.node) told.index_is (c.last_mutable.ensures.parted told.through.rest end next))
+pub returns-then-is_mutable-clause-last : goal.returns-then-is_mutable-clause-last
+returns-then-is_mutable-clause-last g t c = record {
+  parted = λ way end a.
+      let told = c.in-Some.ensures.on c.args.low way end a.hangs.top a.is_way in
+      let next = asks_on a told.through {a1 = c.args.usage.now} {next = c.in-Some.descent.next} (λ z. omega arith) (λ q x u h. subst (λ s. g.C.CellRead.has s q x) (sym c.next_descent.ensures.same) h) (λ q u. u) told.next_is in
+      parted_on _ told.through.is c.requires.writable.mutable (subst (λ i. IsParted (g.U.Space.account c.args.usage.now).mutable (c.in-Some.descent.branch.twigs + i) told.through.rest end c.last_mutable.result.at c.last_mutable.result.node) told.index_is (c.last_mutable.ensures.last.parted told.through.rest end next));
+  writable = c.last_mutable.ensures.last.writable;
+}

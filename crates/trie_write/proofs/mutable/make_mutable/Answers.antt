@@ -35,19 +35,21 @@ open_anew-requires g c = record {
 pub returns-then-is_mutable : goal.returns-then-is_mutable
 returns-then-is_mutable g c = record {
   slot = ok_map c.open_below.result (λ slot made spare way end a. same_slot c.cell-node.ensures.same (made spare way end (same_slot_asks c.cell-node.ensures.same a))) c.open_below.ensures.slot;
-  consumes = λ spare way end a. c.open_below.ensures.consumes spare way end (same_slot_asks c.cell-node.ensures.same a);
-  refused = err_map c.open_below.result (λ full r. refused_same c.cell-node.ensures.same r) c.open_below.ensures.refused;
-  asked = err_map c.open_below.result (λ full n spare way end a. later_of 1 full.needed (map twigs_of way) (n spare way end (same_slot_asks c.cell-node.ensures.same a))) c.open_below.ensures.asked;
-  frame = fenced_same c.cell-node.ensures.same c.open_below.ensures.frame;
-  ready = c.open_below.ensures.ready;
+  lacks = err_map c.open_below.result (λ full n. record { refused = refused_same c.cell-node.ensures.same n.refused; asked = λ spare way end a. later_of 1 full.needed (map twigs_of way) (n.asked spare way end (same_slot_asks c.cell-node.ensures.same a)) }) c.open_below.ensures.lacks;
+  opens = record {
+    consumes = λ spare way end a. c.open_below.ensures.opens.consumes spare way end (same_slot_asks c.cell-node.ensures.same a);
+    frame = fenced_same c.cell-node.ensures.same c.open_below.ensures.opens.frame;
+    ready = c.open_below.ensures.opens.ready;
+  };
 }
 
 pub returns-else-is_mutable : goal.returns-else-is_mutable
 returns-else-is_mutable g c = record {
   slot = ok_map c.open_anew.result (λ slot made spare way end a. same_slot c.cell-node.ensures.same (made spare way end (same_slot_asks c.cell-node.ensures.same a))) c.open_anew.ensures.slot;
-  consumes = λ spare way end a. c.open_anew.ensures.consumes spare way end (same_slot_asks c.cell-node.ensures.same a);
-  refused = err_map c.open_anew.result (λ full r. refused_same c.cell-node.ensures.same r) c.open_anew.ensures.refused;
-  asked = err_map c.open_anew.result (λ full n spare way end a. n spare way end (same_slot_asks c.cell-node.ensures.same a)) c.open_anew.ensures.asked;
-  frame = fenced_same c.cell-node.ensures.same c.open_anew.ensures.frame;
-  ready = c.open_anew.ensures.ready;
+  lacks = err_map c.open_anew.result (λ full n. record { refused = refused_same c.cell-node.ensures.same n.refused; asked = λ spare way end a. n.asked spare way end (same_slot_asks c.cell-node.ensures.same a) }) c.open_anew.ensures.lacks;
+  opens = record {
+    consumes = λ spare way end a. c.open_anew.ensures.opens.consumes spare way end (same_slot_asks c.cell-node.ensures.same a);
+    frame = fenced_same c.cell-node.ensures.same c.open_anew.ensures.opens.frame;
+    ready = c.open_anew.ensures.opens.ready;
+  };
 }
