@@ -111,7 +111,7 @@ decreases-loop-left l = l.left
 == apply_all/Invariants.antt
 use Rattle.std.proofs.Common.{◌≡◌}
 use Rattle.std.specs.Prelude.{IsSomeAnd}
-use Rattle.qp_multi.specs.Drafts.{Works}
+use Rattle.qp_multi.specs.WorkingVersions.{Works}
 use Rattle.commits.proofs.apply_all.Given as goal
 
 abbrev pub invariant-loop-operation : goal.invariant-loop-operation
@@ -119,7 +119,7 @@ invariant-loop-operation g l = record {
   home : l.transaction.home.ghost_name ≡ l.fn.transaction.home.ghost_name;
   locked : l.transaction.locked.ghost_name ≡ l.fn.transaction.locked.ghost_name;
   place : l.transaction.locked.now.place ≡ l.fn.transaction.locked.now.place;
-  works : IsSomeAnd l.transaction.locked.now.draft Works;
+  works : IsSomeAnd l.transaction.locked.now.working Works;
 }
 == commit_all/Invariants.antt
 use Rattle.std.proofs.Common.{◌≡◌}

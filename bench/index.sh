@@ -95,7 +95,7 @@ invariant-loop-name g l = IsStanding (g.V.Reading.stands l.reading l.place)
 == put_all/Invariants.antt
 use Rattle.std.proofs.Common.{◌≡◌}
 use Rattle.std.specs.Prelude.{IsSomeAnd}
-use Rattle.qp_multi.specs.Drafts.{Works}
+use Rattle.qp_multi.specs.WorkingVersions.{Works}
 use Rattle.index.proofs.put_all.Given as goal
 
 abbrev pub invariant-loop-item : goal.invariant-loop-item
@@ -103,7 +103,7 @@ invariant-loop-item g l = record {
   home : l.update.home.ghost_name ≡ l.fn.update.home.ghost_name;
   locked : l.update.locked.ghost_name ≡ l.fn.update.locked.ghost_name;
   place : l.update.locked.now.place ≡ l.fn.update.locked.now.place;
-  works : IsSomeAnd l.update.locked.now.draft Works;
+  works : IsSomeAnd l.update.locked.now.working Works;
 }
 == put_each/Invariants.antt
 use Rattle.std.proofs.Common.{◌≡◌}

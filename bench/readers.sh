@@ -56,7 +56,7 @@ invariant-loop-place g l = (IsSome l.pass.seat) × (l.pass.place ≡ l.index.pla
 == put_all/Invariants.antt
 use Rattle.std.proofs.Common.{◌≡◌}
 use Rattle.std.specs.Prelude.{IsSomeAnd}
-use Rattle.qp_multi.specs.Drafts.{Works}
+use Rattle.qp_multi.specs.WorkingVersions.{Works}
 use Rattle.readers.proofs.put_all.Given as goal
 
 abbrev pub invariant-loop-number : goal.invariant-loop-number
@@ -64,7 +64,7 @@ invariant-loop-number g l = record {
   home : l.update.home.ghost_name ≡ l.fn.update.home.ghost_name;
   locked : l.update.locked.ghost_name ≡ l.fn.update.locked.ghost_name;
   place : l.update.locked.now.place ≡ l.fn.update.locked.now.place;
-  works : IsSomeAnd l.update.locked.now.draft Works;
+  works : IsSomeAnd l.update.locked.now.working Works;
 }
 == workers/Invariants.antt
 use Rattle.std.proofs.Common.{◌≡◌, vec_len}

@@ -118,7 +118,7 @@ invariant-loop-name g l = IsPassOf l.zones.origins.items l.pass
 == put_all/Invariants.antt
 use Rattle.std.proofs.Common.{◌≡◌}
 use Rattle.std.specs.Prelude.{IsSomeAnd}
-use Rattle.qp_multi.specs.Drafts.{Works}
+use Rattle.qp_multi.specs.WorkingVersions.{Works}
 use Rattle.zones.proofs.put_all.Given as goal
 
 abbrev pub invariant-loop-item : goal.invariant-loop-item
@@ -126,7 +126,7 @@ invariant-loop-item g l = record {
   home : l.update.home.ghost_name ≡ l.fn.update.home.ghost_name;
   locked : l.update.locked.ghost_name ≡ l.fn.update.locked.ghost_name;
   place : l.update.locked.now.place ≡ l.fn.update.locked.now.place;
-  works : IsSomeAnd l.update.locked.now.draft Works;
+  works : IsSomeAnd l.update.locked.now.working Works;
 }
 == run/Answers.antt
 use Rattle.std.proofs.Common.{◌≡◌, ◌+◌, ◌∷◌, suc, map, Some, arith, subst}

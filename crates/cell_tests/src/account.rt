@@ -3,7 +3,7 @@ ghost use Rattle.std.specs.Prelude.{◌≡◌, ◌+◌, ◌<◌, [], ◌∷◌, 
 ghost use Rattle.cell_tests.specs.Prelude.{IsPartOf, entry_of, CanPublish, Published};
 
 use shared_cells::{
-    JoinedSeat, Law, NewPassSeat, NewTurnSeat, Opening, PassSeat, Payload, SeatNote, Shared,
+    HistoryLaw, JoinedSeat, NewPassSeat, NewTurnSeat, Opening, PassSeat, Payload, SeatNote, Shared,
     TurnSeat,
 };
 use std::marker::Brand;
@@ -13,7 +13,7 @@ use std::thread::{Threads, join};
 /// A version is a sum, an entry adds to it, and no version has cells.
 struct Sums;
 
-impl Law<u64, u64> for Sums {
+impl HistoryLaw<u64, u64> for Sums {
     ghost use Rattle.std.specs.Prelude.{◌≡◌, ◌+◌, ◌≤◌, []};
 
     ghost applied = { λ sum paid. sum + paid };
@@ -86,7 +86,7 @@ fn open<R: Threads + Sync>(
 }
 
 /// Publishes a payment, which the caller picks.
-fn publish<L: Law<u64, u64>, M: Payload<u64>>(
+fn publish<L: HistoryLaw<u64, u64>, M: Payload<u64>>(
     account: &Shared<u64, u64, L>,
     seat: &mut JoinedSeat<u64, u64>,
     _amount: u64,

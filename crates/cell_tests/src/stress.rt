@@ -7,8 +7,8 @@ ghost use Rattle.cell_tests.specs.Prelude.{kept_references, with_words, HasCell,
 use chunk_cells::{CellRead, CellWrite};
 use packed_node::Cell;
 use shared_cells::{
-    JoinedSeat, KeptVersions, Law, Lent, NewPassSeat, NewTurnSeat, Opening, PassSeat, Payload,
-    PinnedCells, PinnedSeat, Shared, TurnSeat,
+    HistoryLaw, JoinedSeat, KeptVersions, Lent, NewPassSeat, NewTurnSeat, Opening, PassSeat,
+    Payload, PinnedCells, PinnedSeat, Shared, TurnSeat,
 };
 use std::marker::Brand;
 use std::test::Fail;
@@ -17,7 +17,7 @@ use std::thread::{Threads, join};
 /// Version n is n, whatever the entries are.
 struct Numbers;
 
-impl Law<u64, u64> for Numbers {
+impl HistoryLaw<u64, u64> for Numbers {
     ghost use Rattle.std.specs.Prelude.{◌+◌};
     ghost use Rattle.cell_tests.specs.OneCell.{IsVersion};
 
@@ -126,7 +126,7 @@ fn write_next<B: Lent<u64, u64>>(
 }
 
 /// Publishes the next version, whose cell is written.
-fn publish<L: Law<u64, u64>, M: Payload<u64>>(
+fn publish<L: HistoryLaw<u64, u64>, M: Payload<u64>>(
     index: &Shared<u64, u64, L>,
     turn: &mut JoinedSeat<u64, u64>,
     next: u64,

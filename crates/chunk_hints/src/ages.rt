@@ -91,7 +91,7 @@ impl Ages {
 
 /// Writes a chunk's number.
 fn put(numbers: &mut [u64], chunk: u32, number: u64) {
-    if let Some(place) = numbers.get_mut(chunk as usize) {
-        *place = number;
+    if let Some(position) = numbers.get_mut(chunk as usize) {
+        *position = number;
     }
 }

@@ -100,8 +100,8 @@ impl Hints {
     }
 
     /// A path that a chunk lists, by its place in the list.
-    pub fn path(&self, chunk: u32, place: usize) -> Listed {
-        self.lists.path(chunk, place)
+    pub fn path(&self, chunk: u32, position: usize) -> Listed {
+        self.lists.path(chunk, position)
     }
 
     /// The list of a chunk lacks something.

@@ -75,8 +75,8 @@ impl PathLists {
 
     /// A path of it, by its place.
     #[inline]
-    pub fn path(&self, chunk: u32, place: usize) -> Listed {
-        match self.paths.get(self.place_of(chunk, place)) {
+    pub fn path(&self, chunk: u32, position: usize) -> Listed {
+        match self.paths.get(self.position_of(chunk, position)) {
             Some(path) => *path,
             None => Listed::any(Path::none()),
         }
@@ -120,8 +120,8 @@ impl PathLists {
         } else {
             self.counts[chunk as usize] = count as u16 + 1;
         }
-        let place = self.place_of(chunk, count);
-        if let Some(slot) = self.paths.get_mut(place) {
+        let position = self.position_of(chunk, count);
+        if let Some(slot) = self.paths.get_mut(position) {
             *slot = path;
         }
         true
@@ -129,22 +129,22 @@ impl PathLists {
 
     // Where a list's place lies among all paths.
     #[inline]
-    fn place_of(&self, chunk: u32, place: usize) -> usize {
-        block(&self.blocks, chunk, place / BLOCK) as usize * BLOCK + place % BLOCK
+    fn position_of(&self, chunk: u32, position: usize) -> usize {
+        block(&self.blocks, chunk, position / BLOCK) as usize * BLOCK + position % BLOCK
     }
 }
 
 /// A block of a chunk's list.
 #[inline]
 fn block(blocks: &[u32], chunk: u32, which: usize) -> u32 {
-    let place = chunk as usize * MOST_BLOCKS + which % MOST_BLOCKS;
-    blocks.get(place).copied().unwrap_or(NONE)
+    let position = chunk as usize * MOST_BLOCKS + which % MOST_BLOCKS;
+    blocks.get(position).copied().unwrap_or(NONE)
 }
 
 /// A block becomes one of a chunk's list.
 fn put_block(blocks: &mut [u32], chunk: u32, which: usize, block: u32) {
-    let place = chunk as usize * MOST_BLOCKS + which % MOST_BLOCKS;
-    if let Some(slot) = blocks.get_mut(place) {
+    let position = chunk as usize * MOST_BLOCKS + which % MOST_BLOCKS;
+    if let Some(slot) = blocks.get_mut(position) {
         *slot = block;
     }
 }

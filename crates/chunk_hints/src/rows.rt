@@ -62,7 +62,7 @@ impl Rows {
 
 /// Writes a row's chunk.
 fn put(chunks: &mut [u16], row: usize, chunk: u32) {
-    if let Some(place) = chunks.get_mut(row) {
-        *place = u16::try_from(chunk).unwrap_or(NO_CHUNK);
+    if let Some(position) = chunks.get_mut(row) {
+        *position = u16::try_from(chunk).unwrap_or(NO_CHUNK);
     }
 }

@@ -136,17 +136,17 @@ module _ (words : List ℕ) (from : ℕ) (none : (j : ℕ) → from ≤ j → j 
   none_later rest j le = elim (cases_eq (j / 64) (from / 64)) [ inl here ↦ none j le here | inr later ↦ rest j (omega arith) ]
 
 -- the first word that isn't 0
-pub found_word : (words : List ℕ) (from place : ℕ) → slice_index words place < 2 ^ 64 → from ≤ place → ((i : ℕ) → from ≤ i → i < place → slice_index words i ≡ 0)
-    → 0 < slice_index words place → IsFirstBit words (64 * from) (64 * place + trailing_zeros w64 (slice_index words place))
-found_word words from place small le none some =
-    let at : 64 * place / 64 ≡ place = omega arith in
-    let front : 64 * place % 64 ≡ 0 = omega arith in
-    let whole : slice_index words place ≡ slice_index words (64 * place / 64) / 2 ^ (64 * place % 64) = rw (at, front) (omega arith) in
-    let f = found_left words (64 * place) (slice_index words place) (rw at small) whole some in
+pub found_word : (words : List ℕ) (from position : ℕ) → slice_index words position < 2 ^ 64 → from ≤ position → ((i : ℕ) → from ≤ i → i < position → slice_index words i ≡ 0)
+    → 0 < slice_index words position → IsFirstBit words (64 * from) (64 * position + trailing_zeros w64 (slice_index words position))
+found_word words from position small le none some =
+    let at : 64 * position / 64 ≡ position = omega arith in
+    let front : 64 * position % 64 ≡ 0 = omega arith in
+    let whole : slice_index words position ≡ slice_index words (64 * position / 64) / 2 ^ (64 * position % 64) = rw (at, front) (omega arith) in
+    let f = found_left words (64 * position) (slice_index words position) (rw at small) whole some in
     record {
       at_or_after = omega arith;
       set = f.set;
-      none_between = λ k l lt. elim (cases_lt k (64 * place)) [
+      none_between = λ k l lt. elim (cases_lt k (64 * position)) [
         | inl before ↦ no_bit words k (none (k / 64) (omega arith) (omega arith))
         | inr inside ↦ f.none_between k inside lt
       ];
@@ -188,13 +188,13 @@ clear_eight words z =
     rw (a, b, c, d, e, f, g, h)
 
 -- they stand behind words that are clear
-pub eight_more : (words : List ℕ) (from place n : ℕ) → n ≡ 8 → ((i : ℕ) → from ≤ i → i < place → slice_index words i ≡ 0) → ((i : ℕ) → i < 8 → slice_index (take n (drop place words)) i ≡ 0)
-    → (i : ℕ) → from ≤ i → i < place + 8 → slice_index words i ≡ 0
-eight_more words from place n is before clear i le lt = elim (cases_lt i place) [
+pub eight_more : (words : List ℕ) (from position n : ℕ) → n ≡ 8 → ((i : ℕ) → from ≤ i → i < position → slice_index words i ≡ 0) → ((i : ℕ) → i < 8 → slice_index (take n (drop position words)) i ≡ 0)
+    → (i : ℕ) → from ≤ i → i < position + 8 → slice_index words i ≡ 0
+eight_more words from position n is before clear i le lt = elim (cases_lt i position) [
   | inl l ↦ before i le l
   | inr past ↦ (
-      let e : place + (i - place) ≡ i = omega arith in
-      ap (slice_index words) (sym e) ∙ sym (get_or-take n (drop place words) (i - place) 0 (omega arith) ∙ get_or-drop place words (i - place) 0) ∙ clear (i - place) (omega arith))
+      let e : position + (i - position) ≡ i = omega arith in
+      ap (slice_index words) (sym e) ∙ sym (get_or-take n (drop position words) (i - position) 0 (omega arith) ∙ get_or-drop position words (i - position) 0) ∙ clear (i - position) (omega arith))
 ]
 
 -- The first bit that is clear: full words, and the first that isn't.

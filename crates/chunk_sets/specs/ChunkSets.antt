@@ -34,7 +34,7 @@ pub record IsFirstFrom (flags : List Bool) (from chunk : ℕ) : Type 0 where
   pub none_between : (k : ℕ) → from ≤ k → k < chunk → has flags k ≡ false
 
 -- the bit is the first from a place on that is set
-pub record IsFirstBit (words : List ℕ) (from place : ℕ) : Type 0 where
-  pub at_or_after : from ≤ place
-  pub set : has_bit words place ≡ true
-  pub none_between : (k : ℕ) → from ≤ k → k < place → has_bit words k ≡ false
+pub record IsFirstBit (words : List ℕ) (from position : ℕ) : Type 0 where
+  pub at_or_after : from ≤ position
+  pub set : has_bit words position ≡ true
+  pub none_between : (k : ℕ) → from ≤ k → k < position → has_bit words k ≡ false

@@ -127,8 +127,8 @@ fn clear_bits(words: &mut [u64], others: &[u64])
     ensures len { length words.new ≡ length words.old }
     ensures left { (k : ℕ) → has_bit words.new k ≡ (has_bit words.old k && not (has_bit others.now k)) }
 {
-    for (place, bits) in others.iter().enumerate() {
-        words[place] &= !*bits;
+    for (position, bits) in others.iter().enumerate() {
+        words[position] &= !*bits;
     }
 }
 
@@ -139,8 +139,8 @@ fn put_difference(words: &mut [u64], all: &[u64], others: &[u64])
     ensures len { length words.new ≡ length words.old }
     ensures left { (k : ℕ) → has_bit words.new k ≡ (has_bit all.now k && not (has_bit others.now k)) }
 {
-    for (place, bits) in others.iter().enumerate() {
-        words[place] = all[place] & !*bits;
+    for (position, bits) in others.iter().enumerate() {
+        words[position] = all[position] & !*bits;
     }
 }
 
@@ -150,15 +150,15 @@ fn first_bit(words: &[u64], from: u32) -> Option<u32>
     ensures found { IfSome result (λ k. IsFirstBit words.now from k) }
     ensures none { IfNone result ((k : ℕ) → from ≤ k → has_bit words.now k ≡ false) }
 {
-    let place = (from / 64) as usize;
-    if place >= words.len() {
+    let position = (from / 64) as usize;
+    if position >= words.len() {
         return None;
     }
-    let left = words[place] >> (from % 64);
+    let left = words[position] >> (from % 64);
     if left != 0 {
         return Some(from + left.trailing_zeros());
     }
-    first_bit_of_words(words, place + 1)
+    first_bit_of_words(words, position + 1)
 }
 
 /// The first bit that is set, from a word on.
@@ -168,9 +168,9 @@ fn first_bit_of_words(words: &[u64], from: usize) -> Option<u32>
     ensures found { IfSome result (λ k. IsFirstBit words.now (64 * from) k) }
     ensures none { IfNone result ((k : ℕ) → 64 * from ≤ k → has_bit words.now k ≡ false) }
 {
-    for place in after_clear(words, from)..words.len() {
-        if words[place] != 0 {
-            return Some(64 * place as u32 + words[place].trailing_zeros());
+    for position in after_clear(words, from)..words.len() {
+        if words[position] != 0 {
+            return Some(64 * position as u32 + words[position].trailing_zeros());
         }
     }
     None
@@ -183,11 +183,11 @@ fn after_clear(words: &[u64], from: usize) -> usize
     ensures within { result ≤ length words.now }
     ensures clear { (i : ℕ) → from ≤ i → i < result → slice_index words.now i ≡ 0 }
 {
-    let mut place = from;
-    while words.len() - place >= 8 && are_clear(&words[place..place + 8]) {
-        place += 8;
+    let mut position = from;
+    while words.len() - position >= 8 && are_clear(&words[position..position + 8]) {
+        position += 8;
     }
-    place
+    position
 }
 
 /// Whether eight words are clear.
@@ -208,9 +208,9 @@ fn first_clear_bit(words: &[u64]) -> u32
     ensures clear { result < 64 * length words.now → has_bit words.now result ≡ false }
     ensures all { result ≤ 64 * length words.now }
 {
-    for (place, bits) in words.iter().enumerate() {
+    for (position, bits) in words.iter().enumerate() {
         if *bits != u64::MAX {
-            return 64 * place as u32 + bits.trailing_ones();
+            return 64 * position as u32 + bits.trailing_ones();
         }
     }
     64 * words.len() as u32

@@ -18,10 +18,10 @@ use Rattle.evacuate.specs.declared.path_walk.Passage.{Passage}
 use Rattle.evacuate.specs.Moving.{CanMove, MovesCells, RearrangedNode}
 use Rattle.evacuate.specs.Places.{moved, Stood, Hung, HangsIn, IsStood, IsHung}
 use Rattle.evacuate.specs.Rearranging.{CanWalkOn, OnWay, Rearranged}
-use Rattle.evacuate.specs.Trails.{PassedTo, TwigsAt}
+use Rattle.evacuate.specs.Stacks.{PassedTo, TwigsAt}
 use Rattle.evacuate.proofs.DescentLaws.{begins, hung_there, hung_says, hung_read}
 use Rattle.evacuate.proofs.MovingLaws.{cells_same, cells_then}
-use Rattle.evacuate.proofs.TrailLaws.{TwigAt, early, twig_here, row_inside, counted}
+use Rattle.evacuate.proofs.StackLaws.{TwigAt, early, twig_here, row_inside, counted}
 use Rattle.evacuate.proofs.TreeLaws.{hung_hangs}
 
 -- ---- a walk that only reads

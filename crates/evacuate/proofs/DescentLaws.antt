@@ -16,11 +16,11 @@ use Rattle.trie_model.proofs.SplitLaws.{rising_of}
 use Rattle.chunk_usage.specs.Ledger.{Ledger}
 use Rattle.trie_space.specs.Ways.{NotBefore, Fork, fork, plug, end_at}
 use Rattle.trie_space.proofs.WayLaws.{plug-append, end_at-append, IsFork, is_fork, fork_count, low_at, end_lies}
-use Rattle.evacuate.specs.declared.trail.Trail.{Trail}
+use Rattle.evacuate.specs.declared.stack.Stack.{Stack}
 use Rattle.evacuate.specs.Evacuations.{HasSparse}
 use Rattle.evacuate.specs.Fillings.{Moves}
 use Rattle.evacuate.specs.Places.{moved, Stood, Hung, IsHung}
-use Rattle.evacuate.specs.Trails.{Steps, LeadsTo, Found, IsDue, Reached, Underway, TwigsAt}
+use Rattle.evacuate.specs.Stacks.{Steps, LeadsTo, Found, IsDue, Reached, Underway, TwigsAt}
 use Rattle.evacuate.proofs.SparseLaws.{lies_left, lies_stay}
 use Rattle.evacuate.proofs.TreeLaws.{hung_low, hung_tree}
 
@@ -47,7 +47,7 @@ stood_same {has = has} {s} {s1} {l} {l1} {r} {es} {t} e f h = subst (λ z. Stood
 pub begins : {S : Type 0} {has : S → ℕ → Cell → Type 0} {s : S} {l : Ledger} {r : ℕ} {es : List Entry} {t : Tree} → Stood has s l r es t → Hung has s l r r es [] t
 begins h = record { stood = h; at_is = refl }
 
-pub underway_first : {S : Type 0} {has : S → ℕ → Cell → Type 0} {s : S} {l : Ledger} {r : ℕ} {es : List Entry} {t : Tree} {trail : Trail} {n : Node} → Stood has s l r es t → (f : Found l trail t) → n ≡ node_of t → Underway has l trail s l r r es n
+pub underway_first : {S : Type 0} {has : S → ℕ → Cell → Type 0} {s : S} {l : Ledger} {r : ℕ} {es : List Entry} {t : Tree} {stack : Stack} {n : Node} → Stood has s l r es t → (f : Found l stack t) → n ≡ node_of t → Underway has l stack s l r r es n
 underway_first {has = has} {s} {l} {r} {es} h f is = record {
   upper = [];
   rest = f.way;
@@ -64,33 +64,33 @@ same_branch : (a b : Branch) → node.Branch a ≡ node.Branch b → a ≡ b
 same_branch a b e = cc
 
 -- the way goes on through it
-pub record Passes (b : Branch) (trail : Trail) (rest : List Fork) (end : Tree) : Type 0 where
+pub record Passes (b : Branch) (stack : Stack) (rest : List Fork) (end : Tree) : Type 0 where
   pub f : Fork
   pub further : List Fork
   pub is : rest ≡ f ∷ further
   pub branch_is : record { offset = f.offset; bitmap = bitmap_of (beside f.left (twig f.position (plug further end) f.right)); twigs = f.first } ≡ b
-  pub index : slice_index trail.indices f.offset ≡ count f.left
-  pub steps : Steps trail further
+  pub index : slice_index stack.indices f.offset ≡ count f.left
+  pub steps : Steps stack further
 
-pub passes : (b : Branch) (trail : Trail) (rest : List Fork) (end : Tree) → LeadsTo trail rest end → node.Branch b ≡ node_of (plug rest end) → b.offset < trail.end → Passes b trail rest end
-passes b trail [] end leads is before = let x = branch_told end b (sym is) in absurd (let z : trail.end ≤ b.offset = subst (NotBefore trail.end) x.is leads.ends in omega arith)
-passes b trail (f ∷ further) end leads is before = record { f = f; further = further; is = refl; branch_is = same_branch _ b (sym is); index = leads.steps.1; steps = leads.steps.2 }
+pub passes : (b : Branch) (stack : Stack) (rest : List Fork) (end : Tree) → LeadsTo stack rest end → node.Branch b ≡ node_of (plug rest end) → b.offset < stack.end → Passes b stack rest end
+passes b stack [] end leads is before = let x = branch_told end b (sym is) in absurd (let z : stack.end ≤ b.offset = subst (NotBefore stack.end) x.is leads.ends in omega arith)
+passes b stack (f ∷ further) end leads is before = record { f = f; further = further; is = refl; branch_is = same_branch _ b (sym is); index = leads.steps.1; steps = leads.steps.2 }
 
 -- or ends
-pub ends_here : (trail : Trail) (rest : List Fork) (end : Tree) → LeadsTo trail rest end → NotBefore trail.end (plug rest end) → rest ≡ []
-ends_here trail [] end leads not_before = refl
-ends_here trail (f ∷ further) end leads not_before = absurd (let a = leads.steps.0 in let b : trail.end ≤ f.offset = not_before in omega arith)
+pub ends_here : (stack : Stack) (rest : List Fork) (end : Tree) → LeadsTo stack rest end → NotBefore stack.end (plug rest end) → rest ≡ []
+ends_here stack [] end leads not_before = refl
+ends_here stack (f ∷ further) end leads not_before = absurd (let a = leads.steps.0 in let b : stack.end ≤ f.offset = not_before in omega arith)
 
-module _ {S : Type 0} {has : S → ℕ → Cell → Type 0} {l0 : Ledger} {trail : Trail} {s : S} {l : Ledger} {r at : ℕ} {es : List Entry} {n : Node} (u : Underway has l0 trail s l r at es n) where
+module _ {S : Type 0} {has : S → ℕ → Cell → Type 0} {l0 : Ledger} {stack : Stack} {s : S} {l : Ledger} {r at : ℕ} {es : List Entry} {n : Node} (u : Underway has l0 stack s l r at es n) where
   pub underway_hung : {m : Node} → n ≡ m → IsHung has s l at m
   underway_hung e = record { r = r; es = es; way = u.upper; t = plug u.rest u.end; hung = u.hung; is = sym e ∙ u.node_is }
 
-  module _ (b : Branch) (is : n ≡ node.Branch b) (before : b.offset < trail.end) where
+  module _ (b : Branch) (is : n ≡ node.Branch b) (before : b.offset < stack.end) where
     pub branch_node_is : node.Branch b ≡ node_of (plug u.rest u.end)
     branch_node_is = sym is ∙ u.node_is
 
-    pub pass : Passes b trail u.rest u.end
-    pass = passes b trail u.rest u.end u.leads branch_node_is before
+    pub pass : Passes b stack u.rest u.end
+    pass = passes b stack u.rest u.end u.leads branch_node_is before
 
     abbrev below : Tree
     below = plug pass.further u.end
@@ -107,18 +107,18 @@ module _ {S : Type 0} {has : S → ℕ → Cell → Type 0} {l0 : Ledger} {trail
     pub early : b.offset ≤ 503
     early = let e = fork_known.early in let o = offset_is in omega arith
 
-    pub index_is : slice_index trail.indices b.offset ≡ count pass.f.left
-    index_is = ap (slice_index trail.indices) (sym offset_is) ∙ pass.index
+    pub index_is : slice_index stack.indices b.offset ≡ count pass.f.left
+    index_is = ap (slice_index stack.indices) (sym offset_is) ∙ pass.index
 
-    pub index_inside : slice_index trail.indices b.offset < count_ones b.bitmap
+    pub index_inside : slice_index stack.indices b.offset < count_ones b.bitmap
     index_inside =
         let i = index_is in
         let c = fork_count pass.f below in
         let o = ones_of 0 47 _ (rising_of pass.f.offset 0 (beside pass.f.left (twig pass.f.position below pass.f.right)) (let z : 0 ≤ 47 = omega arith in z) (subst (IsTree (low_at 0 u.upper)) fork_is (hung_low u.hung)).5) in
         let p = ap (λ (x : Branch). count_ones x.bitmap) pass.branch_is in omega arith
 
-    -- its twigs lie where they did, or elsewhere; the way goes on at the trail's twig
-    module _ {s1 : S} {l1 : Ledger} {next index : ℕ} (said : index ≡ slice_index trail.indices b.offset) (at_twig : TwigsAt has s1 l1 r at es u.upper (plug u.rest u.end) index next) where
+    -- its twigs lie where they did, or elsewhere; the way goes on at the stack's twig
+    module _ {s1 : S} {l1 : Ledger} {next index : ℕ} (said : index ≡ slice_index stack.indices b.offset) (at_twig : TwigsAt has s1 l1 r at es u.upper (plug u.rest u.end) index next) where
       abbrev new_fork : Fork
       new_fork = record pass.f { first = at_twig.to }
 
@@ -134,7 +134,7 @@ module _ {S : Type 0} {has : S → ℕ → Cell → Type 0} {l0 : Ledger} {trail
       pub further_says : {c : Cell} → c ≡ top_cell below → (m : Node) × IsNode m × (packed m ≡ c)
       further_says = hung_says further_hung
 
-      pub underway_further : {s2 : S} {c : Cell} {m : Node} → s2 ≡ s1 → c ≡ top_cell below → ((k : Node) → IsNode k → packed k ≡ c → m ≡ k) → Underway has l0 trail s2 l1 r next es m
+      pub underway_further : {s2 : S} {c : Cell} {m : Node} → s2 ≡ s1 → c ≡ top_cell below → ((k : Node) → IsNode k → packed k ≡ c → m ≡ k) → Underway has l0 stack s2 l1 r next es m
       underway_further {s2} {c} {m} same read back = record {
         upper = u.upper ++ (new_fork ∷ []);
         rest = pass.further;
@@ -152,15 +152,15 @@ module _ {S : Type 0} {has : S → ℕ → Cell → Type 0} {l0 : Ledger} {trail
           let y = ap places_left is in omega arith
 
   -- where it ends
-  module _ (not_before : (t : Tree) → n ≡ node_of t → NotBefore trail.end t) where
+  module _ (not_before : (t : Tree) → n ≡ node_of t → NotBefore stack.end t) where
     pub end_node : n ≡ node_of u.end
-    end_node = u.node_is ∙ ap (λ w. node_of (plug w u.end)) (ends_here trail u.rest u.end u.leads (not_before (plug u.rest u.end) u.node_is))
+    end_node = u.node_is ∙ ap (λ w. node_of (plug w u.end)) (ends_here stack u.rest u.end u.leads (not_before (plug u.rest u.end) u.node_is))
 
     pub reached_here : Reached has l0 s l r at es n
     reached_here = record {
       way = u.upper;
       end = u.end;
-      hung = subst (λ w. Hung has s l r at es u.upper (plug w u.end)) (ends_here trail u.rest u.end u.leads (not_before (plug u.rest u.end) u.node_is)) u.hung;
+      hung = subst (λ w. Hung has s l r at es u.upper (plug w u.end)) (ends_here stack u.rest u.end u.leads (not_before (plug u.rest u.end) u.node_is)) u.hung;
       node_is = end_node;
       sparse = u.sparse;
     }
@@ -170,8 +170,8 @@ pub reached_hung : {S : Type 0} {has : S → ℕ → Cell → Type 0} {l0 : Ledg
 reached_hung {r = r} {es = es} x e = record { r = r; es = es; way = x.way; t = x.end; hung = x.hung; is = sym e ∙ x.node_is }
 
 -- where it isn't moved a sparse chunk is left
-pub underway_left : {S : Type 0} {has : S → ℕ → Cell → Type 0} {given : List Bool} {l0 : Ledger} {trail : Trail} {s : S} {l : Ledger} {r at : ℕ} {es : List Entry} {n : Node} →
-    Underway has l0 trail s l r at es n → Moves given 0 l0 l → HasSparse l
+pub underway_left : {S : Type 0} {has : S → ℕ → Cell → Type 0} {given : List Bool} {l0 : Ledger} {stack : Stack} {s : S} {l : Ledger} {r at : ℕ} {es : List Entry} {n : Node} →
+    Underway has l0 stack s l r at es n → Moves given 0 l0 l → HasSparse l
 underway_left {has = has} {l0 = l0} {s = s} {l} {r} {es = es} u m = lies_left end_hung (lies_stay l0 l m.sparse u.end u.sparse)
   where
     end_hung : Hung has s l r (end_at r (u.upper ++ u.rest)) es (u.upper ++ u.rest) u.end

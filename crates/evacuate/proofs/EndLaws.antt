@@ -22,8 +22,8 @@ use Rattle.chunk_sets.proofs.FlagLemmas.{set_within}
 use Rattle.trie_model.proofs.ExtentLaws.{first_true}
 use Rattle.trie_space.specs.Standing.{HasTrie, StandsIn}
 use Rattle.trie_space.proofs.RootedLaws.{stands_rooted, rooted_stands}
-use Rattle.evacuate.specs.declared.evacuation.Done.{Done}
-use Rattle.evacuate.specs.declared.evacuation.Done.TheVariants.{Whole, Stopped}
+use Rattle.evacuate.specs.declared.evacuation.EvacuationEnd.{EvacuationEnd}
+use Rattle.evacuate.specs.declared.evacuation.EvacuationEnd.TheVariants.{Whole, Stopped}
 use Rattle.evacuate.specs.Evacuations.{CarriesTrie, EmptiesChunks, Ended, HasSparse, IsDense, IsCleared, refused}
 use Rattle.evacuate.specs.Fillings.{Fills, IsUsedUp, is_old, old_live}
 use Rattle.evacuate.specs.Places.{Stood}
@@ -121,7 +121,7 @@ module _ (l new : Ledger) (same : length new.given ≡ length l.given) (c : ℕ)
   pub asked_in_vain : IsUsedUp new → free_count l + 1 ≤ free_count new + (c / 769 + 1)
   asked_in_vain full = let a = most_free in let b = most_free_then in let s = full.short.few_left in let n = full.few in let u = all_consumed new.bump (omega arith) in omega arith
 
-  pub asked_by : (d : Done) → (d ≡ Stopped → IsUsedUp new) → free_count l + refused d ≤ free_count new + (c / 769 + 1)
+  pub asked_by : (d : EvacuationEnd) → (d ≡ Stopped → IsUsedUp new) → free_count l + refused d ≤ free_count new + (c / 769 + 1)
   asked_by Whole full = let a = asked in omega arith
   asked_by Stopped full = asked_in_vain (full refl)
 

@@ -6,7 +6,7 @@ pub mod BeginLaws
 pub mod ChainLaws
 pub mod SparseLaws
 pub mod BehindLaws
-pub mod TrailLaws
+pub mod StackLaws
 pub mod SumLaws
 pub mod DescentLaws
 pub mod EndLaws

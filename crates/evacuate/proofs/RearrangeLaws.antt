@@ -12,13 +12,13 @@ use Rattle.trie_read.specs.Reads.{IsTop}
 use Rattle.trie_space.specs.Spaces.{IsWritable, Ready}
 use Rattle.trie_space.specs.Ways.{plug}
 use Rattle.trie_space.proofs.SpaceLaws.{fenced_then, writable_later}
-use Rattle.evacuate.specs.declared.trail.Trail.{Trail}
+use Rattle.evacuate.specs.declared.stack.Stack.{Stack}
 use Rattle.evacuate.specs.Evacuations.{HasSparse}
 use Rattle.evacuate.specs.Fillings.{Fewer, Fills, Paid}
 use Rattle.evacuate.specs.Moving.{CanMove, LeavesRest, MovesCells, NodeMoved, RearrangedNode}
 use Rattle.evacuate.specs.Places.{IsStood, Stood, first_of, width_of}
 use Rattle.evacuate.specs.Rearranging.{CanRearrange, Rearranged}
-use Rattle.evacuate.specs.Trails.{Finds, Found, IsDue, Reaches, Underway}
+use Rattle.evacuate.specs.Stacks.{Finds, Found, IsDue, Reaches, Underway}
 use Rattle.evacuate.proofs.DescentLaws.{reached_due, reached_hung, stood_same}
 use Rattle.evacuate.proofs.EndLaws.{node_top}
 use Rattle.evacuate.proofs.FillingLaws.{moves_then, sparse_old}
@@ -48,8 +48,8 @@ module _ {S : Type 0} {has : S → ℕ → Cell → Type 0} {kept : S → List �
   pub can_read : {s s1 : S} {l l1 : Ledger} → s1 ≡ s → l1 ≡ l → CanRearrange has kept given r s l → CanRearrange has kept given r s1 l1
   can_read e f can = can_again (rearranged_same e f can.ready) can
 
-  -- on the way along a trail
-  pub underway_ends : {s s1 : S} {l l1 : Ledger} {trail : Trail} {at : ℕ} {n : Node} → ((es : List Entry) (t : Tree) → Stood has s l r es t → Underway has l trail s1 l1 r at es n) → MovesCells has kept given s l s1 l1 → Rearranged has kept given r s l s1 l1
+  -- on the way along a stack
+  pub underway_ends : {s s1 : S} {l l1 : Ledger} {stack : Stack} {at : ℕ} {n : Node} → ((es : List Entry) (t : Tree) → Stood has s l r es t → Underway has l stack s1 l1 r at es n) → MovesCells has kept given s l s1 l1 → Rearranged has kept given r s l s1 l1
   underway_ends way cells = record { stood = λ es t h. let u = way es t h in (plug u.upper (plug u.rest u.end), u.hung.stood); cells = cells }
 
   -- what it leads to is moved too
@@ -90,6 +90,6 @@ module _ {S : Type 0} {has : S → ℕ → Cell → Type 0} {kept : S → List �
         let x = (a.cells.moves old fills).fewer in let y = (paid old fills).less in omega arith
 
 module _ {S : Type 0} {has : S → ℕ → Cell → Type 0} {r : ℕ} where
-  -- the root's cell was read, and from there the trail was laid
-  pub found_on : {s s1 s2 : S} {l l1 : Ledger} {trail : Trail} {node : Cell} → s1 ≡ s → ((d : Cell) → has s r d → node ≡ d) → s2 ≡ s1 → l1 ≡ l → ((t : Tree) → IsTop (has s1) 0 node t → Found l trail t) → Finds has s2 l1 r trail
-  found_on {trail = trail} e read f g found es t h = subst (λ z. Found z trail t) (sym g) (found t (node_top (stood_same (sym (f ∙ e)) (sym g) h) e read))
+  -- the root's cell was read, and from there the stack was laid
+  pub found_on : {s s1 s2 : S} {l l1 : Ledger} {stack : Stack} {node : Cell} → s1 ≡ s → ((d : Cell) → has s r d → node ≡ d) → s2 ≡ s1 → l1 ≡ l → ((t : Tree) → IsTop (has s1) 0 node t → Found l stack t) → Finds has s2 l1 r stack
+  found_on {stack = stack} e read f g found es t h = subst (λ z. Found z stack t) (sym g) (found t (node_top (stood_same (sym (f ∙ e)) (sym g) h) e read))

@@ -8,8 +8,8 @@ use Rattle.chunk_usage.specs.Counting.{is_sparse}
 use Rattle.chunk_usage.specs.Ledger.{Ledger, filled, free_count, is_given, is_bump}
 use Rattle.chunk_usage.specs.Rooms.{account_of}
 use Rattle.trie_space.specs.Standing.{HasTrie}
-use Rattle.evacuate.specs.declared.evacuation.Done.{Done}
-use Rattle.evacuate.specs.declared.evacuation.Done.TheVariants.{Whole, Stopped}
+use Rattle.evacuate.specs.declared.evacuation.EvacuationEnd.{EvacuationEnd}
+use Rattle.evacuate.specs.declared.evacuation.EvacuationEnd.TheVariants.{Whole, Stopped}
 use Rattle.evacuate.specs.Fillings.{Fills, IsUsedUp}
 
 -- each chunk with a cell that counts, but the bump chunk, has over 256
@@ -33,18 +33,18 @@ pub record FillsNew (old new : Ledger) : Type 0 where
   pub bump : (k : ℕ) → is_bump new.bump k ≡ true → is_given old k ≡ false → filled new.bump ≤ slice_index new.live k
 
 -- how many chunks were asked for in vain
-abbrev pub refused : Done → ℕ
+abbrev pub refused : EvacuationEnd → ℕ
 refused Whole = 0
 refused Stopped = 1
 
 -- how what lists led to was moved, unless some is left
-pub record ListsEnd (l new : Ledger) (done : Option Done) : Type 0 where
+pub record ListsEnd (l new : Ledger) (done : Option EvacuationEnd) : Type 0 where
   pub whole : done ≡ Some Whole → IsCleared new
   pub full : done ≡ Some Stopped → IsUsedUp new
   pub left : done ≡ Some Stopped → (given : List Bool) → Fills given l → HasSparse new
 
 -- how emptying them ended: what is told is so
-pub record Ended (new : Ledger) (done : Done) : Type 0 where
+pub record Ended (new : Ledger) (done : EvacuationEnd) : Type 0 where
   pub whole : done ≡ Whole → IsCleared new
   pub full : done ≡ Stopped → IsUsedUp new
   pub left : done ≡ Stopped → HasSparse new
@@ -52,13 +52,13 @@ pub record Ended (new : Ledger) (done : Done) : Type 0 where
 -- ---- what an evacuation says
 
 -- the trie is the same, at the root that is answered
-pub record CarriesTrie {S : Type 0} (has : S → ℕ → Cell → Type 0) (s : S) (l : Ledger) (root : Option ℕ) (s_new : S) (l_new : Ledger) (new : Option ℕ) (done : Done) : Type 0 where
+pub record CarriesTrie {S : Type 0} (has : S → ℕ → Cell → Type 0) (s : S) (l : Ledger) (root : Option ℕ) (s_new : S) (l_new : Ledger) (new : Option ℕ) (done : EvacuationEnd) : Type 0 where
   pub stands : (version : List Entry) → HasTrie has account_of s l root version → HasTrie has account_of s_new l_new new version
   -- for each `filled_cells` of its cells a chunk was asked for at most, and one more
   pub asks : (version : List Entry) → HasTrie has account_of s l root version → free_count l + refused done ≤ free_count l_new + (cells version / filled_cells + 1)
 
 -- what became of the chunks
-pub record EmptiesChunks (old new : Ledger) (done : Done) : Type 0 where
+pub record EmptiesChunks (old new : Ledger) (done : EvacuationEnd) : Type 0 where
   -- where no cell of a sparse chunk counted nothing was done
   pub none : IsCleared old → new ≡ old
   pub fills : FillsNew old new

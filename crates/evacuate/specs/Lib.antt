@@ -5,5 +5,5 @@ pub mod Moving
 pub mod Places
 pub mod Rearranging
 pub mod Sparse
-pub mod Trails
+pub mod Stacks
 pub mod Prelude

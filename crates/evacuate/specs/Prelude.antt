@@ -23,4 +23,4 @@ pub use Rattle.evacuate.specs.Places.{Hangs, IsStood, first_of, first_width, put
 pub use Rattle.evacuate.specs.Moving.{AsksRoom, CanCopy, CanMove, CanMoveBehind, ExtentMoved, FirstLies, IsCopied, IsLength, IsRoom, LeavesRest, MovesCells, NextLies, NodeMoved, RearrangedItem, RearrangedNode, RootMoved, TakesCells, Unmoved}
 pub use Rattle.evacuate.specs.Rearranging.{CanBegin, CanRearrange, CanWalkOn, Emptied, OnWay, Rearranged, RootCopied, StopsShort}
 pub use Rattle.evacuate.specs.Sparse.{TellsSparse}
-pub use Rattle.evacuate.specs.Trails.{Finds, Found, FoundBelow, IsDue, MayPass, NoneBelow, PassedTo, SpotReached, TrailKept}
+pub use Rattle.evacuate.specs.Stacks.{Finds, Found, FoundBelow, IsDue, MayPass, NoneBelow, PassedTo, SpotReached, StackKept}

@@ -7,7 +7,7 @@ ghost use Rattle.evacuate.specs.Prelude.{Finds, SpotReached};
 
 use super::moves::{move_item, move_node};
 use super::path_walk::{Descent, Passage, pass};
-use super::trail::{Trail, last_sparse};
+use super::stack::{Stack, last_sparse};
 use chunk_cells::CellWrite;
 use chunk_usage::{Path, Shortage, Usage};
 use packed_node::{Branch, Node, Ref};
@@ -36,24 +36,24 @@ pub struct Spot {
     pub node: Node,
 }
 
-/// Goes to where a trail leads. The twigs on the way are moved where they may not be written. Where there is no room for them, what was
+/// Goes to where a stack leads. The twigs on the way are moved where they may not be written. Where there is no room for them, what was
 /// moved before stays so.
 pub fn reach<C: CellWrite>(
     cells: &mut C,
     usage: &mut Usage,
     root: Ref,
-    trail: &Trail,
+    stack: &Stack,
 ) -> Result<Spot, Shortage>
     requires can { CanRearrange C.has C.kept C.given root cells.old usage.old }
-    requires found { Finds C.has cells.old usage.old root trail.now }
+    requires found { Finds C.has cells.old usage.old root stack.now }
     ensures reached { IfOk result (λ spot. SpotReached C.has C.given root cells.old usage.old cells.new usage.new spot.at spot.node) }
     ensures rearranged { Rearranged C.has C.kept C.given root cells.old usage.old cells.new usage.new }
     ensures short { IfErr result (λ _. StopsShort usage.old usage.new) }
 {
     let mut at = root;
     let mut node = Node::of(cells.cell(root));
-    while let Some(branch) = branch_before(node, trail.end) {
-        let index = trail.index_at(branch.offset);
+    while let Some(branch) = branch_before(node, stack.end) {
+        let index = stack.index_at(branch.offset);
         let stays = usage.is_mutable(branch.twigs + index);
         let descent = Descent { branch, index };
         at = pass(cells, usage, at, Passage { descent, stays })?;
@@ -62,21 +62,21 @@ pub fn reach<C: CellWrite>(
     Ok(Spot { at, node })
 }
 
-/// Moves what the trail leads to, and tells where the first of it lay. Where there is no room for it, or for twigs on the way, what was moved before
+/// Moves what the stack leads to, and tells where the first of it lay. Where there is no room for it, or for twigs on the way, what was moved before
 /// stays so.
 pub fn move_found<C: CellWrite>(
     cells: &mut C,
     usage: &mut Usage,
     root: Ref,
-    trail: &Trail,
+    stack: &Stack,
 ) -> Result<Ref, Shortage>
     requires can { CanRearrange C.has C.kept C.given root cells.old usage.old }
-    requires found { Finds C.has cells.old usage.old root trail.now }
+    requires found { Finds C.has cells.old usage.old root stack.now }
     ensures rearranged { Rearranged C.has C.kept C.given root cells.old usage.old cells.new usage.new }
     ensures less { IfOk result (λ _. Fewer usage.old usage.new) }
     ensures short { IfErr result (λ _. StopsShort usage.old usage.new) }
 {
-    let spot = reach(cells, usage, root, trail)?;
+    let spot = reach(cells, usage, root, stack)?;
     match spot.node {
         Node::Leaf(leaf) => {
             move_item(cells, usage, spot.at, leaf)?;
@@ -103,12 +103,12 @@ pub fn copy_forked<C: CellWrite>(
     ensures rearranged { Rearranged C.has C.kept C.given root cells.old usage.old cells.new usage.new }
     ensures full { IfErr result (λ _. IsUsedUp usage.new) }
 {
-    let mut trail = Trail::new();
+    let mut stack = Stack::new();
     let mut leaf = path;
     let top = cells.cell(root);
-    if last_sparse(cells, usage, &mut trail, top, path, &mut leaf) {
+    if last_sparse(cells, usage, &mut stack, top, path, &mut leaf) {
         usage.note(leaf);
-        reach(cells, usage, root, &trail)?;
+        reach(cells, usage, root, &stack)?;
         return Ok(true);
     }
     Ok(false)
@@ -125,15 +125,15 @@ pub fn move_forked<C: CellWrite>(
     ensures rearranged { Rearranged C.has C.kept C.given root cells.old usage.old cells.new usage.new }
     ensures full { IfErr result (λ _. IsUsedUp usage.new) }
 {
-    let mut trail = Trail::new();
+    let mut stack = Stack::new();
     let mut leaf = path;
     for _ in 0..MOST_MOVES {
         let top = cells.cell(root);
-        if !last_sparse(cells, usage, &mut trail, top, path, &mut leaf) {
+        if !last_sparse(cells, usage, &mut stack, top, path, &mut leaf) {
             return Ok(());
         }
         usage.note(leaf);
-        move_found(cells, usage, root, &trail)?;
+        move_found(cells, usage, root, &stack)?;
     }
     Ok(())
 }

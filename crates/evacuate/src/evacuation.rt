@@ -11,7 +11,7 @@ use super::finding::{Search, survey};
 use super::moves::move_root;
 use super::path_list::move_listed;
 use super::sparse::is_any_sparse;
-use super::trail::{Trail, next_sparse};
+use super::stack::{Stack, next_sparse};
 use chunk_cells::CellWrite;
 use chunk_usage::{Shortage, Usage};
 use packed_node::{Ref, chunk_of};
@@ -22,7 +22,7 @@ const ROUNDS: u32 = 6;
 
 /// How an evacuation ended.
 #[derive(Clone, Copy, PartialEq, Eq, Debug)]
-pub enum Done {
+pub enum EvacuationEnd {
     /// No cell of a sparse chunk counts any more.
     Whole,
     /// No chunk was free.
@@ -31,7 +31,7 @@ pub enum Done {
 
 /// Moves what a root reaches out of the sparse chunks, and may take the reserve for it. The same trie stands at the root that is answered,
 /// and what was moved stays so where no chunk was free for the rest.
-pub fn evacuate<C: CellWrite>(cells: &mut C, usage: &mut Usage, root: Root) -> (Root, Done)
+pub fn evacuate<C: CellWrite>(cells: &mut C, usage: &mut Usage, root: Root) -> (Root, EvacuationEnd)
     requires stands { (version : List Entry) × HasTrie C.has account_of cells.old usage.old root version }
     requires ready { Ready C.kept C.given account_of cells.old usage.old }
     ensures trie { CarriesTrie C.has cells.old usage.old root cells.new usage.new result.0 result.1 }
@@ -40,14 +40,14 @@ pub fn evacuate<C: CellWrite>(cells: &mut C, usage: &mut Usage, root: Root) -> (
 {
     usage.known(); // for the proof
     match root {
-        None => (None, Done::Whole),
+        None => (None, EvacuationEnd::Whole),
         Some(at) => {
             if is_any_sparse(usage) {
                 let (new, done) = empty_sparse(cells, usage, at);
                 usage.known(); // for the proof
                 return (Some(new), done);
             }
-            (Some(at), Done::Whole)
+            (Some(at), EvacuationEnd::Whole)
         }
     }
 }
@@ -55,7 +55,7 @@ pub fn evacuate<C: CellWrite>(cells: &mut C, usage: &mut Usage, root: Root) -> (
 /// Moves all that lies in sparse chunks to chunks that are free now, or to the bump chunk where that may be filled on. It ends where none of
 /// them has a cell that counts: once something was moved that was the last of its chunk, or at the end of a walk. The first walk goes where
 /// chunks that were sparse at first seem to be reached. One that came to the end begins again, over all, where some chunk still is sparse.
-fn empty_sparse<C: CellWrite>(cells: &mut C, usage: &mut Usage, root: Ref) -> (Ref, Done)
+fn empty_sparse<C: CellWrite>(cells: &mut C, usage: &mut Usage, root: Ref) -> (Ref, EvacuationEnd)
     requires stood { IsStood C.has cells.old usage.old root }
     requires sparse { HasSparse usage.old }
     requires ready { Ready C.kept C.given reserve_account_of cells.old usage.old }
@@ -65,35 +65,35 @@ fn empty_sparse<C: CellWrite>(cells: &mut C, usage: &mut Usage, root: Ref) -> (R
     usage.known(); // for the proof
     let chunk = begin(usage);
     let at = match copy_root(cells, usage, root, chunk) {
-        Err(_) => return (root, Done::Stopped),
+        Err(_) => return (root, EvacuationEnd::Stopped),
         Ok(at) => at,
     };
     if let Some(done) = empty_listed(cells, usage, at) {
         return (at, done);
     }
-    let mut trail = Trail::new();
+    let mut stack = Stack::new();
     let mut resumed = false;
     let mut before = usage.first_sparse();
     'passes: loop {
         let node = cells.cell(at);
-        if next_sparse(cells, usage, &mut trail, node, 0, resumed, before) {
-            match move_found(cells, usage, at, &trail) {
-                Err(_) => return (at, Done::Stopped),
-                Ok(from) if was_last(usage, from) => return (at, Done::Whole),
+        if next_sparse(cells, usage, &mut stack, node, 0, resumed, before) {
+            match move_found(cells, usage, at, &stack) {
+                Err(_) => return (at, EvacuationEnd::Stopped),
+                Ok(from) if was_last(usage, from) => return (at, EvacuationEnd::Whole),
                 Ok(_) => resumed = true,
             }
         } else if begins_again(usage, resumed || before > 0) {
             resumed = false;
             before = 0;
         } else {
-            return (at, Done::Whole);
+            return (at, EvacuationEnd::Whole);
         }
     }
 }
 
 /// Moves what the lists of sparse chunks lead to. Tells how that ended, unless some is left: once the lists were made anew, that may be
 /// where they had no room for all.
-fn empty_listed<C: CellWrite>(cells: &mut C, usage: &mut Usage, root: Ref) -> Option<Done>
+fn empty_listed<C: CellWrite>(cells: &mut C, usage: &mut Usage, root: Ref) -> Option<EvacuationEnd>
     requires { CanRearrange C.has C.kept C.given root cells.old usage.old }
     ensures rearranged { Rearranged C.has C.kept C.given root cells.old usage.old cells.new usage.new }
     ensures ended { ListsEnd usage.old usage.new result }
@@ -108,7 +108,7 @@ fn empty_listed<C: CellWrite>(cells: &mut C, usage: &mut Usage, root: Ref) -> Op
 }
 
 /// The same with the lists that there are, unless they are known to lack something.
-fn known_lists<C: CellWrite>(cells: &mut C, usage: &mut Usage, root: Ref) -> Option<Done>
+fn known_lists<C: CellWrite>(cells: &mut C, usage: &mut Usage, root: Ref) -> Option<EvacuationEnd>
     requires { CanRearrange C.has C.kept C.given root cells.old usage.old }
     ensures rearranged { Rearranged C.has C.kept C.given root cells.old usage.old cells.new usage.new }
     ensures ended { ListsEnd usage.old usage.new result }
@@ -123,7 +123,7 @@ fn known_lists<C: CellWrite>(cells: &mut C, usage: &mut Usage, root: Ref) -> Opt
 ///
 /// Lists are guesses: what a path led to may have moved, or a branch have come between. So rounds go from likely paths to all ways. Counts alone
 /// end them, so a wrong list costs time and loses nothing.
-fn try_lists<C: CellWrite>(cells: &mut C, usage: &mut Usage, root: Ref) -> Option<Done>
+fn try_lists<C: CellWrite>(cells: &mut C, usage: &mut Usage, root: Ref) -> Option<EvacuationEnd>
     requires { CanRearrange C.has C.kept C.given root cells.old usage.old }
     ensures rearranged { Rearranged C.has C.kept C.given root cells.old usage.old cells.new usage.new }
     ensures ended { ListsEnd usage.old usage.new result }
@@ -131,10 +131,10 @@ fn try_lists<C: CellWrite>(cells: &mut C, usage: &mut Usage, root: Ref) -> Optio
     for round in 0..ROUNDS {
         let moved = move_listed(cells, usage, root, Search::in_round(round));
         if !is_any_sparse(usage) {
-            return Some(Done::Whole);
+            return Some(EvacuationEnd::Whole);
         }
         if moved.is_err() {
-            return Some(Done::Stopped);
+            return Some(EvacuationEnd::Stopped);
         }
     }
     None

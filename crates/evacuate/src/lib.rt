@@ -8,6 +8,6 @@ mod moves;
 mod path_list;
 mod path_walk;
 mod sparse;
-mod trail;
+mod stack;
 
-pub use evacuation::{Done, evacuate};
+pub use evacuation::{EvacuationEnd, evacuate};

@@ -132,14 +132,14 @@ fn note_long(usage: &mut Usage, leaf: Leaf, path: Path)
     }
 }
 
-/// Goes on down from a foothold along what the path says from there on, before an offset. Twigs that lie in a sparse chunk are moved, and others that
+/// Goes on down from a start along what the path says from there on, before an offset. Twigs that lie in a sparse chunk are moved, and others that
 /// may not be written too, or the way ends there. Where there is no room for that, what was moved before stays so.
 #[inline(always)]
 pub fn go_on<C: CellWrite>(
     cells: &mut C,
     usage: &mut Usage,
     root: Ref,
-    from: Foothold,
+    from: Start,
     chunk: u32,
     end: u16,
     others: bool,
@@ -178,7 +178,7 @@ pub fn empty_along<C: CellWrite>(
     ensures rearranged { Rearranged C.has C.kept C.given root cells.old usage.old cells.new usage.new }
     ensures full { IfErr result (λ _. IsUsedUp usage.new) }
 {
-    let from = Foothold {
+    let from = Start {
         at: root,
         node: Node::of(cells.cell(root)),
         on: path,
@@ -198,7 +198,7 @@ pub fn empty_along<C: CellWrite>(
 
 /// A cell on the way down from a root that may be written, the node that it says, what a path says from there on, and how many steps lead there.
 #[derive(Clone, Copy)]
-pub struct Foothold {
+pub struct Start {
     pub at: Ref,
     pub node: Node,
     pub on: Path,
@@ -230,7 +230,7 @@ pub fn descend<C: CellWrite>(
     root: Ref,
     path: Path,
     chunk: u32,
-) -> Foothold
+) -> Start
     requires { CanRearrange C.has C.kept C.given root cells.old usage.now }
     ensures same { cells.new ≡ cells.old }
     ensures walks_on { CanWalkOn C.has C.kept C.given root result.at result.node cells.old usage.now }
@@ -246,7 +246,7 @@ pub fn descend<C: CellWrite>(
         steps = steps.saturating_add(1);
         node = Node::of(cells.cell(at));
     }
-    Foothold {
+    Start {
         at,
         node,
         on,

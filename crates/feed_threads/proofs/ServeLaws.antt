@@ -10,10 +10,10 @@ use Rattle.job_report.specs.declared.outcomes.Outcome.{Outcome}
 use Rattle.feed_core.specs.Feeds.{Handout, Takings, lists_of}
 use Rattle.shared_cells.specs.Views.{is_told}
 use Rattle.qp_multi.specs.Passes.{Known, Learnt, known_at}
-use Rattle.job_commands.specs.Histories.{Setup}
+use Rattle.job_commands.specs.Histories.{OpenedWith}
 use Rattle.job_commands.specs.Steps.{Step}
 use Rattle.job_commands.specs.Commands.{Seat}
-use Rattle.job_commands.specs.Stations.{station}
+use Rattle.job_commands.specs.WorkerPasses.{worker_passes}
 use Rattle.job_commands.specs.Calls.{next_number}
 use Rattle.job_commands.specs.Closings.{Gathers}
 use Rattle.job_commands.specs.Works.{IsNew, Numbers, only}
@@ -45,17 +45,17 @@ number_counted number some few = omega (arith, some, few)
 
 -- ---- how far the worker has come
 
-pub serve_starts : (s : Setup) (number : ℕ) (seat : Option Seat) → IsNew number s.opening (known_at seat) → WorkerAt s (only number) (station seat (Some seat) None) [] [] []
+pub serve_starts : (s : OpenedWith) (number : ℕ) (seat : Option Seat) → IsNew number s.opening (known_at seat) → WorkerAt s (only number) (worker_passes seat (Some seat) None) [] [] []
 serve_starts s number seat new = worker_starts s (only number) (known_at seat) (known_at seat) [] (record { asker = new; holder = new }) tt
 
-pub serve_next : (s : Setup) (numbers : Numbers) (seat after first : Option Seat) (all : List Command) (taken more : List ℕ) (number : ℕ) (here : Command) (os most : List Outcome) (o : Outcome) → is_told (known_at seat).seen.opening ≡ true → command_at all number ≡ here → NeedsNoSnapshot here
-    → more ≡ taken ++ number ∷ [] → most ≡ os ++ o ∷ [] → WorkerAt s numbers (station seat (Some first) None) (commands_at all taken) [] os → Step s here o (station seat (Some first) None) (station after (Some first) None)
-    → WorkerAt s numbers (station after (Some first) None) (commands_at all more) [] most
+pub serve_next : (s : OpenedWith) (numbers : Numbers) (seat after first : Option Seat) (all : List Command) (taken more : List ℕ) (number : ℕ) (here : Command) (os most : List Outcome) (o : Outcome) → is_told (known_at seat).seen.opening ≡ true → command_at all number ≡ here → NeedsNoSnapshot here
+    → more ≡ taken ++ number ∷ [] → most ≡ os ++ o ∷ [] → WorkerAt s numbers (worker_passes seat (Some first) None) (commands_at all taken) [] os → Step s here o (worker_passes seat (Some first) None) (worker_passes after (Some first) None)
+    → WorkerAt s numbers (worker_passes after (Some first) None) (commands_at all more) [] most
 serve_next s numbers seat after first all taken more number here os most o told is plain is_more is_most w step =
     let commands : commands_at all more ≡ commands_at all taken ++ here ∷ [] = ap (commands_at all) is_more ∙ map-append (command_at all) taken (number ∷ []) ∙ ap (λ (c : Command). commands_at all taken ++ c ∷ []) is in
-    subst (λ (l : List Outcome). WorkerAt s numbers (station after (Some first) None) (commands_at all more) [] l) (sym is_most)
-    (subst (λ (l : List Command). WorkerAt s numbers (station after (Some first) None) l [] (os ++ o ∷ [])) (sym commands)
-    (plain_goes_on s numbers (station seat (Some first) None) (station after (Some first) None) (commands_at all taken) here os o told refl plain w step))
+    subst (λ (l : List Outcome). WorkerAt s numbers (worker_passes after (Some first) None) (commands_at all more) [] l) (sym is_most)
+    (subst (λ (l : List Command). WorkerAt s numbers (worker_passes after (Some first) None) l [] (os ++ o ∷ [])) (sym commands)
+    (plain_goes_on s numbers (worker_passes seat (Some first) None) (worker_passes after (Some first) None) (commands_at all taken) here os o told refl plain w step))
 
 -- its seat is done
 pub seat_done : (old new : Takings) (feed : Handout) (numbers : List ℕ) → old.feed ≡ feed → old.taken ≡ numbers → new ≡ record old { done = true } → new ≡ done_seat feed numbers
@@ -81,7 +81,7 @@ some_done feed (v ∷ served) some = Any-from_list_any (λ (seat : Takings). sea
 -- ---- what it comes to
 
 -- what one more worker of one list comes to, if there is memory for it
-pub gathers_served : {G E : Type 0} (r : Result G E) (served_of : G → List Served) (views_of' : G → List Known) (main_of : G → Known) (s : Setup) (before : List Known) (commands : List Command) (served : List Served) (views : List Known) (main seen : Known)
+pub gathers_served : {G E : Type 0} (r : Result G E) (served_of : G → List Served) (views_of' : G → List Known) (main_of : G → Known) (s : OpenedWith) (before : List Known) (commands : List Command) (served : List Served) (views : List Known) (main seen : Known)
     → IfOk r (λ g. served_of g ≡ served) → IfOk r (λ g. views_of' g ≡ views) → IfOk r (λ g. Learnt main (main_of g) seen.seen) → ((after : Known) → Learnt main after seen.seen → Gathers s before (commands_served commands served) (outcomes_served served) views after)
     → IfOk r (λ g. Gathers s before (commands_served commands (served_of g)) (outcomes_served (served_of g)) (views_of' g) (main_of g))
 gathers_served (Ok g) served_of views_of' main_of s before commands served views main seen is_served is_views learnt gathers =

@@ -15,7 +15,7 @@ use Rattle.qp_multi.specs.Passes.{known_at}
 use Rattle.job_commands.specs.Commands.{OpensAt}
 use Rattle.job_commands.specs.Histories.{IsZone}
 use Rattle.feed_threads.specs.Feeds.{IsFree, IsServed, done_seat, seats_served, served_by}
-use Rattle.feed_threads.specs.declared.feeding.FedDone.{FedDone}
+use Rattle.feed_threads.specs.declared.feeding.FedWorkerEnd.{FedWorkerEnd}
 use Rattle.feed_threads.specs.declared.feeding.FedGathered.{FedGathered}
 use Rattle.feed_threads.specs.declared.ordering.Served.{Served}
 
@@ -50,7 +50,7 @@ module _ {Y : Type 0} {N : Ghosts Y} where
     pub seat : taken ≡ new_seat feed
 
   -- both are back; the worker took some numbers, and has an outcome for each
-  pub record IsBack (index : ℕ) (feed : Handout) (d : FedDone Y N) : Type 0 where
+  pub record IsBack (index : ℕ) (feed : Handout) (d : FedWorkerEnd Y N) : Type 0 where
     pub here : IsSome d.pass.seat
     pub place : d.pass.place ≡ index
     pub seat : d.seat ≡ done_seat feed d.served.numbers.items

@@ -1,15 +1,15 @@
 //! One list of commands, of which each worker takes the next one when it comes free.
 ghost use Rattle.std.specs.Prelude.{◌≡◌, ◌+◌, ◌<◌, ◌∷◌, ℕ, IsSome, IfOk, length, map, Some, None};
 ghost use Rattle.feed_threads.specs.Prelude.{AllByRecursion, IsSync, Version, command_view};
-ghost use Rattle.feed_threads.specs.Prelude.{known_at, Learnt, AreAll, Setup, StandsAs, AreNew, IsNew, table_size, known_in};
-ghost use Rattle.feed_threads.specs.Prelude.{IsHeard, IsIndex, IsSetup, AreGathered, DoneRan, FedHeard, IsFedRun};
+ghost use Rattle.feed_threads.specs.Prelude.{known_at, Learnt, AreAll, OpenedWith, StandsAs, AreNew, IsNew, table_size, known_in};
+ghost use Rattle.feed_threads.specs.Prelude.{IsHeard, IsIndex, IsOpenedWith, AreGathered, WorkerEndRan, FedHeard, IsFedRun};
 ghost use Rattle.feed_threads.specs.Prelude.{AllFedHeard, AreBack, AreFed, CanFeed, CanServe, IsBack, IsReady, PassesAreBack};
 
 use crate::ordering::{Served, in_order};
 use crew::Turnstile;
 use dns_name::Name;
 use feed_core::{Feed, FeedSeat};
-use job_commands::{Gate, Room, ZoneLaw, close_index, run_alone};
+use job_commands::{Gate, WorkerScratch, ZoneLaw, close_index, run_alone};
 use job_report::{FedOutcome, Outcomes};
 use job_script::Command;
 use qp_multi::{Index, Named, Pass};
@@ -27,7 +27,7 @@ pub struct FedFinished {
 
 // What a worker did. Its pass and its seat are back.
 #[derive(Drop)]
-struct FedDone<N: Named> {
+struct FedWorkerEnd<N: Named> {
     served: Served,
     pass: Pass<N>,
     seat: FeedSeat,
@@ -52,18 +52,18 @@ fn serve<R: Wait, N: Named, G: Gate>(
     turnstile: &mut Turnstile<'_, R, Command, G>,
     mut pass: Pass<N>,
     mut seat: FeedSeat,
-) -> Result<FedDone<N>, AllocError>
+) -> Result<FedWorkerEnd<N>, AllocError>
     requires fresh { (turnstile.old.entered ≡ None) × (turnstile.old.told ≡ 0)
         × AreFed origin.now feed.now (length turnstile.old.commands.now) (map command_view turnstile.old.commands.now) }
     requires ready { IsReady origin.now index.now.place feed.now pass seat }
     ensures back { IfOk result (IsBack index.now.place feed.now) }
-    ensures ran { (s : Setup) (number : ℕ) → IsSetup s origin.now (table_size index.now) (known_at pass.seat)
-        → IsNew number s.opening (known_at pass.seat) → IfOk result (DoneRan s number (known_at pass.seat) (map command_view turnstile.old.commands.now)) }
+    ensures ran { (s : OpenedWith) (number : ℕ) → IsOpenedWith s origin.now (table_size index.now) (known_at pass.seat)
+        → IsNew number s.opening (known_at pass.seat) → IfOk result (WorkerEndRan s number (known_at pass.seat) (map command_view turnstile.old.commands.now)) }
     // It has left the turnstile, which has told of all that it took.
     ensures heard { IfOk result (λ d. AllByRecursion (IsHeard (G.hears turnstile.old.gate.now) turnstile.old.worker) d.served.numbers.items
         × (turnstile.new.entered ≡ None) × (turnstile.new.told ≡ length d.served.numbers.items)) }
 {
-    let mut room = Room::new(alloc)?;
+    let mut room = WorkerScratch::new(alloc)?;
     let mut numbers = Vec::new(alloc);
     let mut list = Vec::new(alloc);
     while let Some(number) = seat.take(rt, feed) {
@@ -74,7 +74,7 @@ fn serve<R: Wait, N: Named, G: Gate>(
         turnstile.leave(&list);
     }
     let outcomes = Outcomes { list };
-    Ok(FedDone {
+    Ok(FedWorkerEnd {
         served: Served { numbers, outcomes },
         pass,
         seat,
@@ -84,7 +84,7 @@ fn serve<R: Wait, N: Named, G: Gate>(
 // A worker is done beside others.
 fn with_served<N: Named>(
     index: &Index<ZoneLaw, N>,
-    done: FedDone<N>,
+    done: FedWorkerEnd<N>,
     others: FedGathered<N>,
 ) -> Result<FedGathered<N>, AllocError>
     requires done { (IsSome done.pass.seat) × (done.pass.place ≡ index.now.place) }
@@ -94,7 +94,7 @@ fn with_served<N: Named>(
         × (known_in g.passes.items ≡ known_at done.pass.seat ∷ known_in others.passes.items)) }
     ensures learnt { IfOk result (λ g. Learnt (known_at others.main.seat) (known_at g.main.seat) (known_at done.pass.seat).seen) }
 {
-    let FedDone {
+    let FedWorkerEnd {
         served: one,
         mut pass,
         seat,
@@ -135,7 +135,7 @@ fn serve_all<R: Threads + Wait + Sync, N: Named + Send + Sync, G: Gate>(
 ) -> Result<FedGathered<N>, AllocError>
     requires can { CanServe origin.now index.now.place feed.now (length commands.now) (map command_view commands.now) passes.items seats.items }
     ensures back { IfOk result (AreBack index.now.place feed.now (length seats.items)) }
-    ensures ran { (s : Setup) → IsIndex s origin.now (table_size index.now) → AreNew s.opening (known_in passes.items)
+    ensures ran { (s : OpenedWith) → IsIndex s origin.now (table_size index.now) → AreNew s.opening (known_in passes.items)
         → IfOk result (AreGathered s (known_in passes.items) (map command_view commands.now)) }
     ensures heard { IfOk result (λ g. FedHeard (G.hears gate.now) worker g.served.items) }
 {
@@ -152,12 +152,12 @@ fn serve_all<R: Threads + Wait + Sync, N: Named + Send + Sync, G: Gate>(
         });
     };
     let next = worker.saturating_add(1);
-    let first = move || -> Result<FedDone<N>, AllocError>
+    let first = move || -> Result<FedWorkerEnd<N>, AllocError>
         requires ready { IsReady origin.now index.now.place feed.now pass seat }
         requires commands { AreFed origin.now feed.now (length commands.now) (map command_view commands.now) }
         ensures back { IfOk result (IsBack index.entry.now.place feed.entry.now) }
-        ensures ran { (s : Setup) (number : ℕ) → IsSetup s origin.entry.now (table_size index.entry.now) (known_at pass.seat)
-            → IsNew number s.opening (known_at pass.seat) → IfOk result (DoneRan s number (known_at pass.seat) (map command_view commands.entry.now)) }
+        ensures ran { (s : OpenedWith) (number : ℕ) → IsOpenedWith s origin.entry.now (table_size index.entry.now) (known_at pass.seat)
+            → IsNew number s.opening (known_at pass.seat) → IfOk result (WorkerEndRan s number (known_at pass.seat) (map command_view commands.entry.now)) }
         ensures heard { IfOk result (λ d. AllByRecursion (IsHeard (G.hears gate.entry.now) worker) d.served.numbers.items) }
     {
         let mut turnstile = Turnstile::new(rt, gate, worker, commands);
@@ -167,7 +167,7 @@ fn serve_all<R: Threads + Wait + Sync, N: Named + Send + Sync, G: Gate>(
         requires sync { IsSync R.row }
         requires can { CanServe origin.now index.now.place feed.now (length commands.now) (map command_view commands.now) passes.items seats.items }
         ensures back { IfOk result (AreBack index.entry.now.place feed.entry.now (length seats.items)) }
-        ensures ran { (s : Setup) → IsIndex s origin.entry.now (table_size index.entry.now) → AreNew s.opening (known_in passes.items)
+        ensures ran { (s : OpenedWith) → IsIndex s origin.entry.now (table_size index.entry.now) → AreNew s.opening (known_in passes.items)
             → IfOk result (AreGathered s (known_in passes.items) (map command_view commands.entry.now)) }
         ensures heard { IfOk result (λ g. FedHeard (G.hears gate.entry.now) next g.served.items) }
     {
@@ -193,7 +193,8 @@ pub fn run_feed<R: Threads + Wait + Sync, N: Named + Send + Sync, G: Gate>(
     requires can { CanFeed origin.now index.place workers (length commands.now) (map command_view commands.now) passes.items }
     requires size { index.shared.table.shared.key.passes ≡ length passes.items }
     requires all { AreAll (length passes.items) (known_in passes.items) }
-    ensures ran { (s : Setup) (zone : Version) → IsIndex s origin.now (table_size index) → StandsAs s.opening zone → AreNew s.opening (known_in passes.items)
+    ensures ran { (s : OpenedWith) (zone : Version) → IsIndex s origin.now (table_size index) → StandsAs s.opening zone
+        → AreNew s.opening (known_in passes.items)
         → IfOk result (λ f. IsFedRun s.chunks workers origin.now zone (map command_view commands.now) f.outcomes.items f.version f.names) }
     // Each command is told by the number of the worker that ran it, and its own.
     ensures heard { IfOk result (λ f. AllFedHeard (G.hears gate.now) workers (length commands.now) f.outcomes.items) }

@@ -1,11 +1,11 @@
 //! What passes of one index do in turn: snapshots, notes, full tables, rollbacks.
 ghost use Rattle.std.specs.Prelude.{◌≤◌, IsSomeAnd};
-ghost use Rattle.qp_multi.specs.Drafts.{Works};
+ghost use Rattle.qp_multi.specs.WorkingVersions.{Works};
 
 use crate::buffer::Buffer;
 use crate::items::numbered;
 use crate::worker::{Act, Any, Refusal, Worker, act_within, alone, pair, tag};
-use qp_multi::{Locked, Named, OutOfSpace, Snapshot, Transaction};
+use qp_multi::{Named, OutOfSpace, Snapshot, Transaction, WriteGuard};
 use shift_key::Key;
 use std::alloc::Global;
 use std::sync::Wait;
@@ -82,7 +82,7 @@ fn peek<N: Named, K>(
     key: &Key,
     buffer: &mut Buffer,
 ) -> (u64, u8)
-    requires { IsSomeAnd transaction.old.locked.now.draft Works }
+    requires { IsSomeAnd transaction.old.locked.now.working Works }
 {
     let number = transaction.version();
     let _octets = transaction.fetch(key, &mut buffer.octets);
@@ -97,7 +97,7 @@ fn look_inside<N: Named, R: Wait>(
     buffer: &mut Buffer,
 ) -> (u64, u8) {
     let Worker { index, mut pass } = worker;
-    let mut locked = Locked::of(index);
+    let mut locked = WriteGuard::of(index);
     let mut write = index.write(rt, &mut locked, &mut pass);
     let _done = write.replace(&item.key(), item.octets());
     peek(&mut write, &item.key(), buffer)
@@ -106,7 +106,7 @@ fn look_inside<N: Named, R: Wait>(
 impl<N: Named> Worker<'_, N> {
     /// Exchanges an item by a heavy transaction, which is rolled back or dropped. Whether it was exchanged meanwhile.
     fn give_up<R: Wait>(&mut self, rt: &R, item: &Item, rolls_back: bool) -> bool {
-        let mut locked = Locked::of(self.index);
+        let mut locked = WriteGuard::of(self.index);
         let mut update = self.index.update(rt, &mut locked, &mut self.pass);
         let done = act_within(&mut update, item, Act::Exchange).is_ok();
         if rolls_back {
@@ -123,7 +123,7 @@ impl<N: Named> Worker<'_, N> {
         number: u64,
         buffer: &mut Buffer,
     ) -> bool {
-        let mut locked = Locked::of(self.index);
+        let mut locked = WriteGuard::of(self.index);
         let mut write = self.index.write(rt, &mut locked, &mut self.pass);
         let outcome = act_within(&mut write, item, Act::Exchange);
         let same = write.fetch(&item.key(), &mut buffer.octets) == Some(LARGE)

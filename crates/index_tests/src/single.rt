@@ -4,7 +4,7 @@ ghost use Rattle.trie_model.specs.Keys.{Rises};
 ghost use Rattle.trie_write.specs.Entries.{entries_of_items};
 
 use crate::items::numbered;
-use qp_multi::{Blank, Index, Law, Locked, Named};
+use qp_multi::{Blank, Index, Law, Named, WriteGuard};
 use std::alloc::Global;
 use std::marker::Brand;
 use std::sync::Wait;
@@ -36,7 +36,7 @@ fn run<N: Named, R: Wait>(
         return None;
     };
     let mut pass = passes.pop()?;
-    let mut locked = Locked::of(&index);
+    let mut locked = WriteGuard::of(&index);
     let mut write = index.write(rt, &mut locked, &mut pass);
     write.replace(&second.key(), second.octets()).ok()?;
     Some(write.commit().ok()?.version)

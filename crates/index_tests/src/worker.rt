@@ -1,13 +1,13 @@
 //! A pass with its index, as tests use it.
 ghost use Rattle.std.specs.Prelude.{◌≡◌, ◌≤◌, IsSome, IsSomeAnd, All};
 ghost use Rattle.trie_read.specs.Readings.{IsHeld};
-ghost use Rattle.qp_multi.specs.Drafts.{Works};
+ghost use Rattle.qp_multi.specs.WorkingVersions.{Works};
 
 use crate::buffer::Buffer;
 use crate::items::numbered;
 use qp_multi::{
-    ChangeRefusal, Index, InsertRefusal, Law, Locked, Named, Note, OutOfSpace, Pass, Receipt,
-    Transaction,
+    ChangeRefusal, Index, InsertRefusal, Law, Named, Note, OutOfSpace, Pass, Receipt, Transaction,
+    WriteGuard,
 };
 use shift_key::Key;
 use std::alloc::Global;
@@ -102,11 +102,11 @@ pub(crate) fn act_within<N: Named, K>(
     item: &Item,
     act: Act,
 ) -> Result<(), Refusal>
-    requires { IsSomeAnd transaction.old.locked.now.draft Works }
+    requires { IsSomeAnd transaction.old.locked.now.working Works }
     ensures same_reference { (transaction.new.home.ghost_name ≡ transaction.old.home.ghost_name)
         × (transaction.new.locked.ghost_name ≡ transaction.old.locked.ghost_name) }
     ensures place { transaction.new.locked.now.place ≡ transaction.old.locked.now.place }
-    ensures works { IsSomeAnd transaction.new.locked.now.draft Works }
+    ensures works { IsSomeAnd transaction.new.locked.now.working Works }
 {
     let key = item.key();
     match act {
@@ -125,7 +125,7 @@ impl<'i, N: Named> Worker<'i, N> {
         item: &Item,
         act: Act,
     ) -> Result<Receipt, Refusal> {
-        let mut locked = Locked::of(self.index);
+        let mut locked = WriteGuard::of(self.index);
         let mut write = self.index.write(rt, &mut locked, &mut self.pass);
         act_within(&mut write, item, act)?;
         write.commit().map_err(|_| Refusal::Other)
@@ -138,7 +138,7 @@ impl<'i, N: Named> Worker<'i, N> {
         item: &Item,
         act: Act,
     ) -> Result<Receipt, Refusal> {
-        let mut locked = Locked::of(self.index);
+        let mut locked = WriteGuard::of(self.index);
         let mut update = self.index.update(rt, &mut locked, &mut self.pass);
         act_within(&mut update, item, act)?;
         update.commit().map_err(|_| Refusal::Other)

@@ -20,11 +20,11 @@ use Rattle.trie_model.specs.Keys.{Entry}
 use Rattle.qp_multi.specs.declared.meaning.Operation.{Operation}
 use Rattle.pin_core.specs.declared.version.Spent.{Spent as NoNumber}
 use Rattle.qp_multi.specs.declared.commit.Receipt.{Receipt}
-use Rattle.qp_multi.specs.declared.desk.Draft.{Draft}
+use Rattle.qp_multi.specs.declared.writer.WorkingVersion.{WorkingVersion}
 use Rattle.qp_multi.specs.declared.kept.Versions.{Versions}
 use Rattle.qp_multi.specs.Passes.{Known, first_version, known_at, version_seen}
-use Rattle.qp_multi.specs.Drafts as drafts
-use Rattle.qp_multi.specs.Drafts.{Begins, IsBack, Works, working_set}
+use Rattle.qp_multi.specs.WorkingVersions as working_versions
+use Rattle.qp_multi.specs.WorkingVersions.{Begins, IsBack, Works, working_set}
 use Rattle.chunk_usage.specs.Keeping.{kept_versions}
 use Rattle.qp_multi.specs.Keepings.{versions_in}
 use Rattle.qp_multi.specs.Kinds.{StartsAs}
@@ -37,7 +37,7 @@ use Rattle.zone_edit.specs.declared.refusal.EditRefusal.TheVariants as refusals
 use Rattle.qp_multi.proofs.WorkLaws.{Both, both}
 use Rattle.zone_edit.proofs.EditLaws.{some_weaker}
 use Rattle.zone_edit.proofs.WayLaws.{some_in_order}
-use Rattle.job_commands.specs.Histories.{IsLawful, Setup, StandsAs}
+use Rattle.job_commands.specs.Histories.{IsLawful, OpenedWith, StandsAs}
 use Rattle.job_commands.specs.Weights.{CommittedAs, RanAs}
 use Rattle.job_commands.specs.Commands.{Transacts, Accepts, BlockRan, BlockWants, OpensAt, StoppedBy}
 use Rattle.job_commands.proofs.TransactLaws.{begun_some, lawful_block, commits_block, commits_grow, commits_version, back_grows, back_pass, back_version, memory_wants, full_wants, rolled_back, rule_broken, spent_block, full_block}
@@ -45,24 +45,24 @@ use Rattle.job_commands.proofs.TransactLaws.{begun_some, lawful_block, commits_b
 abbrev Seat : Type 0
 Seat = PassSeat (List Entry) (List Operation)
 
-abbrev EditedOne : Name → Transaction → Result (Unit {0}) EditRefusal → Draft → Draft → Type 0
+abbrev EditedOne : Name → Transaction → Result (Unit {0}) EditRefusal → WorkingVersion → WorkingVersion → Type 0
 EditedOne origin asked r = EditsInOrder origin (done_of asked.operations r) (Executes origin asked r)
 
-there_is : (P : Draft → Type 0) (o : Option Draft) (d : Draft) → o ≡ Some d → IfSome o P → P d
-there_is P o d is h = subst (λ (x : Option Draft). IfSome x P) is h
+there_is : (P : WorkingVersion → Type 0) (o : Option WorkingVersion) (d : WorkingVersion) → o ≡ Some d → IfSome o P → P d
+there_is P o d is h = subst (λ (x : Option WorkingVersion). IfSome x P) is h
 
-there_and : (P : Draft → Type 0) (o : Option Draft) (d : Draft) → o ≡ Some d → IsSomeAnd o P → P d
-there_and P o d is h = subst (λ (x : Option Draft). IsSomeAnd x P) is h
+there_and : (P : WorkingVersion → Type 0) (o : Option WorkingVersion) (d : WorkingVersion) → o ≡ Some d → IsSomeAnd o P → P d
+there_and P o d is h = subst (λ (x : Option WorkingVersion). IsSomeAnd x P) is h
 
-module _ (s : Setup) (asked : Transaction) (ends : Ending) (old : Known) (o : Outcome) (first second : Option Draft) (told : is_told old.seen.opening ≡ true) (opening : first_version old.seen ≡ s.opening) (begins : IsSomeAnd first (Begins IsLawful old)) where
+module _ (s : OpenedWith) (asked : Transaction) (ends : Ending) (old : Known) (o : Outcome) (first second : Option WorkingVersion) (told : is_told old.seen.opening ≡ true) (opening : first_version old.seen ≡ s.opening) (begins : IsSomeAnd first (Begins IsLawful old)) where
   abbrev Done : Result (Unit {0}) EditRefusal → Type 0
   Done r = Edited s.origin asked r first second
 
-  pub commit_ran : (new : Known) (version : ℕ) → Done (Ok tt) → ends ≡ ending.Commit → IfSome second (λ d. drafts.Commits d.seat.place.me.0 d.log.operations new) → IfSome second (λ d. version ≡ d.seat.version + 1)
+  pub commit_ran : (new : Known) (version : ℕ) → Done (Ok tt) → ends ≡ ending.Commit → IfSome second (λ d. working_versions.Commits d.seat.place.me.0 d.log.operations new) → IfSome second (λ d. version ≡ d.seat.version + 1)
       → o.version ≡ version → ended_view o.told ≡ Committed → BlockRan s asked ends old new o
   commit_ran new version edits is commits next here said =
       let x = both (Begins IsLawful old) (EditedOne s.origin asked (Ok tt)) first second begins edits in
-      let c = there_is (λ d. drafts.Commits d.seat.place.me.0 d.log.operations new) second x.after x.new_is commits in
+      let c = there_is (λ d. working_versions.Commits d.seat.place.me.0 d.log.operations new) second x.after x.new_is commits in
       let v = there_is (λ d. version ≡ d.seat.version + 1) second x.after x.new_is next in
       record {
         grows = commits_grow s asked old x.before x.after x.met told opening x.related.edits.known new c;
@@ -114,7 +114,7 @@ module _ (s : Setup) (asked : Transaction) (ends : Ending) (old : Known) (o : Ou
 
   -- it was to be committed
   pub committed_ran : (seat : Option Seat) (r : Result Receipt NoNumber) → Done (Ok tt) → ends ≡ ending.Commit
-      → IfOk r (λ _. IfSome second (λ d. drafts.Commits d.seat.place.me.0 d.log.operations (known_at seat))) → IfOk r (λ t. IfSome second (λ d. t.version ≡ d.seat.version + 1))
+      → IfOk r (λ _. IfSome second (λ d. working_versions.Commits d.seat.place.me.0 d.log.operations (known_at seat))) → IfOk r (λ t. IfSome second (λ d. t.version ≡ d.seat.version + 1))
       → IfErr r (λ _. IfSome second (λ d. IsBack d.seat.place.me.0 seat)) → IfSome second (λ d. IsErr r ↔ (d.seat.version ≡ last_version)) → IfErr r (λ t. IfSome second (λ d. t.version ≡ d.seat.version))
       → IfOk r (λ t. (o.version ≡ t.version) × (ended_view o.told ≡ Committed)) → IfErr r (λ t. (o.version ≡ t.version) × (ended_view o.told ≡ Refused Spent)) → BlockRan s asked ends old (known_at seat) o
   committed_ran seat (Ok t) edits is commits next back spent last made lost = commit_ran (known_at seat) t.version edits is commits next made.0 made.1
@@ -124,11 +124,11 @@ module _ (s : Setup) (asked : Transaction) (ends : Ending) (old : Known) (o : Ou
       let history : length x.after.seat.place.me.0.seen.history ≡ length x.before.seat.place.me.0.seen.history = ap length x.related.edits.known.history in
       let base : t.version ≡ length x.before.seat.place.me.0.seen.history = number ∙ x.after.seat.version_is ∙ history in
       let none = there_is (λ d. IsErr {T = Receipt} (Err t) ↔ (d.seat.version ≡ last_version)) second x.after x.new_is spent in
-      spent_ran seat t.version back (subst (λ (d : Option Draft). IfSome d (λ d. t.version ≡ length d.seat.place.me.0.seen.history)) (sym x.old_is) base) lost.0 edits is
-      (subst (λ (d : Option Draft). IfSome d (λ d. d.seat.version ≡ last_version)) (sym x.new_is) (none.0 refl)) lost.1
+      spent_ran seat t.version back (subst (λ (d : Option WorkingVersion). IfSome d (λ d. t.version ≡ length d.seat.place.me.0.seen.history)) (sym x.old_is) base) lost.0 edits is
+      (subst (λ (d : Option WorkingVersion). IfSome d (λ d. d.seat.version ≡ last_version)) (sym x.new_is) (none.0 refl)) lost.1
 
 -- its asked stopped
-pub stopped_ran : (s : Setup) (asked : Transaction) (ends : Ending) (old : Known) (first second : Option Draft) → is_told old.seen.opening ≡ true → first_version old.seen ≡ s.opening → IsSomeAnd first (Begins IsLawful old)
+pub stopped_ran : (s : OpenedWith) (asked : Transaction) (ends : Ending) (old : Known) (first second : Option WorkingVersion) → is_told old.seen.opening ≡ true → first_version old.seen ≡ s.opening → IsSomeAnd first (Begins IsLawful old)
     → (seat : Option Seat) (version : ℕ) (refusal : EditRefusal) (kept : Versions) (r : Result Outcome AllocError) → IfSome second (λ d. versions_in kept ≡ kept_versions d.usage) → IfSome second (λ d. IsBack d.seat.place.me.0 seat) → IfSome first (λ d. version ≡ length d.seat.place.me.0.seen.history) → Edited s.origin asked (Err refusal) first second
     → IfSome second (λ d. s.chunks ≡ length d.usage.given) → IfSome first (λ d. s.passes ≡ d.seat.passes) → StoppedBy refusal kept version r → IfOk r (BlockRan s asked ends old (known_at seat))
 stopped_ran s asked ends old first second told opening begins seat version refusals.Memory kept (Ok o) same back base edits chunks passes stopped = absurd cc
@@ -142,7 +142,7 @@ stopped_ran s asked ends old first second told opening begins seat version (refu
 
 -- it ran as a kind of transaction
 
-pub committed_as : (origin : Name) (asked : Transaction) (own : Bool) (most : ℕ) (old new now : Known) (o : Outcome) (first second : Option Draft) → now ≡ new → IsSomeAnd first (Begins IsLawful old) → IsSomeAnd first (λ d. StartsAs own d.usage) → Edited origin asked (Ok tt) first second
+pub committed_as : (origin : Name) (asked : Transaction) (own : Bool) (most : ℕ) (old new now : Known) (o : Outcome) (first second : Option WorkingVersion) → now ≡ new → IsSomeAnd first (Begins IsLawful old) → IsSomeAnd first (λ d. StartsAs own d.usage) → Edited origin asked (Ok tt) first second
     → (r : Result Receipt NoNumber) → IfOk r (λ t. IfSome second (λ d. Recycles most d new t)) → IfErr r (λ t. (o.version ≡ t.version) × (ended_view o.told ≡ Refused Spent)) → RanAs own most old now o
 committed_as origin asked own most old new now o first second same begins starts edits (Ok t) recycles lost made =
     let x = both (Begins IsLawful old) (EditedOne origin asked (Ok tt)) first second begins edits in
@@ -164,14 +164,14 @@ stopped_as own most old new (refusals.Refused rule) kept version (Ok o) stopped 
 stopped_as own most old new (refusals.Full operation request) kept version (Ok o) stopped = λ made. absurd (let told = sym stopped.0 ∙ made in cc)
 
 -- it stopped, and memory was wanting
-module _ (s : Setup) (asked : Transaction) (old : Known) (first second : Option Draft) (told : is_told old.seen.opening ≡ true) (opening : first_version old.seen ≡ s.opening) (begins : IsSomeAnd first (Begins IsLawful old)) (seat : Option Seat) (back : IfSome second (λ d. IsBack d.seat.place.me.0 seat)) where
-  abbrev Drafts : EditRefusal → Type 0
-  Drafts refusal = Both (Begins IsLawful old) (EditedOne s.origin asked (Err refusal)) first second
+module _ (s : OpenedWith) (asked : Transaction) (old : Known) (first second : Option WorkingVersion) (told : is_told old.seen.opening ≡ true) (opening : first_version old.seen ≡ s.opening) (begins : IsSomeAnd first (Begins IsLawful old)) (seat : Option Seat) (back : IfSome second (λ d. IsBack d.seat.place.me.0 seat)) where
+  abbrev WorkingVersions : EditRefusal → Type 0
+  WorkingVersions refusal = Both (Begins IsLawful old) (EditedOne s.origin asked (Err refusal)) first second
 
-  back_from : (refusal : EditRefusal) (x : Drafts refusal) → known_at seat ≡ pass_of x.after.seat.place.me.0
+  back_from : (refusal : EditRefusal) (x : WorkingVersions refusal) → known_at seat ≡ pass_of x.after.seat.place.me.0
   back_from refusal x = (there_is (λ d. IsBack d.seat.place.me.0 seat) second x.after x.new_is back).1
 
-  wants : (refusal : EditRefusal) (x : Drafts refusal) → ((zone : Version) → StandsAs (version_seen (known_at seat).seen) zone → Accepts s.origin asked zone) → BlockWants s asked old (known_at seat)
+  wants : (refusal : EditRefusal) (x : WorkingVersions refusal) → ((zone : Version) → StandsAs (version_seen (known_at seat).seen) zone → Accepts s.origin asked zone) → BlockWants s asked old (known_at seat)
   wants refusal x accepts = record {
     grows = back_grows s asked old x.before x.after x.met told opening x.related.edits.known (known_at seat) (back_from refusal x);
     pass = back_pass s asked old x.before x.after x.met told opening x.related.edits.known (known_at seat) (back_from refusal x);
@@ -190,29 +190,29 @@ module _ (s : Setup) (asked : Transaction) (old : Known) (first second : Option 
 
 -- the same of a pass that is known by another name
 
-pub ran_as : (s : Setup) (asked : Transaction) (ends : Ending) (old new new' : Known) (o : Outcome) → BlockRan s asked ends old new o → new' ≡ new → BlockRan s asked ends old new' o
+pub ran_as : (s : OpenedWith) (asked : Transaction) (ends : Ending) (old new new' : Known) (o : Outcome) → BlockRan s asked ends old new o → new' ≡ new → BlockRan s asked ends old new' o
 ran_as s asked ends old new new' o ran same = subst (λ (v : Known). BlockRan s asked ends old v o) (sym same) ran
 
-pub result_as : (s : Setup) (asked : Transaction) (ends : Ending) (old new new' : Known) (r : Result Outcome AllocError) → IfOk r (BlockRan s asked ends old new) → new' ≡ new → IfOk r (BlockRan s asked ends old new')
+pub result_as : (s : OpenedWith) (asked : Transaction) (ends : Ending) (old new new' : Known) (r : Result Outcome AllocError) → IfOk r (BlockRan s asked ends old new) → new' ≡ new → IfOk r (BlockRan s asked ends old new')
 result_as s asked ends old new new' r ran same = subst (λ (v : Known). IfOk r (BlockRan s asked ends old v)) (sym same) ran
 
-pub wants_as : (s : Setup) (asked : Transaction) (old new new' : Known) (r : Result Outcome AllocError) → OnErr r (BlockWants s asked old new) → new' ≡ new → OnErr r (BlockWants s asked old new')
+pub wants_as : (s : OpenedWith) (asked : Transaction) (old new new' : Known) (r : Result Outcome AllocError) → OnErr r (BlockWants s asked old new) → new' ≡ new → OnErr r (BlockWants s asked old new')
 wants_as s asked old new new' r wants same = subst (λ (v : Known). OnErr r (BlockWants s asked old v)) (sym same) wants
 
 -- ---- what calls ask of a transaction
 
-module _ (old : Known) (first : Option Draft) (begins : IsSomeAnd first (Begins IsLawful old)) where
+module _ (old : Known) (first : Option WorkingVersion) (begins : IsSomeAnd first (Begins IsLawful old)) where
   pub begun_there : IsSome first
-  begun_there = by_draft first begins
+  begun_there = by_working first begins
     where
-      by_draft : (o : Option Draft) → IsSomeAnd o (Begins IsLawful old) → IsSome o
-      by_draft (Some d) b = refl
-      by_draft None b = absurd b
+      by_working : (o : Option WorkingVersion) → IsSomeAnd o (Begins IsLawful old) → IsSome o
+      by_working (Some d) b = refl
+      by_working None b = absurd b
 
   pub begun_works : IsSomeAnd first WorksOnSome
   begun_works = some_weaker (Begins IsLawful old) WorksOnSome first (begun_some old) begins
 
-  module _ (origin : Name) (asked : Transaction) (second : Option Draft) (edits : Edited origin asked (Ok tt) first second) where
+  module _ (origin : Name) (asked : Transaction) (second : Option WorkingVersion) (edits : Edited origin asked (Ok tt) first second) where
     works_still : IsSomeAnd second WorksOnSome
     works_still = some_in_order origin asked.operations (Executes origin asked (Ok tt)) first second begun_works (λ version e a. record { version = a.0; on = a.2 }) edits
 
@@ -222,20 +222,20 @@ module _ (old : Known) (first : Option Draft) (begins : IsSomeAnd first (Begins 
     pub after_lawful : is_told old.seen.opening ≡ true → OpensAt origin old → AllSaid origin asked → IsSomeAnd second (λ d. IsLawful (first_version d.seat.place.me.0.seen) (working_set d))
     after_lawful told opens said =
         let x = both (Begins IsLawful old) (EditedOne origin asked (Ok tt)) first second begins edits in
-        subst (λ (o : Option Draft). IsSomeAnd o (λ d. IsLawful (first_version d.seat.place.me.0.seen) (working_set d))) (sym x.new_is) (lawful_block origin asked old x.before x.after x.met told opens said x.related.edits.known x.related.edits.becomes)
+        subst (λ (o : Option WorkingVersion). IsSomeAnd o (λ d. IsLawful (first_version d.seat.place.me.0.seen) (working_set d))) (sym x.new_is) (lawful_block origin asked old x.before x.after x.met told opens said x.related.edits.known x.related.edits.becomes)
 
--- what was edited, in the words of a setup
-pub edits_as : (origin origin' : Name) (asked asked' : Transaction) (r : Result (Unit {0}) EditRefusal) (first second : Option Draft) → origin' ≡ origin → asked ≡ asked' → Edited origin asked r first second → Edited origin' asked' r first second
+-- what was edited, in the words of what an index was opened with
+pub edits_as : (origin origin' : Name) (asked asked' : Transaction) (r : Result (Unit {0}) EditRefusal) (first second : Option WorkingVersion) → origin' ≡ origin → asked ≡ asked' → Edited origin asked r first second → Edited origin' asked' r first second
 edits_as origin origin' asked asked' r first second e f edits =
     subst (λ (o : Name). Edited o asked' r first second) (sym e) (subst (λ (os : Transaction). Edited origin os r first second) f edits)
 
-pub has_passes : (s : Setup) (passes : ℕ) (first : Option Draft) → s.passes ≡ passes → IsSomeAnd first (λ d. d.seat.passes ≡ passes) → IfSome first (λ d. s.passes ≡ d.seat.passes)
+pub has_passes : (s : OpenedWith) (passes : ℕ) (first : Option WorkingVersion) → s.passes ≡ passes → IsSomeAnd first (λ d. d.seat.passes ≡ passes) → IfSome first (λ d. s.passes ≡ d.seat.passes)
 has_passes s passes (Some d) same has = same ∙ sym has
 has_passes s passes None same has = absurd has
 
 -- ---- a transaction has as many chunks as its index, by the table that both are on
 
-pub full_chunks : (names : List TableId) (place place' chunks : ℕ) (a b : TableId) (second : Option Draft) → slice_get names place ≡ Some a → slice_get names place' ≡ Some b → place' ≡ place → 4161 + 2048 * chunks ≡ a.words → ForSome second (λ d. d.seat.place.table_id ≡ b) → IfSome second (λ d. chunks ≡ length d.usage.given)
+pub full_chunks : (names : List TableId) (place place' chunks : ℕ) (a b : TableId) (second : Option WorkingVersion) → slice_get names place ≡ Some a → slice_get names place' ≡ Some b → place' ≡ place → 4161 + 2048 * chunks ≡ a.words → ForSome second (λ d. d.seat.place.table_id ≡ b) → IfSome second (λ d. chunks ≡ length d.usage.given)
 full_chunks names place place' chunks a b None is_a is_b same wide there = tt
 full_chunks names place place' chunks a b (Some d) is_a is_b same wide there =
     let table : ◌≡◌ {A = Option TableId} (Some a) (Some b) = sym is_a ∙ ap (slice_get names) (sym same) ∙ is_b in

@@ -11,7 +11,7 @@ use Rattle.shared_cells.specs.Views.{number_of}
 use Rattle.qp_multi.specs.declared.meaning.Operation.{Operation}
 use Rattle.qp_multi.specs.Passes.{Known, pinned_in}
 use Rattle.qp_multi.specs.Closings.{AllSeen, Includes, AreAll, IsCommitOf, IsNamingOf, Ends}
-use Rattle.job_commands.specs.Histories.{Setup, Commit}
+use Rattle.job_commands.specs.Histories.{OpenedWith, Commit}
 use Rattle.job_commands.specs.Closings.{Some', AreApart, Worker, second_view, workers_views, views_of, numbers_in, IsPass, Closed, MainSees}
 use Rattle.job_commands.proofs.HistoryLaws.{by-append, begins_more}
 use Rattle.job_commands.proofs.JobLaws.{HasEntries, behind, here, there, second_all}
@@ -132,7 +132,7 @@ module _ (last : AllSeen) where
   seen_all [] i = (tt, tt)
   seen_all (v ∷ views) i = let more = seen_all views i.1 in ((i.0.seen.history, more.0), (i.0.seen.namings, more.1))
 
-module _ (s : Setup) (last : AllSeen) (main : Known) where
+module _ (s : OpenedWith) (last : AllSeen) (main : Known) where
   -- a fact of a worker's second pass, if it has one, and of all behind it
   with_second : (P : Known → Type 0) (two : Bool) (second : Known) (others : List Known) → (two ≡ true → P second) → AllByRecursion P (others ++ main ∷ []) → AllByRecursion P ((second_view two second ++ others) ++ main ∷ [])
   with_second P true second others here all = (here refl, all)
@@ -141,9 +141,9 @@ module _ (s : Setup) (last : AllSeen) (main : Known) where
   all_entries : (ws : List (Worker s)) (own : Own) → main.pass ≡ Some own → own.entries ≡ [] → AllByRecursion (Includes last) (views_of main ws) → AllByRecursion (HasEntries last.history) (views_of main ws)
   all_entries [] own is none i = (none_entries last main own is none i.0, tt)
   all_entries (w ∷ ws) own is none i = (
-    (let k = w.ran.work in part_entries last w.station.asks k.asker k.committed k.is_asker k.front k.mine i.0),
-    with_second (HasEntries last.history) w.has_second w.station.holds (workers_views ws)
-        (λ two. none_entries last w.station.holds w.ran.work.holder w.ran.work.is_holder w.ran.work.none_held (second_all (Includes last) w.has_second w.station.holds (workers_views ws) main two i.1))
+    (let k = w.ran.work in part_entries last w.worker_passes.asks k.asker k.committed k.is_asker k.front k.mine i.0),
+    with_second (HasEntries last.history) w.has_second w.worker_passes.holds (workers_views ws)
+        (λ two. none_entries last w.worker_passes.holds w.ran.work.holder w.ran.work.is_holder w.ran.work.none_held (second_all (Includes last) w.has_second w.worker_passes.holds (workers_views ws) main two i.1))
         (all_entries ws own is none (behind main (Includes last) w ws i)),
   )
 

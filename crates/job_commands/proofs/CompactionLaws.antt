@@ -12,14 +12,14 @@ use Rattle.shared_cells.specs.declared.pass.PassSeat.{PassSeat}
 use Rattle.shared_cells.specs.Views.{is_told}
 use Rattle.trie_model.specs.Keys.{Entry}
 use Rattle.qp_multi.specs.declared.commit.Receipt.{Receipt}
-use Rattle.qp_multi.specs.declared.desk.Draft.{Draft}
+use Rattle.qp_multi.specs.declared.writer.WorkingVersion.{WorkingVersion}
 use Rattle.qp_multi.specs.declared.meaning.Operation.{Operation}
 use Rattle.qp_multi.specs.Compactions.{Compacts, IsLast}
 use Rattle.qp_multi.specs.Keepings.{GoesOn}
 use Rattle.qp_multi.specs.Passes.{Known, known_at, first_version}
 use Rattle.zone_edit.specs.Blocks.{Edited}
 use Rattle.zone_edit.proofs.WayLaws.{at_end}
-use Rattle.job_commands.specs.Histories.{IsLawful, Setup}
+use Rattle.job_commands.specs.Histories.{IsLawful, OpenedWith}
 use Rattle.job_commands.specs.Commands.{BlockRan}
 use Rattle.job_commands.proofs.BlockLaws.{commit_ran, spent_ran}
 
@@ -27,16 +27,16 @@ stays_so : (v : Known) → GoesOn v v
 stays_so v = record { pass = refl; opening = refl; history = refl; namings = ([], sym (append-nil v.seen.namings)) }
 
 -- nothing was done
-edits_none : (s : Setup) (d : Draft) → Edited s.origin no_changes (Ok tt) (Some d) (Some d)
+edits_none : (s : OpenedWith) (d : WorkingVersion) → Edited s.origin no_changes (Ok tt) (Some d) (Some d)
 edits_none s d = record {
   edits = record { known = stays_so d.seat.place.me.0; passes = refl; log = ([], sym (append-nil d.log.operations)); few = omega arith; becomes = λ version on. (version, refl, on) };
   ways = λ version on n le. at_end s.origin [] version version d n refl on le;
 }
 
-pub compaction_ran : (s : Setup) (old : Known) (o : Outcome) → is_told old.seen.opening ≡ true → first_version old.seen ≡ s.opening → (seat : Option (PassSeat (List Entry) (List Operation))) → IsSome seat → (table : TableId) (passes : ℕ) (r : Result Receipt NoNumber)
+pub compaction_ran : (s : OpenedWith) (old : Known) (o : Outcome) → is_told old.seen.opening ≡ true → first_version old.seen ≡ s.opening → (seat : Option (PassSeat (List Entry) (List Operation))) → IsSome seat → (table : TableId) (passes : ℕ) (r : Result Receipt NoNumber)
     → IfOk r (Compacts IsLawful table passes old (known_at seat)) → IfOk r (λ t. t.version ≢ last_version + 1) → IfErr r (IsLast IsLawful old (known_at seat)) → IfErr r (λ t. t.version ≡ last_version)
     → IfOk r (λ t. (o.version ≡ t.version) × (ended_view o.told ≡ Committed)) → IfErr r (λ t. (o.version ≡ t.version) × (ended_view o.told ≡ Refused Spent)) → BlockRan s no_changes ending.Commit old (known_at seat) o
 compaction_ran s old o told opening seat some table passes (Ok t) c next back last made lost =
-    commit_ran s no_changes ending.Commit old o (Some c.draft) (Some c.draft) told opening c.begins (known_at seat) t.version (edits_none s c.draft) refl c.commits c.version made.0 made.1
+    commit_ran s no_changes ending.Commit old o (Some c.working) (Some c.working) told opening c.begins (known_at seat) t.version (edits_none s c.working) refl c.commits c.version made.0 made.1
 compaction_ran s old o told opening seat some table passes (Err t) c next back last made lost =
-    spent_ran s no_changes ending.Commit old o (Some back.draft) (Some back.draft) told opening back.begins seat t.version (some, back.back) (back.version ∙ back.draft.seat.version_is) lost.0 (edits_none s back.draft) refl (sym back.version ∙ last) lost.1
+    spent_ran s no_changes ending.Commit old o (Some back.working) (Some back.working) told opening back.begins seat t.version (some, back.back) (back.version ∙ back.working.seat.version_is) lost.0 (edits_none s back.working) refl (sym back.version ∙ last) lost.1

@@ -17,7 +17,7 @@ use Rattle.qp_multi.specs.declared.meaning.Operation.{Operation}
 use Rattle.qp_multi.specs.Operations.{applied}
 use Rattle.qp_multi.specs.Passes.{Known, Pinned, first_version, version_seen}
 use Rattle.qp_multi.specs.Closings.{AllSeen, AreAll, Ends}
-use Rattle.job_commands.specs.Histories.{Setup, Entries, IsLawful, StandsAs}
+use Rattle.job_commands.specs.Histories.{OpenedWith, Entries, IsLawful, StandsAs}
 use Rattle.job_commands.specs.Closings.{Worker, workers_views, views_of, numbers_in, commands_in, MainSees, Gathers}
 use Rattle.job_commands.specs.Runs.{IsRun}
 use Rattle.job_commands.proofs.HistoryLaws.{begins_more, opened_same}
@@ -41,7 +41,7 @@ pub number_with : (p : Option Own) (n : ℕ) → number_of (with_pinned p n) ≡
 number_with None n = refl
 number_with (Some own) n = refl
 
-module _ (s : Setup) (before : List Known) (ws : List (List Command)) (os : List Outcomes) (views : List Known) (main pinned after : Known) (number : ℕ) (g : Gathers s before ws os views main) (told : is_told main.seen.opening ≡ true) (p : Pinned IsLawful main pinned number) (left : after ≡ with_progress pinned progress.Idle) where
+module _ (s : OpenedWith) (before : List Known) (ws : List (List Command)) (os : List Outcomes) (views : List Known) (main pinned after : Known) (number : ℕ) (g : Gathers s before ws os views main) (told : is_told main.seen.opening ≡ true) (p : Pinned IsLawful main pinned number) (left : after ≡ with_progress pinned progress.Idle) where
   seen_is : after.seen ≡ pinned.seen
   seen_is = ap (λ (v : Known). v.seen) left
 
@@ -59,8 +59,8 @@ module _ (s : Setup) (before : List Known) (ws : List (List Command)) (os : List
     pinned = λ v c.
         let only : Contains (number ∷ []) v = subst (λ (l : List ℕ). Contains (l ++ number ∷ []) v) g.unpinned c in
         ⊎_elim (λ (e : number ≡ v). sym e ∙ p.version ∙ sym (ap (λ x. length x.history) seen_is)) (λ (none : Contains [] v). absurd (let l = none.1 in omega arith)) (contains_cases number v [] only);
-    learnt = all_weaker (λ (u : Worker s). StartsWith main.seen.history u.station.asks.seen.history) (λ (u : Worker s). StartsWith after.seen.history u.station.asks.seen.history) g.done
-        (λ u b. begins_more after.seen.history main.seen.history u.station.asks.seen.history grown b) g.learnt;
+    learnt = all_weaker (λ (u : Worker s). StartsWith main.seen.history u.worker_passes.asks.seen.history) (λ (u : Worker s). StartsWith after.seen.history u.worker_passes.asks.seen.history) g.done
+        (λ u b. begins_more after.seen.history main.seen.history u.worker_passes.asks.seen.history grown b) g.learnt;
   }
 
   opened : first_version after.seen ≡ s.opening
@@ -95,7 +95,7 @@ pub all_handed : {A : Type 0} (whole rest : List A) (main : A) (P : A → Type 0
 all_handed whole rest main P is all one = subst (All P) (sym is) (All-push P rest main all one)
 
 -- What is left of the passes and main's are handed in.
-pub job_ended : {A : Type 0} (rest whole : List A) (main : A) (known : A → Known) → whole ≡ rest ++ main ∷ [] → (s : Setup) (before : List Known) (ws : List (List Command)) (os : List Outcomes) (old pinned : Known) (number : ℕ) → Gathers s before ws os (map known rest) old
+pub job_ended : {A : Type 0} (rest whole : List A) (main : A) (known : A → Known) → whole ≡ rest ++ main ∷ [] → (s : OpenedWith) (before : List Known) (ws : List (List Command)) (os : List Outcomes) (old pinned : Known) (number : ℕ) → Gathers s before ws os (map known rest) old
     → is_told old.seen.opening ≡ true → Pinned IsLawful old pinned number → (after : Known) → known main ≡ after → after ≡ with_progress pinned progress.Idle → (count : ℕ) → length before ≡ count → AreAll count before → (zone : Version) → StandsAs s.opening zone
     → (version names many : ℕ) (last : AllSeen) → Ends count (map known whole) version last → names ≡ length (version_seen pinned.seen) → many ≡ nodes (keys_of (version_seen pinned.seen)) → IsRun s.chunks s.passes s.origin zone ws os version names many
 job_ended rest whole main known is_whole s before ws os old pinned number g told p after same left count counted all zone opens version names many last ends names_are many_are =

@@ -11,15 +11,15 @@ use Rattle.shared_cells.specs.declared.view.TableSize.{TableSize}
 use Rattle.shared_cells.specs.History.{StartsWith}
 use Rattle.shared_cells.specs.Views.{number_of, is_told}
 use Rattle.qp_multi.specs.Passes.{Known, Learnt}
-use Rattle.job_commands.specs.Histories.{Setup, Entries}
-use Rattle.job_commands.specs.Commands.{IsIndex, IsSetup}
+use Rattle.job_commands.specs.Histories.{OpenedWith, Entries}
+use Rattle.job_commands.specs.Commands.{IsIndex, IsOpenedWith}
 use Rattle.job_commands.specs.Works.{IsNew, AreNew, WorkerRan, ended, only}
 use Rattle.job_commands.specs.Closings.{Worker, worker_views, workers_views, views_of, numbers_in, Gathers}
 use Rattle.job_commands.proofs.HistoryLaws.{begins_more, opened_same}
 use Rattle.job_commands.proofs.WorkLaws.{all_weaker}
 
 -- main's pass alone
-pub gathers_none : (s : Setup) (main : Known) (number : ℕ) → IsNew number s.opening main → Gathers s (main ∷ []) [] [] [] main
+pub gathers_none : (s : OpenedWith) (main : Known) (number : ℕ) → IsNew number s.opening main → Gathers s (main ∷ []) [] [] [] main
 gathers_none s main number new = record {
   done = [];
   commands_are = refl;
@@ -36,7 +36,7 @@ gathers_none s main number new = record {
 }
 
 -- no worker is left, and of the passes main's alone
-pub gathers_main : {A : Type 0} (passes front : List A) (main : A) (known : A → Known) (s : Setup) (ws : List (List Command)) (os : List Outcomes) → passes ≡ front ++ main ∷ [] → length passes ≡ 1 → ws ≡ [] → os ≡ [] → AreNew s.opening (map known passes)
+pub gathers_main : {A : Type 0} (passes front : List A) (main : A) (known : A → Known) (s : OpenedWith) (ws : List (List Command)) (os : List Outcomes) → passes ≡ front ++ main ∷ [] → length passes ≡ 1 → ws ≡ [] → os ≡ [] → AreNew s.opening (map known passes)
     → Gathers s (map known passes) ws os (map known front) (known main)
 gathers_main passes [] main known s ws os is long none no_outcomes new =
     let first = subst (λ (l : List _). AreNew s.opening (map known l)) is new in
@@ -54,8 +54,8 @@ numbers_main main after same [] = ap (λ p. number_of p ∷ []) (sym same)
 numbers_main main after same (v ∷ vs) = ap (λ (ks : List ℕ). number_of v.pass ∷ ks) (numbers_main main after same vs)
 
 -- another worker, whose passes were the last ones
-pub gathers_with : (s : Setup) (before mine : List Known) (ws : List (List Command)) (os : List Outcomes) (views : List Known) (main after : Known) (u : Worker s) → Gathers s before ws os views main → length mine ≡ length (worker_views u)
-    → ((m : ℕ) → Contains (numbers_in mine) m → Contains (numbers_in (worker_views u)) m) → is_told main.seen.opening ≡ true → Learnt main after u.station.asks.seen
+pub gathers_with : (s : OpenedWith) (before mine : List Known) (ws : List (List Command)) (os : List Outcomes) (views : List Known) (main after : Known) (u : Worker s) → Gathers s before ws os views main → length mine ≡ length (worker_views u)
+    → ((m : ℕ) → Contains (numbers_in mine) m → Contains (numbers_in (worker_views u)) m) → is_told main.seen.opening ≡ true → Learnt main after u.worker_passes.asks.seen
     → Gathers s (before ++ mine) (u.commands ∷ ws) (u.outcomes ∷ os) (worker_views u ++ views) after
 gathers_with s before mine ws os views main after u g long back told l =
     let numbers : numbers_in (views_of after (u ∷ g.done)) ≡ numbers_in (worker_views u) ++ numbers_in (views_of after g.done) =
@@ -78,17 +78,17 @@ gathers_with s before mine ws os views main after u g long back told l =
       opened = opened_same after.seen main.seen told l.grows ∙ g.opened;
       learnt = (
         l.learns.history,
-        all_weaker (λ (u : Worker s). StartsWith main.seen.history u.station.asks.seen.history) (λ (u : Worker s). StartsWith after.seen.history u.station.asks.seen.history) g.done
-            (λ u b. begins_more after.seen.history main.seen.history u.station.asks.seen.history l.grows.history b) g.learnt,
+        all_weaker (λ (u : Worker s). StartsWith main.seen.history u.worker_passes.asks.seen.history) (λ (u : Worker s). StartsWith after.seen.history u.worker_passes.asks.seen.history) g.done
+            (λ u b. begins_more after.seen.history main.seen.history u.worker_passes.asks.seen.history l.grows.history b) g.learnt,
       );
     }
 
 -- it had one
-gathers_one : (s : Setup) (before : List Known) (pass : Known) (ws : List (List Command)) (os : List Outcomes) (views : List Known) (main after pass' : Known) (number : ℕ) (w : List Command) (o : Outcomes)
+gathers_one : (s : OpenedWith) (before : List Known) (pass : Known) (ws : List (List Command)) (os : List Outcomes) (views : List Known) (main after pass' : Known) (number : ℕ) (w : List Command) (o : Outcomes)
     → Gathers s before ws os views main → WorkerRan s (only number) (ended pass' pass) w o.list.items → number_of pass.pass ≡ number_of pass'.pass → is_told main.seen.opening ≡ true → Learnt main after pass'.seen
     → Gathers s (before ++ pass ∷ []) (w ∷ ws) (o ∷ os) (pass' ∷ views) after
 gathers_one s before pass ws os views main after pass' number w o g r same told l =
-    gathers_with s before (pass ∷ []) ws os views main after (record { numbers = only number; station = ended pass' pass; has_second = false; commands = w; outcomes = o; ran = r }) g refl
+    gathers_with s before (pass ∷ []) ws os views main after (record { numbers = only number; worker_passes = ended pass' pass; has_second = false; commands = w; outcomes = o; ran = r }) g refl
     (λ m c. subst (λ (k : ℕ). Contains (k ∷ []) m) same c) told l
 
 -- ---- passes taken from the end of a list, and put in in front of one
@@ -106,7 +106,7 @@ new_split opening (x ∷ xs) ys new = let more = new_split opening xs ys new.1 i
 
 -- ---- one more worker, of all passes
 
-module _ {A : Type 0} (passes front : List A) (pass : A) (known : A → Known) (s : Setup) (last : passes ≡ front ++ pass ∷ []) (new : AreNew s.opening (map known passes)) where
+module _ {A : Type 0} (passes front : List A) (pass : A) (known : A → Known) (s : OpenedWith) (last : passes ≡ front ++ pass ∷ []) (new : AreNew s.opening (map known passes)) where
   views_with : map known passes ≡ map known front ++ known pass ∷ []
   views_with = ap (map known) last ∙ map-append known front (pass ∷ [])
 
@@ -117,7 +117,7 @@ module _ {A : Type 0} (passes front : List A) (pass : A) (known : A → Known) (
   front_new = parts_with.0
 
   pub gathers_server : (origin : Name) (size : TableSize) → IsIndex s origin size → (ws : List (List Command)) (os : List Outcomes) (views : List Known) (main after pass' : Known) (w : List Command) (o : Outcomes) → Gathers s (map known front) ws os views main
-      → ((n : ℕ) → IsSetup s origin size (known pass) → IsNew n s.opening (known pass) → WorkerRan s (only n) (ended pass' (known pass)) w o.list.items) → is_told main.seen.opening ≡ true → Learnt main after pass'.seen
+      → ((n : ℕ) → IsOpenedWith s origin size (known pass) → IsNew n s.opening (known pass) → WorkerRan s (only n) (ended pass' (known pass)) w o.list.items) → is_told main.seen.opening ≡ true → Learnt main after pass'.seen
       → Gathers s (map known passes) (w ∷ ws) (o ∷ os) (pass' ∷ views) after
   gathers_server origin size index ws os views main after pass' w o g runs told l =
       let number = parts_with.1.0.0 in

@@ -10,7 +10,7 @@ use Rattle.shared_cells.specs.Views.{is_told}
 use Rattle.qp_multi.specs.declared.meaning.Operation.{Operation}
 use Rattle.qp_multi.specs.Operations.{applied}
 use Rattle.qp_multi.specs.Passes.{first_version}
-use Rattle.job_commands.specs.Histories.{Setup, Commit, Entries, Sighting, index_at, StandsAs, AreVersions, Deeds, Explains, times_by}
+use Rattle.job_commands.specs.Histories.{OpenedWith, Commit, Entries, SeenHistory, index_at, StandsAs, AreVersions, Deeds, Explains, times_by}
 
 -- ---- beginnings
 
@@ -54,19 +54,19 @@ index_front opening all part j s le = ap (λ (h : List Commit). version_after ap
 pub index_last : (opening : Entries) (history : List Commit) (j : ℕ) → j ≡ length history → index_at opening history j ≡ version_after applied opening history
 index_last opening history j e = ap (version_after applied opening) (take_all j history (omega arith))
 
-pub versions_front : (s : Setup) (all part : List Commit) (set : ℕ → Version) → StartsWith all part → AreVersions s all set → AreVersions s part set
+pub versions_front : (s : OpenedWith) (all part : List Commit) (set : ℕ → Version) → StartsWith all part → AreVersions s all set → AreVersions s part set
 versions_front s all part set b are j le =
     let long = begins_length all part b in
     let more : j ≤ length all = omega (arith, le, long) in
     subst (λ (es : Entries). StandsAs es (set j)) (index_front s.opening all part j b le) (are j more)
 
 -- the version that was seen last
-pub last_stands : (s : Setup) (all part : List Commit) (set : ℕ → Version) (v : ℕ) → StartsWith all part → v ≡ length part → AreVersions s all set → StandsAs (version_after applied s.opening part) (set v)
+pub last_stands : (s : OpenedWith) (all part : List Commit) (set : ℕ → Version) (v : ℕ) → StartsWith all part → v ≡ length part → AreVersions s all set → StandsAs (version_after applied s.opening part) (set v)
 last_stands s all part set v b e are =
     let le : v ≤ length part = omega arith in
     subst (λ (es : Entries). StandsAs es (set v)) (index_last s.opening part v e) (versions_front s all part set b are v le)
 
-pub explains_front : (s : Setup) (deeds : Deeds) (all part : Sighting) → IsPartOf all part → Explains s deeds all → Explains s deeds part
+pub explains_front : (s : OpenedWith) (deeds : Deeds) (all part : SeenHistory) → IsPartOf all part → Explains s deeds all → Explains s deeds part
 explains_front s deeds all part p x = record {
   namings = λ n here below.
       let long = begins_length all.history part.history p.history in
@@ -77,7 +77,7 @@ explains_front s deeds all part p x = record {
 
 -- ---- what was opened
 
-pub opened_same : (all part : Sighting) → is_told part.opening ≡ true → IsPartOf all part → first_version all ≡ first_version part
+pub opened_same : (all part : SeenHistory) → is_told part.opening ≡ true → IsPartOf all part → first_version all ≡ first_version part
 opened_same all part told p = by_opening part.opening refl told
   where
     by_opening : (o : Option Entries) → part.opening ≡ o → is_told o ≡ true → first_version all ≡ first_version part
@@ -86,14 +86,14 @@ opened_same all part told p = by_opening part.opening refl told
         let here : all.opening ≡ Some es = subst (λ (x : Option Entries). OpeningFits all.opening x part) e p.opening in
         ap (λ (x : Option Entries). unwrap_or x []) here ∙ sym (ap (λ (x : Option Entries). unwrap_or x []) e)
 
-pub part_same : (seen : Sighting) → is_told seen.opening ≡ true → IsPartOf seen seen
+pub part_same : (seen : SeenHistory) → is_told seen.opening ≡ true → IsPartOf seen seen
 part_same seen told = record { opening = fits seen.opening refl told; history = begins_same seen.history; namings = begins_same seen.namings }
   where
     fits : (o : Option Entries) → seen.opening ≡ o → is_told o ≡ true → OpeningFits seen.opening seen.opening seen
     fits None e t = absurd cc
     fits (Some es) e t = subst (λ (x : Option Entries). OpeningFits seen.opening x seen) (sym e) e
 
-pub part_more : (all more part : Sighting) → is_told part.opening ≡ true → IsPartOf all more → IsPartOf more part → IsPartOf all part
+pub part_more : (all more part : SeenHistory) → is_told part.opening ≡ true → IsPartOf all more → IsPartOf more part → IsPartOf all part
 part_more all more part told a b = record {
   opening = fits part.opening refl told;
   history = begins_more all.history more.history part.history a.history b.history;

@@ -17,7 +17,7 @@ use Rattle.shared_cells.specs.History.{StartsWith, entries_by, version_after}
 use Rattle.shared_cells.specs.Views.{number_of}
 use Rattle.qp_multi.specs.Operations.{applied}
 use Rattle.qp_multi.specs.Passes.{Known}
-use Rattle.job_commands.specs.Histories.{Setup, Commit, Entries, index_at, StandsAs, AreVersions, AreAsked, Deeds, Explains, IsAsked, judged_by, times_by}
+use Rattle.job_commands.specs.Histories.{OpenedWith, Commit, Entries, index_at, StandsAs, AreVersions, AreAsked, Deeds, Explains, IsAsked, judged_by, times_by}
 use Rattle.job_commands.specs.Works.{Replayed}
 use Rattle.job_commands.specs.Closings.{Some', AreApart, Worker, second_view, workers_views, views_of, numbers_in, commands_in, outcomes_in, IsPass, Closed, MainSees}
 use Rattle.job_commands.specs.Runs.{IsRun}
@@ -83,7 +83,7 @@ nothing_past history seen front never = by_rest front.0 front.1
 
 -- ---- the versions that outcomes make are those of the history, if each was made once
 
-module _ (s : Setup) (history : List Commit) where
+module _ (s : OpenedWith) (history : List Commit) where
   is_both : (c d : Bool) → (c && d) ≡ true → (c ≡ true) × (d ≡ true)
   is_both true d h = (refl, h)
   is_both false d h = absurd cc
@@ -165,10 +165,10 @@ rest_apart true second others main apart = apart.1
 rest_apart false second others main apart = apart
 
 -- the passes of the workers behind one
-pub behind : {s : Setup} (main : Known) (P : Known → Type 0) (w : Worker s) (ws : List (Worker s)) → AllByRecursion P (views_of main (w ∷ ws)) → AllByRecursion P (views_of main ws)
-behind main P w ws all = rest_all P w.has_second w.station.holds (workers_views ws) main all.1
+pub behind : {s : OpenedWith} (main : Known) (P : Known → Type 0) (w : Worker s) (ws : List (Worker s)) → AllByRecursion P (views_of main (w ∷ ws)) → AllByRecursion P (views_of main ws)
+behind main P w ws all = rest_all P w.has_second w.worker_passes.holds (workers_views ws) main all.1
 
-module _ (s : Setup) (history : List Commit) (namings : List Naming) (main : Known) where
+module _ (s : OpenedWith) (history : List Commit) (namings : List Naming) (main : Known) where
   -- how often a version was made by passes of these numbers
   abbrev total : ℕ → List (Worker s) → ℕ
   total j [] = 0
@@ -178,12 +178,12 @@ module _ (s : Setup) (history : List Commit) (namings : List Naming) (main : Kno
   Sees v = StartsWith history v.seen.history
 
   -- of a worker's commits the history has those up to its last one
-  whole_times : (w : Worker s) (j : ℕ) → HasEntries history w.station.asks → Sees w.station.asks → times_made j (pairs_of w.commands w.outcomes.list.items) ≡ times_by w.numbers.asker j history
+  whole_times : (w : Worker s) (j : ℕ) → HasEntries history w.worker_passes.asks → Sees w.worker_passes.asks → times_made j (pairs_of w.commands w.outcomes.list.items) ≡ times_by w.numbers.asker j history
   whole_times w j entries sees =
       let k = w.ran.work in
       let all = entries k.asker k.is_asker in
       k.made j
-      ∙ sym (times_front k.asker.number j history k.committed (begins_more history w.station.asks.seen.history k.committed sees k.front) (sym all ∙ k.mine))
+      ∙ sym (times_front k.asker.number j history k.committed (begins_more history w.worker_passes.asks.seen.history k.committed sees k.front) (sym all ∙ k.mine))
       ∙ ap (λ (m : ℕ). times_by m j history) w.ran.asker
 
   abbrev Made : List (Worker s) → Pairs
@@ -205,10 +205,10 @@ module _ (s : Setup) (history : List Commit) (namings : List Naming) (main : Kno
   among [] j a own is none e (inr more) = absurd more
   among (w ∷ ws) j a own is none e (inl pass) = inl (sym w.ran.asker ∙ ap number_in (sym w.ran.work.is_asker ∙ pass.1) ∙ pass.2)
   among (w ∷ ws) j a own is none e (inr more) = ⊎_elim
-      (λ (second : (w.has_second ≡ true) × IsPass a.commit.author w.station.holds).
-      absurd (no_commits history j w.station.holds w.ran.work.holder a w.ran.work.is_holder w.ran.work.none_held (second_all (HasEntries history) w.has_second w.station.holds (workers_views ws) main second.0 e.1) second.1))
+      (λ (second : (w.has_second ≡ true) × IsPass a.commit.author w.worker_passes.holds).
+      absurd (no_commits history j w.worker_passes.holds w.ran.work.holder a w.ran.work.is_holder w.ran.work.none_held (second_all (HasEntries history) w.has_second w.worker_passes.holds (workers_views ws) main second.0 e.1) second.1))
       (λ (further : Some' (IsPass a.commit.author) (views_of main ws)). inr (among ws j a own is none (behind main (HasEntries history) w ws e) further))
-      (rest_some (IsPass a.commit.author) w.has_second w.station.holds (workers_views ws) main more)
+      (rest_some (IsPass a.commit.author) w.has_second w.worker_passes.holds (workers_views ws) main more)
 
   -- once, since their numbers are apart
   none_else : (ws : List (Worker s)) (j : ℕ) (a : Author history j) → AllByRecursion (λ (w : Worker s). w.numbers.asker ≢ a.commit.author) ws → total j ws ≡ 0
@@ -242,21 +242,21 @@ module _ (s : Setup) (history : List Commit) (namings : List Naming) (main : Kno
       differs (v ∷ vs) (inr further) others = differs vs further others.1
 
   -- the numbers of the workers' passes are those of their views
-  asker_number : (w : Worker s) → number_of w.station.asks.pass ≡ w.numbers.asker + 1
+  asker_number : (w : Worker s) → number_of w.worker_passes.asks.pass ≡ w.numbers.asker + 1
   asker_number w = ap number_of w.ran.work.is_asker ∙ ap (λ (i : ℕ). i + 1) w.ran.asker
 
-  others_apart : (w : Worker s) (ws : List (Worker s)) → AllByRecursion (λ (y : ℕ). number_of w.station.asks.pass ≢ y) (numbers_in (views_of main ws)) → AllByRecursion (λ (v : Worker s). w.numbers.asker ≢ v.numbers.asker) ws
+  others_apart : (w : Worker s) (ws : List (Worker s)) → AllByRecursion (λ (y : ℕ). number_of w.worker_passes.asks.pass ≢ y) (numbers_in (views_of main ws)) → AllByRecursion (λ (v : Worker s). w.numbers.asker ≢ v.numbers.asker) ws
   others_apart w [] b = tt
   others_apart w (v ∷ vs) b = (
     (λ e. b.0 (asker_number w ∙ ap (λ (i : ℕ). i + 1) e ∙ sym (asker_number v))),
-    others_apart w vs (rest_numbers (λ (y : ℕ). number_of w.station.asks.pass ≢ y) v.has_second v.station.holds (workers_views vs) main b.1),
+    others_apart w vs (rest_numbers (λ (y : ℕ). number_of w.worker_passes.asks.pass ≢ y) v.has_second v.worker_passes.holds (workers_views vs) main b.1),
   )
 
   apart_numbers : (ws : List (Worker s)) → AreApart (numbers_in (views_of main ws)) → Apart ws
   apart_numbers [] a = tt
   apart_numbers (w ∷ ws) a = (
-    others_apart w ws (rest_numbers (λ (y : ℕ). number_of w.station.asks.pass ≢ y) w.has_second w.station.holds (workers_views ws) main a.0),
-    apart_numbers ws (rest_apart w.has_second w.station.holds (workers_views ws) main a.1),
+    others_apart w ws (rest_numbers (λ (y : ℕ). number_of w.worker_passes.asks.pass ≢ y) w.has_second w.worker_passes.holds (workers_views ws) main a.0),
+    apart_numbers ws (rest_apart w.has_second w.worker_passes.holds (workers_views ws) main a.1),
   )
 
   -- ---- each version was made once
@@ -268,11 +268,11 @@ module _ (s : Setup) (history : List Commit) (namings : List Naming) (main : Kno
 
   -- ---- the history ends with what main has seen
 
-  beyond : (ws : List (Worker s)) (j most : ℕ) → AllByRecursion (HasEntries history) (views_of main ws) → AllByRecursion Sees (views_of main ws) → AllByRecursion (λ (w : Worker s). length w.station.asks.seen.history ≤ most) ws → most < j → total j ws ≡ 0
+  beyond : (ws : List (Worker s)) (j most : ℕ) → AllByRecursion (HasEntries history) (views_of main ws) → AllByRecursion Sees (views_of main ws) → AllByRecursion (λ (w : Worker s). length w.worker_passes.asks.seen.history ≤ most) ws → most < j → total j ws ≡ 0
   beyond [] j most e b l past = refl
   beyond (w ∷ ws) j most e b l past =
       let k = w.ran.work in
-      let short = begins_length w.station.asks.seen.history k.committed k.front in
+      let short = begins_length w.worker_passes.asks.seen.history k.committed k.front in
       let long = l.0 in
       let beyond_it : length k.committed < j = omega (arith, short, long, past) in
       let none : times_by w.numbers.asker j history ≡ 0 = sym (whole_times w j e.0 b.0) ∙ k.made j ∙ times_past k.asker.number j k.committed beyond_it in
@@ -290,7 +290,7 @@ module _ (s : Setup) (history : List Commit) (namings : List Naming) (main : Kno
       let le : length history ≤ length history = omega arith in
       let one = made_once ws m.own m.is_own m.none c (length history) some le in
       let none = beyond ws (length history) (length main.seen.history) c.entries c.begins
-      (all_weaker (λ (w : Worker s). StartsWith main.seen.history w.station.asks.seen.history) (λ (w : Worker s). length w.station.asks.seen.history ≤ length main.seen.history) ws (λ w b. begins_length main.seen.history w.station.asks.seen.history b) m.learnt) past in
+      (all_weaker (λ (w : Worker s). StartsWith main.seen.history w.worker_passes.asks.seen.history) (λ (w : Worker s). length w.worker_passes.asks.seen.history ≤ length main.seen.history) ws (λ w b. begins_length main.seen.history w.worker_passes.asks.seen.history b) m.learnt) past in
       absurd (let z : 1 ≡ 0 = sym one ∙ all_times ws (length history) c.entries c.begins ∙ none in cc))
 
   -- ---- what all workers' outcomes are
@@ -299,16 +299,16 @@ module _ (s : Setup) (history : List Commit) (namings : List Naming) (main : Kno
   all_replayed [] b = tt
   all_replayed (w ∷ ws) b =
       all-append (Replayed s history) (pairs_of w.commands w.outcomes.list.items) (Made ws)
-      (all_both (λ (q : Pair). q.1.version ≤ length w.station.asks.seen.history) (Replayed s w.station.asks.seen.history) (Replayed s history) (pairs_of w.commands w.outcomes.list.items)
-      (λ q le h. replayed_more s history w.station.asks.seen.history b.0 q le h) w.ran.work.none_above w.ran.work.replayed)
+      (all_both (λ (q : Pair). q.1.version ≤ length w.worker_passes.asks.seen.history) (Replayed s w.worker_passes.asks.seen.history) (Replayed s history) (pairs_of w.commands w.outcomes.list.items)
+      (λ q le h. replayed_more s history w.worker_passes.asks.seen.history b.0 q le h) w.ran.work.none_above w.ran.work.replayed)
       (all_replayed ws (behind main Sees w ws b))
 
   pub all_below : (ws : List (Worker s)) → AllByRecursion Sees (views_of main ws) → AllByRecursion (λ (p : Pair). p.1.version ≤ length history) (Made ws)
   all_below [] b = tt
   all_below (w ∷ ws) b =
-      let long = begins_length history w.station.asks.seen.history b.0 in
+      let long = begins_length history w.worker_passes.asks.seen.history b.0 in
       all-append (λ (p : Pair). p.1.version ≤ length history) (pairs_of w.commands w.outcomes.list.items) (Made ws)
-      (all_weaker (λ (p : Pair). p.1.version ≤ length w.station.asks.seen.history) (λ (p : Pair). p.1.version ≤ length history) (pairs_of w.commands w.outcomes.list.items) (λ p le. omega (arith, le, long)) w.ran.work.none_above)
+      (all_weaker (λ (p : Pair). p.1.version ≤ length w.worker_passes.asks.seen.history) (λ (p : Pair). p.1.version ≤ length history) (pairs_of w.commands w.outcomes.list.items) (λ p le. omega (arith, le, long)) w.ran.work.none_above)
       (all_below ws (behind main Sees w ws b))
 
   -- ---- versions that a full index kept are shown
@@ -333,12 +333,12 @@ module _ (s : Setup) (history : List Commit) (namings : List Naming) (main : Kno
   covered [] n own is pinned below (inl p) = let e = pinned n.version (pinned_as main own n is p) in absurd (omega (arith, e, below))
   covered [] n own is pinned below (inr more) = absurd more
   covered (w ∷ ws) n own is pinned below (inl p) =
-      shown_left (pairs_of w.commands w.outcomes.list.items) (Made ws) n.version (w.ran.work.pinned n.version (inl (pinned_as w.station.asks w.ran.work.asker n w.ran.work.is_asker p)))
+      shown_left (pairs_of w.commands w.outcomes.list.items) (Made ws) n.version (w.ran.work.pinned n.version (inl (pinned_as w.worker_passes.asks w.ran.work.asker n w.ran.work.is_asker p)))
   covered (w ∷ ws) n own is pinned below (inr more) = ⊎_elim
-      (λ (second : (w.has_second ≡ true) × Pinned n w.station.holds).
-      shown_left (pairs_of w.commands w.outcomes.list.items) (Made ws) n.version (w.ran.work.pinned n.version (inr (pinned_as w.station.holds w.ran.work.holder n w.ran.work.is_holder second.1))))
+      (λ (second : (w.has_second ≡ true) × Pinned n w.worker_passes.holds).
+      shown_left (pairs_of w.commands w.outcomes.list.items) (Made ws) n.version (w.ran.work.pinned n.version (inr (pinned_as w.worker_passes.holds w.ran.work.holder n w.ran.work.is_holder second.1))))
       (λ (further : Some' (Pinned n) (views_of main ws)). shown_right (pairs_of w.commands w.outcomes.list.items) (Made ws) n.version (covered ws n own is pinned below further))
-      (rest_some (Pinned n) w.has_second w.station.holds (workers_views ws) main more)
+      (rest_some (Pinned n) w.has_second w.worker_passes.holds (workers_views ws) main more)
 
   -- ---- all are lawful
 
@@ -358,14 +358,14 @@ module _ (s : Setup) (history : List Commit) (namings : List Naming) (main : Kno
       → AllAlong (judged_by s set deeds) (job_pairs (commands_in ws) (outcomes_in ws))
   all_along [] set deeds are explains b names = tt
   all_along (w ∷ ws) set deeds are explains b names = (
-    w.ran.work.along set deeds (versions_front s history w.station.asks.seen.history set b.0 are) (explains_each deeds w.station.asks explains b.0 names.0),
+    w.ran.work.along set deeds (versions_front s history w.worker_passes.asks.seen.history set b.0 are) (explains_each deeds w.worker_passes.asks explains b.0 names.0),
     all_along ws set deeds are explains (behind main Sees w ws b) (behind main (λ (v : Known). StartsWith namings v.seen.namings) w ws names),
   )
 
   all_tell : (ws : List (Worker s)) (set : ℕ → Version) → AreVersions s history set → AllByRecursion Sees (views_of main ws) → AllTell s.origin set (commands_in ws) (outcomes_in ws)
   all_tell [] set are b = tt
   all_tell (w ∷ ws) set are b = (
-    w.ran.told set (versions_front s history w.station.asks.seen.history set b.0 are),
+    w.ran.told set (versions_front s history w.worker_passes.asks.seen.history set b.0 are),
     all_tell ws set are (behind main Sees w ws b),
   )
 

@@ -2,7 +2,7 @@ pub mod HistoryLaws
 pub mod ZoneLaws
 pub mod ShowLaws
 pub mod StepLaws
-pub mod StationLaws
+pub mod WorkerPassesLaws
 pub mod WorkLaws
 pub mod JobLaws
 pub mod CloseLaws

@@ -8,16 +8,16 @@ use Rattle.job_model.specs.declared.Weight.TheVariants.{Light}
 use Rattle.job_model.specs.Commands.{Ask, AskHeld, Block, Hold, Release}
 use Rattle.job_model.specs.Outcomes.{Committed, Pair, Shown, at_first}
 use Rattle.job_commands.specs.Works.{Numbers}
-use Rattle.job_commands.specs.Sittings.{AreBoth, sight_behind}
+use Rattle.job_commands.specs.Sittings.{AreBoth, progress_behind}
 
 abbrev taken : List Pair
 taken = (Ask Dump, record { version = 2; ended = Shown }) ∷ (Hold, record { version = 3; ended = Shown }) ∷ (Block Light no_changes Commit, record { version = 4; ended = Committed }) ∷ (AskHeld Dump, record { version = 3; ended = Shown }) ∷ []
 
 -- it has made version 4, and holds version 3
-holds_the_third : sight_behind at_first taken ≡ record { seen = 4; held = Some 3 }
+holds_the_third : progress_behind at_first taken ≡ record { seen = 4; held = Some 3 }
 holds_the_third = refl
 
-given_back : sight_behind (sight_behind at_first taken) ((Release, record { version = 3; ended = Shown }) ∷ []) ≡ record { seen = 4; held = None }
+given_back : progress_behind (progress_behind at_first taken) ((Release, record { version = 3; ended = Shown }) ∷ []) ≡ record { seen = 4; held = None }
 given_back = refl
 
 -- passes 1 and 0 are all that there are; passes 1 and 2 aren't

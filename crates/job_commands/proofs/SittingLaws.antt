@@ -21,8 +21,8 @@ use Rattle.qp_multi.specs.Operations.{applied}
 use Rattle.qp_multi.specs.Passes.{Known, first_version, version_seen}
 use Rattle.qp_multi.specs.Closings.{AllSeen, AreAll}
 use Rattle.job_commands.specs.declared.closing.Last.{Last}
-use Rattle.job_commands.specs.Histories.{Setup, Commit, Entries, StandsAs, AreVersions, Deeds, Explains, judged_by, times_by}
-use Rattle.job_commands.specs.Steps.{HoldsLast, Station, Step}
+use Rattle.job_commands.specs.Histories.{OpenedWith, Commit, Entries, StandsAs, AreVersions, Deeds, Explains, judged_by, times_by}
+use Rattle.job_commands.specs.Steps.{HoldsLast, WorkerPasses, Step}
 use Rattle.job_commands.specs.Works.{AreNew, IsNew, Numbers, Replayed, ended}
 use Rattle.job_commands.specs.Endings.{Measured}
 use Rattle.job_commands.specs.Sittings.{AreBoth, AtWork, ComesTo, EndsAt, Sits, versions_by}
@@ -85,7 +85,7 @@ goes_measured old new last m = record {
 
 -- ---- both passes account for the history
 
-module _ (s : Setup) (numbers : Numbers) (t : Station) (commands : List Command) (os : List Outcome) (both : AreBoth numbers) (w : AtWork s numbers t commands os) (asks holds : Known) (known other : AllSeen) (a : Accounts 2 asks known) (b : Accounts 2 holds other) (beside : IsPartOf other asks.seen)
+module _ (s : OpenedWith) (numbers : Numbers) (t : WorkerPasses) (commands : List Command) (os : List Outcome) (both : AreBoth numbers) (w : AtWork s numbers t commands os) (asks holds : Known) (known other : AllSeen) (a : Accounts 2 asks known) (b : Accounts 2 holds other) (beside : IsPartOf other asks.seen)
     (since : Goes t.asks asks) (still : holds.pass ≡ t.holds.pass) where
   abbrev pairs : Pairs
   pairs = pairs_of commands os
@@ -217,13 +217,13 @@ module _ (s : Setup) (numbers : Numbers) (t : Station) (commands : List Command)
 -- ---- a sitting, from its beginning on
 
 -- what was told to the second pass changes nothing
-work_still : (s : Setup) (numbers : Numbers) (t : Station) (commands : List Command) (os : List Outcome) (asks holds : Known) (held : Bool) → asks ≡ t.asks → holds.seen ≡ t.holds.seen → holds.pass ≡ t.holds.pass → held ≡ t.held → AtWork s numbers t commands os
+work_still : (s : OpenedWith) (numbers : Numbers) (t : WorkerPasses) (commands : List Command) (os : List Outcome) (asks holds : Known) (held : Bool) → asks ≡ t.asks → holds.seen ≡ t.holds.seen → holds.pass ≡ t.holds.pass → held ≡ t.held → AtWork s numbers t commands os
     → AtWork s numbers (record { asks = asks; holds = holds; held = held }) commands os
 work_still s numbers t commands os asks holds held same seen pass hold w =
     subst (λ (v : Known). AtWork s numbers (record { asks = v; holds = holds; held = held }) commands os) (sym same)
     (subst (λ (h : Bool). AtWork s numbers (record { asks = t.asks; holds = holds; held = h }) commands os) (sym hold) (record {
       alike = w.alike;
-      sight = record { seen = w.sight.seen; held = holds_so t.held _ w.sight.held };
+      progress = record { seen = w.progress.seen; held = holds_so t.held _ w.progress.held };
       under = record {
         opening = ap first_version seen ∙ w.under.opening;
         history = subst (λ x. StartsWith t.asks.seen.history x.history) (sym seen) w.under.history;
@@ -255,7 +255,7 @@ work_still s numbers t commands os asks holds held same seen pass hold w =
     holds_so false v h = h
     holds_so true v h = h ∙ ap (λ x. Some (length x.history)) (sym seen)
 
-pub sits_still : (s : Setup) (t : Station) (commands : List Command) (os : List Outcome) (asks holds : Known) (held : Bool) → asks ≡ t.asks → holds.seen ≡ t.holds.seen → holds.pass ≡ t.holds.pass → held ≡ t.held → Sits s t commands os
+pub sits_still : (s : OpenedWith) (t : WorkerPasses) (commands : List Command) (os : List Outcome) (asks holds : Known) (held : Bool) → asks ≡ t.asks → holds.seen ≡ t.holds.seen → holds.pass ≡ t.holds.pass → held ≡ t.held → Sits s t commands os
     → Sits s (record { asks = asks; holds = holds; held = held }) commands os
 sits_still s t commands os asks holds held same seen pass hold w = record {
   two = w.two;
@@ -265,12 +265,12 @@ sits_still s t commands os asks holds held same seen pass hold w = record {
 }
 
 -- the next command
-pub sits_on : (s : Setup) (old new : Station) (commands : List Command) (os : List Outcome) (c : Command) (o : Outcome) → is_told old.asks.seen.opening ≡ true → MayCome old.held c → Sits s old commands os → Step s c o old new → Sits s new (commands ++ c ∷ []) (os ++ o ∷ [])
+pub sits_on : (s : OpenedWith) (old new : WorkerPasses) (commands : List Command) (os : List Outcome) (c : Command) (o : Outcome) → is_told old.asks.seen.opening ≡ true → MayCome old.held c → Sits s old commands os → Step s c o old new → Sits s new (commands ++ c ∷ []) (os ++ o ∷ [])
 sits_on s old new commands os c o told may w step =
     let k = w.work in
     let at : WorkerAt s w.numbers old commands (c ∷ []) os = record {
       alike = k.alike;
-      sight = k.sight;
+      progress = k.progress;
       under = k.under;
       told = k.ran.told;
       work = k.ran.work;
@@ -283,11 +283,11 @@ sits_on s old new commands os c o told may w step =
       two = w.two;
       numbers = w.numbers;
       both = w.both;
-      work = record { alike = n.alike; sight = n.sight; under = n.under; ran = record { told = n.told; work = n.work; asker = n.asker; holder = n.holder } };
+      work = record { alike = n.alike; progress = n.progress; under = n.under; ran = record { told = n.told; work = n.work; asker = n.asker; holder = n.holder } };
     }
 
 -- two passes that have done nothing
-pub sits_down : (s : Setup) (spare asks : Known) → s.passes ≡ 2 → AreNew s.opening (spare ∷ asks ∷ []) → AreAll 2 (spare ∷ asks ∷ []) → Sits s (ended asks spare) [] []
+pub sits_down : (s : OpenedWith) (spare asks : Known) → s.passes ≡ 2 → AreNew s.opening (spare ∷ asks ∷ []) → AreAll 2 (spare ∷ asks ∷ []) → Sits s (ended asks spare) [] []
 sits_down s spare asks two new all =
     let numbers : Numbers = record { asker = new.1.0.0; holder = new.0.0 } in
     let n = worker_starts s numbers asks spare [] (record { asker = new.1.0.1; holder = new.0.1 }) tt in
@@ -300,7 +300,7 @@ sits_down s spare asks two new all =
             | inl e ↦ inr (numbered spare new.0.0 number new.0.1 (ap (λ (x : Known). number_of x.pass) e ∙ v.2))
             | inr more ↦ inl (numbered asks new.1.0.0 number new.1.0.1 (ap (λ (x : Known). number_of x.pass) (only asks v.0 more) ∙ v.2))
           ];
-      work = record { alike = n.alike; sight = n.sight; under = n.under; ran = record { told = n.told; work = n.work; asker = n.asker; holder = n.holder } };
+      work = record { alike = n.alike; progress = n.progress; under = n.under; ran = record { told = n.told; work = n.work; asker = n.asker; holder = n.holder } };
     }
   where
     only : (x y : Known) → Contains (x ∷ []) y → x ≡ y
@@ -312,7 +312,7 @@ sits_down s spare asks two new all =
 -- ---- as the calls tell it
 
 -- both passes were accounted for, and nothing else was done
-pub tells_all : (s : Setup) (t : Station) (commands : List Command) (os : List Outcome) (w : Sits s t commands os) (count : ℕ) → s.passes ≡ count → is_told t.asks.seen.opening ≡ true → (asks holds : Known) (known other : AllSeen) → Accounts count t.asks known → Accounts count holds other
+pub tells_all : (s : OpenedWith) (t : WorkerPasses) (commands : List Command) (os : List Outcome) (w : Sits s t commands os) (count : ℕ) → s.passes ≡ count → is_told t.asks.seen.opening ≡ true → (asks holds : Known) (known other : AllSeen) → Accounts count t.asks known → Accounts count holds other
     → IsPartOf other t.asks.seen → asks ≡ t.asks → holds.pass ≡ t.holds.pass → (zone : Version) → StandsAs s.opening zone → ComesTo s zone commands os (length asks.seen.history) × AreVersions s asks.seen.history (versions_by s zone commands os)
 tells_all s t commands os w count counted told asks holds known other a b beside same still zone opens =
     let two : count ≡ 2 = sym counted ∙ w.two in
@@ -325,7 +325,7 @@ tells_all s t commands os w count counted told asks holds known other a b beside
     )
 
 -- the last version was measured, and then both passes were accounted for
-pub ends_all : (s : Setup) (t : Station) (commands : List Command) (os : List Outcome) (w : Sits s t commands os) (count : ℕ) → s.passes ≡ count → is_told t.asks.seen.opening ≡ true → (asks holds : Known) (last : Last) (known other : AllSeen) → Measured t.asks asks last → Accounts count asks known → Accounts count holds other
+pub ends_all : (s : OpenedWith) (t : WorkerPasses) (commands : List Command) (os : List Outcome) (w : Sits s t commands os) (count : ℕ) → s.passes ≡ count → is_told t.asks.seen.opening ≡ true → (asks holds : Known) (last : Last) (known other : AllSeen) → Measured t.asks asks last → Accounts count asks known → Accounts count holds other
     → IsPartOf other asks.seen → holds.pass ≡ t.holds.pass → (zone : Version) → StandsAs s.opening zone → EndsAt s zone commands os last
 ends_all s t commands os w count counted told asks holds last known other m a b beside still zone opens =
     let two : count ≡ 2 = sym counted ∙ w.two in

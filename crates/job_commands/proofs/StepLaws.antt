@@ -12,7 +12,7 @@ use Rattle.job_model.specs.declared.Weight.TheVariants.{Heavy}
 use Rattle.job_model.specs.declared.Question.{Question}
 use Rattle.job_model.specs.Commands.{Command, Ask, Block, Compact, held_after}
 use Rattle.job_model.specs.Replies.{reply_of}
-use Rattle.job_model.specs.Outcomes.{Ended, Shown, Committed, RolledBack, Refused, is_committed, Sight, Shows, Causes, BlockEnds, EndsLawfully, shown_by, sight_after}
+use Rattle.job_model.specs.Outcomes.{Ended, Shown, Committed, RolledBack, Refused, is_committed, WorkerProgress, Shows, Causes, BlockEnds, EndsLawfully, shown_by, progress_after}
 use Rattle.job_report.specs.Outcomes.{ended_view, Replies, Tells, EndsBlock, EndsCompaction}
 use Rattle.job_report.specs.declared.outcomes.Told.{Told}
 use Rattle.job_report.specs.declared.outcomes.Told.TheVariants.{Compacted}
@@ -23,9 +23,9 @@ use Rattle.shared_cells.specs.Views.{is_told, with_pinned}
 use Rattle.qp_multi.specs.declared.meaning.Operation.{Operation}
 use Rattle.qp_multi.specs.Operations.{applied}
 use Rattle.qp_multi.specs.Passes.{Known, first_version, version_seen}
-use Rattle.job_commands.specs.Histories.{Setup, Entries, StandsAs, AreVersions, Deeds, Explains, judged_by}
+use Rattle.job_commands.specs.Histories.{OpenedWith, Entries, StandsAs, AreVersions, Deeds, Explains, judged_by}
 use Rattle.job_commands.specs.Commands.{Asked, Transacts, BlockRan}
-use Rattle.job_commands.specs.Steps.{Station, HoldsLast, IsSight, IsUnder, Stays, Writes, Moved, Step}
+use Rattle.job_commands.specs.Steps.{WorkerPasses, HoldsLast, IsProgress, IsUnder, Stays, Writes, Moved, Step}
 use Rattle.job_commands.proofs.HistoryLaws.{begins_same, begins_more, begins_length, last_stands, opened_same, part_same}
 
 abbrev Own : Type 0
@@ -65,18 +65,18 @@ stays_pinned c version own old new shown is pass = record {
   ];
 }
 
-pub writes_nothing : (s : Setup) (own : Own) (c : Command) (version : ℕ) (b : Bool) (old new : Known) → b ≡ false → Stays c version own new → Writes s own c version b old new
+pub writes_nothing : (s : OpenedWith) (own : Own) (c : Command) (version : ℕ) (b : Bool) (old new : Known) → b ≡ false → Stays c version own new → Writes s own c version b old new
 writes_nothing s own c version b old new e y = subst (λ (x : Bool). Writes s own c version x old new) (sym e) y
 
 pub shown_plain : (e : Ended) → e ≡ Shown → is_committed e ≡ false
 shown_plain e is = ap is_committed is
 
 -- a version that was seen stands as the set has it
-pub seen_stands : (s : Setup) (set : ℕ → Version) (asks part : Known) (v : ℕ) → first_version part.seen ≡ s.opening → StartsWith asks.seen.history part.seen.history → v ≡ length part.seen.history → AreVersions s asks.seen.history set → StandsAs (version_seen part.seen) (set v)
+pub seen_stands : (s : OpenedWith) (set : ℕ → Version) (asks part : Known) (v : ℕ) → first_version part.seen ≡ s.opening → StartsWith asks.seen.history part.seen.history → v ≡ length part.seen.history → AreVersions s asks.seen.history set → StandsAs (version_seen part.seen) (set v)
 seen_stands s set asks part v opening front e are =
     subst (λ (o : Entries). StandsAs (version_after applied o part.seen.history) (set v)) (sym opening) (last_stands s asks.seen.history part.seen.history set v front e are)
 
-module _ (s : Setup) (o : Outcome) (old new : Station) (opened : first_version old.asks.seen ≡ s.opening) (told_asks : is_told old.asks.seen.opening ≡ true) (told_holds : is_told old.holds.seen.opening ≡ true) (under : IsUnder old.asks old.holds) where
+module _ (s : OpenedWith) (o : Outcome) (old new : WorkerPasses) (opened : first_version old.asks.seen ≡ s.opening) (told_asks : is_told old.asks.seen.opening ≡ true) (told_holds : is_told old.holds.seen.opening ≡ true) (under : IsUnder old.asks old.holds) where
   module _ (same : new.holds ≡ old.holds) (held : new.held ≡ old.held) (grows : IsPartOf new.asks.seen old.asks.seen) where
     -- the first pass alone went on
     still_under : IsUnder new.asks new.holds
@@ -104,10 +104,10 @@ module _ (s : Setup) (o : Outcome) (old new : Station) (opened : first_version o
     -- what a step is that leaves the second pass alone, whatever is told of it
     record Rest (c : Command) : Type 0 where
       asks : IsPartOf new.asks.seen old.asks.seen
-      ends : (sight : Sight) → IsSight old sight → (set : ℕ → Version) (deeds : Deeds) → AreVersions s new.asks.seen.history set → Explains s deeds new.asks.seen
-          → EndsLawfully (judged_by s set deeds) sight c o.version (ended_view o.told)
+      ends : (progress : WorkerProgress) → IsProgress old progress → (set : ℕ → Version) (deeds : Deeds) → AreVersions s new.asks.seen.history set → Explains s deeds new.asks.seen
+          → EndsLawfully (judged_by s set deeds) progress c o.version (ended_view o.told)
       below : o.version ≤ length new.asks.seen.history
-      holding : (sight : Sight) → IsSight old sight → IsSight new (sight_after sight c o.version)
+      holding : (progress : WorkerProgress) → IsProgress old progress → IsProgress new (progress_after progress c o.version)
       writes : (own : Own) → old.asks.pass ≡ Some own → Writes s own c o.version (is_committed (ended_view o.told)) old.asks new.asks
 
     rest_step : (c : Command) → Rest c → held_after old.held c ≡ old.held → ((set : ℕ → Version) → AreVersions s new.asks.seen.history set → Tells s.origin set c o) → (o.told ≡ Compacted → Moved s old.asks new.asks) → Step s c o old new
@@ -132,21 +132,21 @@ module _ (s : Setup) (o : Outcome) (old new : Station) (opened : first_version o
         let long = begins_length new.asks.seen.history old.asks.seen.history grows.history in
         rest_step (Ask question) (record {
           asks = a.grows;
-          ends = λ sight is set deeds are explains.
+          ends = λ progress is set deeds are explains.
               let seen = is.seen in
-              let le : sight.seen ≤ o.version = omega (arith, seen, long, a.version) in
-              shows_at (sight.seen ≤ o.version) (ended_view o.told) a.shown le;
+              let le : progress.seen ≤ o.version = omega (arith, seen, long, a.version) in
+              shows_at (progress.seen ≤ o.version) (ended_view o.told) a.shown le;
           below = omega (arith, a.version);
-          holding = λ sight is. record { seen = omega (arith, a.version); held = still_holds sight.held is.held };
+          holding = λ progress is. record { seen = omega (arith, a.version); held = still_holds progress.held is.held };
           writes = λ own is. writes_nothing s own (Ask question) o.version (is_committed (ended_view o.told)) old.asks new.asks (shown_plain (ended_view o.told) a.shown) (stays_pinned (Ask question) o.version own old.asks new.asks refl is a.pass);
         }) refl replies (λ is. absurd (shown_alone o.told a.shown is))
 
     block_rest : (weight : Weight) (asked : Transaction) (ending : Ending) (own : Own) → old.asks.pass ≡ Some own → BlockRan s asked ending old.asks new.asks o → Rest (Block weight asked ending)
     block_rest weight asked ending own is b = record {
       asks = b.grows;
-      ends = λ sight is' set deeds are explains. by_end sight is' set deeds are explains (ended_view o.told) b.transacts;
+      ends = λ progress is' set deeds are explains. by_end progress is' set deeds are explains (ended_view o.told) b.transacts;
       below = omega (arith, b.version);
-      holding = λ sight is'. record { seen = omega (arith, b.version); held = still_holds sight.held is'.held };
+      holding = λ progress is'. record { seen = omega (arith, b.version); held = still_holds progress.held is'.held };
       writes = λ own' is'. by_write own' is' (ended_view o.told) b.transacts;
     }
       where
@@ -156,27 +156,27 @@ module _ (s : Setup) (o : Outcome) (old new : Station) (opened : first_version o
         stands_at : (set : ℕ → Version) → AreVersions s new.asks.seen.history set → StandsAs (version_seen new.asks.seen) (set o.version)
         stands_at set are = seen_stands s set new.asks new.asks o.version opened_now (begins_same new.asks.seen.history) b.version are
 
-        by_end : (sight : Sight) → IsSight old sight → (set : ℕ → Version) (deeds : Deeds) → AreVersions s new.asks.seen.history set → Explains s deeds new.asks.seen → (e : Ended) → Transacts s asked ending old.asks new.asks e → BlockEnds (judged_by s set deeds) sight.seen asked ending o.version e
-        by_end sight is' set deeds are explains Shown t = t
-        by_end sight is' set deeds are explains Committed t =
+        by_end : (progress : WorkerProgress) → IsProgress old progress → (set : ℕ → Version) (deeds : Deeds) → AreVersions s new.asks.seen.history set → Explains s deeds new.asks.seen → (e : Ended) → Transacts s asked ending old.asks new.asks e → BlockEnds (judged_by s set deeds) progress.seen asked ending o.version e
+        by_end progress is' set deeds are explains Shown t = t
+        by_end progress is' set deeds are explains Committed t =
             let c = t.1 own is in
             let seen = is'.seen in
             let base_long = begins_length c.base old.asks.seen.history c.before in
             let longer : length new.asks.seen.history ≡ length c.base + 1 = ap length c.history ∙ length-append c.base _ in
-            let before_it : sight.seen < o.version = (let v = b.version in omega arith) in
+            let before_it : progress.seen < o.version = (let v = b.version in omega arith) in
             let last : o.version - 1 ≡ length c.base = (let v = b.version in omega arith) in
             let base = last_stands s new.asks.seen.history c.base set (o.version - 1) (_, c.history) last are in
             let made = c.makes (set (o.version - 1)) base in
             (t.0, before_it, ok_from (whole s.origin asked (set (o.version - 1))) made.0 made.1)
-        by_end sight is' set deeds are explains RolledBack t =
+        by_end progress is' set deeds are explains RolledBack t =
             let seen = is'.seen in
             let l = long in
-            let le : sight.seen ≤ o.version = (let v = b.version in omega arith) in
+            let le : progress.seen ≤ o.version = (let v = b.version in omega arith) in
             (t.0, le, t.2 (set o.version) (stands_at set are))
-        by_end sight is' set deeds are explains (Refused cause) t =
+        by_end progress is' set deeds are explains (Refused cause) t =
             let seen = is'.seen in
             let l = long in
-            let le : sight.seen ≤ o.version = (let v = b.version in omega arith) in
+            let le : progress.seen ≤ o.version = (let v = b.version in omega arith) in
             (le, subst (λ (n : ℕ). Causes (judged_by s set deeds) asked ending n cause) (sym b.version) (t.1 set deeds are explains))
 
         by_write : (own' : Own) → old.asks.pass ≡ Some own' → (e : Ended) → Transacts s asked ending old.asks new.asks e → Writes s own' (Block weight asked ending) o.version (is_committed e) old.asks new.asks

@@ -1,4 +1,4 @@
--- What a transaction makes of a block, by its drafts.
+-- What a transaction makes of a block, by its working versions.
 use Rattle.std.proofs.Common.{◌≡◌, ◌∙◌, ◌⊎◌, ⊎_elim, ℕ, suc, ◌+◌, ◌-◌, ◌*◌, ◌/◌, ◌<◌, ◌≤◌, true, List, [], ◌∷◌, ◌++◌, length, take, get_or, Option, Some, None, Result, Ok, Err, refl, sym, ap, subst, arith, length-append}
 use Rattle.std.specs.Prelude.{Contains, IsOk, unwrap_or}
 use Rattle.std.specs.List.{AllByRecursion, AllPairs}
@@ -17,7 +17,7 @@ use Rattle.trie_model.specs.Shape.{cells}
 use Rattle.job_model.specs.declared.Ending.{Ending}
 use Rattle.job_model.specs.declared.Ending.TheVariants as ending
 use Rattle.job_model.specs.Sizes.{cell_count, cells_asked, trie_entries}
-use Rattle.job_model.specs.Outcomes.{BoundsSets, BoundsVersions, Cause, Rule, Full, Spent, Causes, FullCause, cells_kept, last_version}
+use Rattle.job_model.specs.Outcomes.{BoundsSets, BoundsVersions, Cause, Rule, Full, Spent, Causes, WhyFull, cells_kept, last_version}
 use Rattle.report_laws.specs.Changes.{AllSaid}
 use Rattle.report_laws.proofs.ChangeLemmas.{whole_dumped}
 use Rattle.shared_cells.specs.declared.view.PassView.{PassView}
@@ -25,12 +25,12 @@ use Rattle.shared_cells.specs.History.{StartsWith, IsPartOf, OpeningFits, entry_
 use Rattle.shared_cells.specs.Views.{is_told, pass_of}
 use Rattle.shared_cells.specs.Steps.{IsNamed}
 use Rattle.qp_multi.specs.declared.meaning.Operation.{Operation}
-use Rattle.qp_multi.specs.declared.desk.Draft.{Draft}
+use Rattle.qp_multi.specs.declared.writer.WorkingVersion.{WorkingVersion}
 use Rattle.qp_multi.specs.declared.kept.Versions.{Versions}
 use Rattle.qp_multi.specs.Operations.{applied}
 use Rattle.qp_multi.specs.Passes.{Known, first_version, version_seen}
-use Rattle.qp_multi.specs.Drafts as drafts
-use Rattle.qp_multi.specs.Drafts.{Begins, Works, base_of, working_set}
+use Rattle.qp_multi.specs.WorkingVersions as working_versions
+use Rattle.qp_multi.specs.WorkingVersions.{Begins, Works, base_of, working_set}
 use Rattle.qp_multi.specs.Fulls.{version_at}
 use Rattle.qp_multi.specs.Fulls as fulls
 use Rattle.qp_multi.specs.Keepings.{GoesOn, versions_in}
@@ -46,7 +46,7 @@ use Rattle.qp_multi.specs.Crowds.{BoundsWays}
 use Rattle.qp_multi.proofs.GoesLaws.{base_goes_on}
 use Rattle.chunk_usage.specs.declared.space.Shortage.{Shortage as Request}
 use Rattle.zone_edit.specs.declared.refusal.EditRefusal.TheVariants as refusals
-use Rattle.job_commands.specs.Histories.{Setup, BeginsAt, Commit, Entries, IsLawful, StandsAs, AreVersions, Deeds, Explains, IsAsked, index_at, judged_by}
+use Rattle.job_commands.specs.Histories.{OpenedWith, BeginsAt, Commit, Entries, IsLawful, StandsAs, AreVersions, Deeds, Explains, IsAsked, index_at, judged_by}
 use Rattle.job_commands.specs.Commands.{Accepts, Commits, OpensAt}
 use Rattle.job_commands.proofs.HistoryLaws.{begins_same, begins_length, begins_more, index_front, index_last, last_stands, opened_same, part_more}
 use Rattle.job_commands.proofs.JobLaws.{here, there}
@@ -93,18 +93,18 @@ low_all (x ∷ older) v a = (let l = a.0 in omega arith, low_all older v a.1)
 -- ---- a transaction that has begun
 
 -- its working set is the base, which is a version
-begun_on : (lawful : Entries → Entries → Type 0) (old : Known) (d : Draft) (version : Version) → Begins lawful old d → StandsAs (version_seen d.seat.place.me.0.seen) version → WorksOn d version
+begun_on : (lawful : Entries → Entries → Type 0) (old : Known) (d : WorkingVersion) (version : Version) → Begins lawful old d → StandsAs (version_seen d.seat.place.me.0.seen) version → WorksOn d version
 begun_on lawful old d version b stands = record {
   works = b.works;
   set = ap (applied (base_of d)) b.none_done ∙ sym stands.entries;
   valid = stands.valid;
 }
 
-pub begun_some : (old : Known) (d : Draft) → Begins IsLawful old d → WorksOnSome d
+pub begun_some : (old : Known) (d : WorkingVersion) → Begins IsLawful old d → WorksOnSome d
 begun_some old d b = let z = b.joined.good.zone in record { version = z.version; on = begun_on IsLawful old d z.version b z.stands }
 
 -- what an accepted block makes of a version of the zone is one too
-pub lawful_block : (origin : Name) (asked : Transaction) (old : Known) (d e : Draft) → Begins IsLawful old d → is_told old.seen.opening ≡ true → OpensAt origin old → AllSaid origin asked → GoesOn d.seat.place.me.0 e.seat.place.me.0
+pub lawful_block : (origin : Name) (asked : Transaction) (old : Known) (d e : WorkingVersion) → Begins IsLawful old d → is_told old.seen.opening ≡ true → OpensAt origin old → AllSaid origin asked → GoesOn d.seat.place.me.0 e.seat.place.me.0
     → ((version : Version) → WorksOn d version → Executes origin asked (Ok tt) version e) → IsLawful (first_version e.seat.place.me.0.seen) (working_set e)
 lawful_block origin asked old d e b told opens said known becomes =
     let base : OpensAt origin d.seat.place.me.0 = opens_still origin old d.seat.place.me.0 told b.joined.grows opens in
@@ -131,7 +131,7 @@ commit_in (y ∷ history) x c = ⊎_elim
     further : CommitIn history x → CommitIn (y ∷ history) x
     further r = record { before = y ∷ r.before; begins = (r.begins.0, ap (λ (h : List Commit). y ∷ h) r.begins.1) }
 
-module _ (s : Setup) (asked : Transaction) (old : Known) (d e : Draft) (b : Begins IsLawful old d) (told : is_told old.seen.opening ≡ true) (opening : first_version old.seen ≡ s.opening) (known : GoesOn d.seat.place.me.0 e.seat.place.me.0) where
+module _ (s : OpenedWith) (asked : Transaction) (old : Known) (d e : WorkingVersion) (b : Begins IsLawful old d) (told : is_told old.seen.opening ≡ true) (opening : first_version old.seen ≡ s.opening) (known : GoesOn d.seat.place.me.0 e.seat.place.me.0) where
   base_opening : first_version d.seat.place.me.0.seen ≡ s.opening
   base_opening = opened_same d.seat.place.me.0.seen old.seen told b.joined.grows ∙ opening
 
@@ -165,7 +165,7 @@ module _ (s : Setup) (asked : Transaction) (old : Known) (d e : Draft) (b : Begi
         subst (λ (es : Entries). MadeOnTheWay s.origin asked.operations zone (applied es (take n e.log.operations))) base_set (r.ways zone (works_at zone stands) n begun);
   }
 
-  pub commits_block : (new : Known) → EditsInOrder s.origin asked.operations (Executes s.origin asked (Ok tt)) d e → drafts.Commits e.seat.place.me.0 e.log.operations new → (own : Own) → old.pass ≡ Some own → Commits s asked own old new
+  pub commits_block : (new : Known) → EditsInOrder s.origin asked.operations (Executes s.origin asked (Ok tt)) d e → working_versions.Commits e.seat.place.me.0 e.log.operations new → (own : Own) → old.pass ≡ Some own → Commits s asked own old new
   commits_block new r c own is =
       let mine : d.seat.place.me.0.pass ≡ Some own = b.joined.pass ∙ is in
       let both : ◌≡◌ {A = Option Own} (Some c.own) (Some own) = sym c.joined ∙ known.pass ∙ mine in
@@ -191,10 +191,10 @@ module _ (s : Setup) (asked : Transaction) (old : Known) (d e : Draft) (b : Begi
             (made.0, made.1, record { valid = made.2.valid; entries = sym (set ∙ made.2.set) });
       }
 
-  pub commits_grow : (new : Known) → drafts.Commits e.seat.place.me.0 e.log.operations new → IsPartOf new.seen old.seen
+  pub commits_grow : (new : Known) → working_versions.Commits e.seat.place.me.0 e.log.operations new → IsPartOf new.seen old.seen
   commits_grow new c = grown new (entry_of c.own.number e.log.operations ∷ []) c.opening c.history c.namings
 
-  pub commits_version : (new : Known) (version : ℕ) → drafts.Commits e.seat.place.me.0 e.log.operations new → version ≡ e.seat.version + 1 → version ≡ length new.seen.history
+  pub commits_version : (new : Known) (version : ℕ) → working_versions.Commits e.seat.place.me.0 e.log.operations new → version ≡ e.seat.version + 1 → version ≡ length new.seen.history
   commits_version new version c is =
       let long : length new.seen.history ≡ length e.seat.place.me.0.seen.history + 1 = ap length c.history ∙ length-append e.seat.place.me.0.seen.history (entry_of c.own.number e.log.operations ∷ []) in
       let here = e.seat.version_is in
@@ -332,7 +332,7 @@ module _ (s : Setup) (asked : Transaction) (old : Known) (d e : Draft) (b : Begi
         base_is : e.seat.version ≡ length new.seen.history
         base_is = e.seat.version_is ∙ sym (ap (λ (v : Known). length v.seen.history) back)
 
-        cause : (set : ℕ → Version) (deeds : Deeds) → AreVersions s new.seen.history set → Explains s deeds new.seen → FullCause (judged_by s set deeds) asked (length new.seen.history) operation (versions_in kept)
+        cause : (set : ℕ → Version) (deeds : Deeds) → AreVersions s new.seen.history set → Explains s deeds new.seen → WhyFull (judged_by s set deeds) asked (length new.seen.history) operation (versions_in kept)
         cause set deeds are explains =
             let stopped = r.edits.becomes (set (length new.seen.history)) (works_set set (length new.seen.history) refl are) in
             let at = subst (IsFullAt e s.origin asked.operations (set (length new.seen.history)) operation request) (sym told) stopped.1 in

@@ -8,7 +8,7 @@ use Rattle.std.specs.List.{AllByRecursion}
 use Rattle.zone_model.specs.Names.{Name}
 use Rattle.zone_model.specs.Versions.{Version}
 use Rattle.job_model.specs.Commands.{Command, Ask, Hold, AskHeld, Release, Block, Compact, InTurn, MayCome, NeedsNoSnapshot}
-use Rattle.job_model.specs.Outcomes.{Setting, Pair, is_committed, made, asked_by, times_made, Sight, at_first, sight_after, EndsLawfully, Along, shown_by, shown_in}
+use Rattle.job_model.specs.Outcomes.{JudgedBy, Pair, is_committed, made, asked_by, times_made, WorkerProgress, at_first, progress_after, EndsLawfully, Along, shown_by, shown_in}
 use Rattle.job_report.specs.Outcomes.{ended_view, outcome_view, pairs_of, Tells, EachTells}
 use Rattle.job_report.specs.declared.outcomes.Outcome.{Outcome as Told_outcome}
 use Rattle.shared_cells.specs.declared.view.PassView.{PassView}
@@ -17,9 +17,9 @@ use Rattle.shared_cells.specs.Views.{is_told}
 use Rattle.qp_multi.specs.declared.meaning.Operation.{Operation}
 use Rattle.qp_multi.specs.Operations.{applied}
 use Rattle.qp_multi.specs.Passes.{Known, first_version}
-use Rattle.job_commands.specs.Histories.{Setup, Commit, Entries, IsAsked, index_at, StandsAs, AreVersions, judged_by, times_by}
-use Rattle.job_commands.specs.Steps.{Station, IsSight, IsUnder, Adds, Stays, Writes, Step}
-use Rattle.job_commands.specs.Sittings.{sight_behind}
+use Rattle.job_commands.specs.Histories.{OpenedWith, Commit, Entries, IsAsked, index_at, StandsAs, AreVersions, judged_by, times_by}
+use Rattle.job_commands.specs.Steps.{WorkerPasses, IsProgress, IsUnder, Adds, Stays, Writes, Step}
+use Rattle.job_commands.specs.Sittings.{progress_behind}
 use Rattle.job_commands.specs.Works.{Replayed, Work, Numbers, Begins, WorkerRan, ended}
 use Rattle.job_commands.proofs.HistoryLaws.{begins_same, begins_more, begins_length, begins_other, last_commit, opened_same, index_front, index_last, versions_front, explains_front, by-push, times_front, times_past, times_there, times_else}
 
@@ -44,13 +44,13 @@ pub all_both : {X : Type 0} (P Q R : X → Type 0) (xs : List X) → ((x : X) �
 all_both P Q R [] f a b = tt
 all_both P Q R (x ∷ xs) f a b = (f x a.0 b.0, all_both P Q R xs f a.1 b.1)
 
-pub sight_behind-push : (sight : Sight) (pairs : Pairs) (p : Pair) → sight_behind sight (pairs ++ p ∷ []) ≡ sight_after (sight_behind sight pairs) p.0 p.1.version
-sight_behind-push sight [] p = refl
-sight_behind-push sight (q ∷ pairs) p = sight_behind-push (sight_after sight q.0 q.1.version) pairs p
+pub progress_behind-push : (progress : WorkerProgress) (pairs : Pairs) (p : Pair) → progress_behind progress (pairs ++ p ∷ []) ≡ progress_after (progress_behind progress pairs) p.0 p.1.version
+progress_behind-push progress [] p = refl
+progress_behind-push progress (q ∷ pairs) p = progress_behind-push (progress_after progress q.0 q.1.version) pairs p
 
-along-push : (s : Setting) (sight : Sight) (pairs : Pairs) (p : Pair) → Along s sight pairs → EndsLawfully s (sight_behind sight pairs) p.0 p.1.version p.1.ended → Along s sight (pairs ++ p ∷ [])
-along-push s sight [] p l e = (e, tt)
-along-push s sight (q ∷ pairs) p l e = (l.0, along-push s (sight_after sight q.0 q.1.version) pairs p l.1 e)
+along-push : (s : JudgedBy) (progress : WorkerProgress) (pairs : Pairs) (p : Pair) → Along s progress pairs → EndsLawfully s (progress_behind progress pairs) p.0 p.1.version p.1.ended → Along s progress (pairs ++ p ∷ [])
+along-push s progress [] p l e = (e, tt)
+along-push s progress (q ∷ pairs) p l e = (l.0, along-push s (progress_after progress q.0 q.1.version) pairs p l.1 e)
 
 each-push : (origin : Name) (set : ℕ → Version) (cs : List Command) (os : List Told_outcome) (c : Command) (o : Told_outcome) → EachTells origin set cs os → Tells origin set c o → EachTells origin set (cs ++ c ∷ []) (os ++ o ∷ [])
 each-push origin set [] [] c o t u = (u, tt)
@@ -95,7 +95,7 @@ and-false false = refl
 
 -- ---- histories that grow
 
-pub replayed_more : (s : Setup) (all part : List Commit) → StartsWith all part → (p : Pair) → p.1.version ≤ length part → Replayed s part p → Replayed s all p
+pub replayed_more : (s : OpenedWith) (all part : List Commit) → StartsWith all part → (p : Pair) → p.1.version ≤ length part → Replayed s part p → Replayed s all p
 replayed_more s all part b p le r = λ c.
     let was = r c in
     let below : p.1.version - 1 ≤ length part = omega (arith, le) in (
@@ -108,9 +108,9 @@ replayed_more s all part b p le r = λ c.
 
 -- ---- how far a worker has come
 
-pub record WorkerAt (s : Setup) (numbers : Numbers) (t : Station) (done ahead : List Command) (os : List Told_outcome) : Type 0 where
+pub record WorkerAt (s : OpenedWith) (numbers : Numbers) (t : WorkerPasses) (done ahead : List Command) (os : List Told_outcome) : Type 0 where
   pub alike : Alike done os
-  pub sight : IsSight t (sight_behind at_first (pairs_of done os))
+  pub progress : IsProgress t (progress_behind at_first (pairs_of done os))
   pub under : IsUnder t.asks t.holds
   pub told : (set : ℕ → Version) → AreVersions s t.asks.seen.history set → EachTells s.origin set done os
   pub work : Work s t (pairs_of done os)
@@ -119,7 +119,7 @@ pub record WorkerAt (s : Setup) (numbers : Numbers) (t : Station) (done ahead : 
   pub turn : InTurn t.held ahead
 
 -- what was written, and what was seen: the worker's own part of the history so far
-record Grown (s : Setup) (numbers : Numbers) (t : Station) (pairs : Pairs) : Type 0 where
+record Grown (s : OpenedWith) (numbers : Numbers) (t : WorkerPasses) (pairs : Pairs) : Type 0 where
   replayed : AllByRecursion (Replayed s t.asks.seen.history) pairs
   asker : Own
   is_asker : t.asks.pass ≡ Some asker
@@ -130,7 +130,7 @@ record Grown (s : Setup) (numbers : Numbers) (t : Station) (pairs : Pairs) : Typ
   made : (j : ℕ) → times_made j pairs ≡ times_by asker.number j committed
   pinned : (v : ℕ) → Contains asker.pinned v → Contains (shown_in pairs) v
 
-grows_same : (s : Setup) (numbers : Numbers) (old new : Station) (pairs : Pairs) (p : Pair) (w : Work s old pairs) → w.asker.number ≡ numbers.asker → StartsWith new.asks.seen.history old.asks.seen.history → is_committed p.1.ended ≡ false
+grows_same : (s : OpenedWith) (numbers : Numbers) (old new : WorkerPasses) (pairs : Pairs) (p : Pair) (w : Work s old pairs) → w.asker.number ≡ numbers.asker → StartsWith new.asks.seen.history old.asks.seen.history → is_committed p.1.ended ≡ false
     → Stays p.0 p.1.version w.asker new.asks → Grown s numbers new (pairs ++ p ∷ [])
 grows_same s numbers old new pairs p w number grows plain y = record {
   replayed = all-push (Replayed s new.asks.seen.history) pairs p
@@ -151,7 +151,7 @@ grows_same s numbers old new pairs p w number grows plain y = record {
   ];
 }
 
-grows_more : (s : Setup) (numbers : Numbers) (old new : Station) (pairs : Pairs) (p : Pair) (w : Work s old pairs) → w.asker.number ≡ numbers.asker → StartsWith new.asks.seen.history old.asks.seen.history → is_committed p.1.ended ≡ true
+grows_more : (s : OpenedWith) (numbers : Numbers) (old new : WorkerPasses) (pairs : Pairs) (p : Pair) (w : Work s old pairs) → w.asker.number ≡ numbers.asker → StartsWith new.asks.seen.history old.asks.seen.history → is_committed p.1.ended ≡ true
     → Adds s w.asker p.0 p.1.version old.asks new.asks → Grown s numbers new (pairs ++ p ∷ [])
 grows_more s numbers old new pairs p w number grows commits a =
     let n = w.asker.number in
@@ -197,12 +197,12 @@ grows_more s numbers old new pairs p w number grows commits a =
       pinned = λ v here. shown_before pairs p v (w.pinned v (inl here));
     }
 
-grows : (s : Setup) (numbers : Numbers) (old new : Station) (pairs : Pairs) (p : Pair) (w : Work s old pairs) (committed : Bool) → w.asker.number ≡ numbers.asker → StartsWith new.asks.seen.history old.asks.seen.history → is_committed p.1.ended ≡ committed
+grows : (s : OpenedWith) (numbers : Numbers) (old new : WorkerPasses) (pairs : Pairs) (p : Pair) (w : Work s old pairs) (committed : Bool) → w.asker.number ≡ numbers.asker → StartsWith new.asks.seen.history old.asks.seen.history → is_committed p.1.ended ≡ committed
     → Writes s w.asker p.0 p.1.version committed old.asks new.asks → Grown s numbers new (pairs ++ p ∷ [])
 grows s numbers old new pairs p w true number g c a = grows_more s numbers old new pairs p w number g c a
 grows s numbers old new pairs p w false number g c y = grows_same s numbers old new pairs p w number g c y
 
-pub worker_goes_on : (s : Setup) (numbers : Numbers) (old new : Station) (done : List Command) (c : Command) (behind : List Command) (os : List Told_outcome) (o : Told_outcome) → first_version new.asks.seen ≡ first_version old.asks.seen
+pub worker_goes_on : (s : OpenedWith) (numbers : Numbers) (old new : WorkerPasses) (done : List Command) (c : Command) (behind : List Command) (os : List Told_outcome) (o : Told_outcome) → first_version new.asks.seen ≡ first_version old.asks.seen
     → WorkerAt s numbers old done (c ∷ behind) os → Step s c o old new → WorkerAt s numbers new (done ++ c ∷ []) behind (os ++ o ∷ [])
 worker_goes_on s numbers old new done c behind os o opened w step =
     let p : Pair = (c, outcome_view o) in
@@ -214,7 +214,7 @@ worker_goes_on s numbers old new done c behind os o opened w step =
     let one : length (done ++ c ∷ []) ≡ length (os ++ o ∷ []) = omega (arith, w.alike, length-append done (c ∷ []), length-append os (o ∷ [])) in
     record {
       alike = one;
-      sight = subst (IsSight new) (sym (ap (sight_behind at_first) more ∙ sight_behind-push at_first (pairs_of done os) (c, outcome_view o))) (step.holding (sight_behind at_first (pairs_of done os)) w.sight);
+      progress = subst (IsProgress new) (sym (ap (progress_behind at_first) more ∙ progress_behind-push at_first (pairs_of done os) (c, outcome_view o))) (step.holding (progress_behind at_first (pairs_of done os)) w.progress);
       under = step.under;
       told = λ set are. each-push s.origin set done os c o (w.told set (versions_front s new.asks.seen.history old.asks.seen.history set step.asks.history are)) (step.tells set are);
       work = record {
@@ -222,7 +222,7 @@ worker_goes_on s numbers old new done c behind os o opened w step =
         along = λ set deeds are explains. subst (Along (judged_by s set deeds) at_first) (sym more)
             (along-push (judged_by s set deeds) at_first (pairs_of done os) (c, outcome_view o)
             (w.work.along set deeds (versions_front s new.asks.seen.history old.asks.seen.history set step.asks.history are) (explains_front s deeds new.asks.seen old.asks.seen step.asks explains))
-            (step.ends (sight_behind at_first (pairs_of done os)) w.sight set deeds are explains));
+            (step.ends (progress_behind at_first (pairs_of done os)) w.progress set deeds are explains));
         none_above = subst (AllByRecursion (λ (q : Pair). q.1.version ≤ length new.asks.seen.history)) (sym more)
             (all-push (λ (q : Pair). q.1.version ≤ length new.asks.seen.history) (pairs_of done os) (c, outcome_view o)
             (all_weaker (λ (q : Pair). q.1.version ≤ length old.asks.seen.history) (λ (q : Pair). q.1.version ≤ length new.asks.seen.history) (pairs_of done os) (λ q le. omega (arith, le, long)) w.work.none_above) step.below);
@@ -259,12 +259,12 @@ may_come (Block _ asked ending) plain = tt
 may_come Compact plain = tt
 
 -- the next command of a worker that holds none, if it needs none
-pub plain_goes_on : (s : Setup) (numbers : Numbers) (old new : Station) (done : List Command) (c : Command) (os : List Told_outcome) (o : Told_outcome) → is_told old.asks.seen.opening ≡ true → old.held ≡ false → NeedsNoSnapshot c → WorkerAt s numbers old done [] os → Step s c o old new
+pub plain_goes_on : (s : OpenedWith) (numbers : Numbers) (old new : WorkerPasses) (done : List Command) (c : Command) (os : List Told_outcome) (o : Told_outcome) → is_told old.asks.seen.opening ≡ true → old.held ≡ false → NeedsNoSnapshot c → WorkerAt s numbers old done [] os → Step s c o old new
     → WorkerAt s numbers new (done ++ c ∷ []) [] (os ++ o ∷ [])
 plain_goes_on s numbers old new done c os o told free plain w step =
     worker_goes_on s numbers old new done c [] os o (opened_same new.asks.seen old.asks.seen told step.asks) (record {
       alike = w.alike;
-      sight = w.sight;
+      progress = w.progress;
       under = w.under;
       told = w.told;
       work = w.work;
@@ -273,15 +273,15 @@ plain_goes_on s numbers old new done c os o told free plain w step =
       turn = (subst (λ (b : Bool). MayCome b c) (sym free) (may_come c plain), tt);
     }) step
 
-pub worker_ran : (s : Setup) (numbers : Numbers) (t : Station) (commands done ahead : List Command) (os : List Told_outcome) → done ≡ commands → WorkerAt s numbers t done ahead os → WorkerRan s numbers t commands os
+pub worker_ran : (s : OpenedWith) (numbers : Numbers) (t : WorkerPasses) (commands done ahead : List Command) (os : List Told_outcome) → done ≡ commands → WorkerAt s numbers t done ahead os → WorkerRan s numbers t commands os
 worker_ran s numbers t commands done ahead os all w =
     subst (λ (l : List Command). WorkerRan s numbers t l os) all (record { told = w.told; work = w.work; asker = w.asker; holder = w.holder })
 
 -- two passes that have done nothing, and no snapshot is held
-pub worker_starts : (s : Setup) (numbers : Numbers) (asks spare : Known) (commands : List Command) → Begins s numbers asks spare → InTurn false commands → WorkerAt s numbers (ended asks spare) [] commands []
+pub worker_starts : (s : OpenedWith) (numbers : Numbers) (asks spare : Known) (commands : List Command) → Begins s numbers asks spare → InTurn false commands → WorkerAt s numbers (ended asks spare) [] commands []
 worker_starts s numbers asks spare commands b turn = record {
   alike = refl;
-  sight = record { seen = omega arith; held = refl };
+  progress = record { seen = omega arith; held = refl };
   under = record {
     opening = b.holder.opened ∙ sym b.asker.opened;
     history = (asks.seen.history, sym (ap (λ (l : List Commit). l ++ asks.seen.history) b.holder.no_history));

@@ -9,8 +9,8 @@ use Rattle.shared_cells.specs.History.{StartsWith, entries_by}
 use Rattle.shared_cells.specs.Views.{number_of}
 use Rattle.qp_multi.specs.declared.meaning.Operation.{Operation}
 use Rattle.qp_multi.specs.Passes.{Known, first_version}
-use Rattle.job_commands.specs.Histories.{Setup, Commit}
-use Rattle.job_commands.specs.Steps.{Station}
+use Rattle.job_commands.specs.Histories.{OpenedWith, Commit}
+use Rattle.job_commands.specs.Steps.{WorkerPasses}
 use Rattle.job_commands.specs.Works.{Numbers, WorkerRan}
 
 -- some element is so
@@ -25,13 +25,13 @@ AreApart (x ∷ xs) = AllByRecursion (λ y. x ≢ y) xs × AreApart xs
 
 -- A worker that is done: the numbers of its passes, what these know, and whether it has two of them; its commands and their outcomes.
 -- One that takes no snapshots has one pass, and as the second stands what that pass knew at first.
-pub record Worker (s : Setup) : Type 0 where
+pub record Worker (s : OpenedWith) : Type 0 where
   pub numbers : Numbers
-  pub station : Station
+  pub worker_passes : WorkerPasses
   pub has_second : Bool
   pub commands : List Command
   pub outcomes : Outcomes
-  pub ran : WorkerRan s numbers station commands outcomes.list.items
+  pub ran : WorkerRan s numbers worker_passes commands outcomes.list.items
 
 -- what the passes of workers know, and of all with main's behind them
 
@@ -39,20 +39,20 @@ abbrev pub second_view : Bool → Known → List Known
 second_view true second = second ∷ []
 second_view false second = []
 
-abbrev pub worker_views : {s : Setup} → Worker s → List Known
-worker_views w = w.station.asks ∷ second_view w.has_second w.station.holds
+abbrev pub worker_views : {s : OpenedWith} → Worker s → List Known
+worker_views w = w.worker_passes.asks ∷ second_view w.has_second w.worker_passes.holds
 
-abbrev pub workers_views : {s : Setup} → List (Worker s) → List Known
+abbrev pub workers_views : {s : OpenedWith} → List (Worker s) → List Known
 workers_views [] = []
 workers_views (w ∷ ws) = worker_views w ++ workers_views ws
 
-abbrev pub views_of : {s : Setup} → Known → List (Worker s) → List Known
+abbrev pub views_of : {s : OpenedWith} → Known → List (Worker s) → List Known
 views_of main ws = workers_views ws ++ main ∷ []
 
-abbrev pub commands_in : {s : Setup} → List (Worker s) → List (List Command)
+abbrev pub commands_in : {s : OpenedWith} → List (Worker s) → List (List Command)
 commands_in ws = map (λ w. w.commands) ws
 
-abbrev pub outcomes_in : {s : Setup} → List (Worker s) → List Outcomes
+abbrev pub outcomes_in : {s : OpenedWith} → List (Worker s) → List Outcomes
 outcomes_in ws = map (λ w. w.outcomes) ws
 
 -- the numbers of passes, each one more than the pass's own
@@ -76,16 +76,16 @@ pub record Closed (views : List Known) (history : List Commit) (namings : List N
   pub apart : AreApart (numbers_in views)
 
 -- Main has learnt what all workers had seen, has committed nothing, and has asked for the last version.
-pub record MainSees {s : Setup} (main : Known) (ws : List (Worker s)) : Type 0 where
+pub record MainSees {s : OpenedWith} (main : Known) (ws : List (Worker s)) : Type 0 where
   pub own : PassView (List Operation)
   pub is_own : main.pass ≡ Some own
   pub none : own.entries ≡ []
   pub pinned : (v : ℕ) → Contains own.pinned v → v ≡ length main.seen.history
-  pub learnt : AllByRecursion (λ w. StartsWith main.seen.history w.station.asks.seen.history) ws
+  pub learnt : AllByRecursion (λ w. StartsWith main.seen.history w.worker_passes.asks.seen.history) ws
 
 -- Passes that have asked and committed nothing were given to workers, and one to main. All are back: there are as many, their
 -- numbers are those that there were, and main, which knows of version 0, has learnt what the workers' first passes have seen.
-pub record Gathers (s : Setup) (before : List Known) (ws : List (List Command)) (os : List Outcomes) (views : List Known) (main : Known) : Type 0 where
+pub record Gathers (s : OpenedWith) (before : List Known) (ws : List (List Command)) (os : List Outcomes) (views : List Known) (main : Known) : Type 0 where
   pub done : List (Worker s)
   pub commands_are : ws ≡ commands_in done
   pub outcomes_are : os ≡ outcomes_in done
@@ -97,4 +97,4 @@ pub record Gathers (s : Setup) (before : List Known) (ws : List (List Command)) 
   pub none : own.entries ≡ []
   pub unpinned : own.pinned ≡ []
   pub opened : first_version main.seen ≡ s.opening
-  pub learnt : AllByRecursion (λ w. StartsWith main.seen.history w.station.asks.seen.history) done
+  pub learnt : AllByRecursion (λ w. StartsWith main.seen.history w.worker_passes.asks.seen.history) done

@@ -28,7 +28,7 @@ use Rattle.qp_multi.specs.Operations.{applied}
 use Rattle.qp_multi.specs.Passes.{Known, first_version, known_at, version_seen}
 use Rattle.zone_edit.specs.declared.refusal.EditRefusal.{EditRefusal}
 use Rattle.zone_edit.specs.declared.refusal.EditRefusal.TheVariants as refusals
-use Rattle.job_commands.specs.Histories.{Setup, Commit as Commit', BeginsAt, IsAsked, StandsAs, AreVersions, Deeds, Explains, judged_by}
+use Rattle.job_commands.specs.Histories.{OpenedWith, Commit as Commit', BeginsAt, IsAsked, StandsAs, AreVersions, Deeds, Explains, judged_by}
 
 -- the seat of a pass
 abbrev pub Seat : Type 0
@@ -43,13 +43,13 @@ abbrev pub table_size : {X Y : Type 0} {N : Ghosts Y} → Index X Y N → TableS
 table_size index = index.shared.table.shared.key
 
 -- an index of this size
-pub record IsIndex (s : Setup) (origin : Name) (size : TableSize) : Type 0 where
+pub record IsIndex (s : OpenedWith) (origin : Name) (size : TableSize) : Type 0 where
   pub origin_is : s.origin ≡ origin
   pub chunks : s.chunks ≡ size.chunks
   pub passes : s.passes ≡ size.passes
 
 -- and a pass that knows of its opening
-pub record IsSetup (s : Setup) (origin : Name) (size : TableSize) (v : Known) : Type 0 where
+pub record IsOpenedWith (s : OpenedWith) (origin : Name) (size : TableSize) (v : Known) : Type 0 where
   pub index : IsIndex s origin size
   pub opening : first_version v.seen ≡ s.opening
 
@@ -69,7 +69,7 @@ pub record Asked (origin : Name) (question : Question) (old new : Known) (o : Ou
 -- ---- transactions
 
 -- the version that stands as the base becomes what the block makes of it, by the next commit, which does what the block asks for
-pub record Commits (s : Setup) (asked : Transaction) (own : PassView (List Operation)) (old new : Known) : Type 0 where
+pub record Commits (s : OpenedWith) (asked : Transaction) (own : PassView (List Operation)) (old new : Known) : Type 0 where
   pub base : List Commit'
   pub changes : List Operation
   pub before : StartsWith base old.seen.history
@@ -82,7 +82,7 @@ pub record Commits (s : Setup) (asked : Transaction) (own : PassView (List Opera
 
 -- A block that is committed makes the next version. One that is rolled back or refused was on the version that the pass has then
 -- seen last, and makes none.
-abbrev pub Transacts : Setup → Transaction → Ending → Known → Known → Ended → Type 0
+abbrev pub Transacts : OpenedWith → Transaction → Ending → Known → Known → Ended → Type 0
 Transacts s asked ending old new Shown = ⊥
 Transacts s asked ending old new Committed = (ending ≡ Commit) × ((own : PassView (List Operation)) → old.pass ≡ Some own → Commits s asked own old new)
 Transacts s asked ending old new RolledBack =
@@ -91,14 +91,14 @@ Transacts s asked ending old new (Refused cause) =
     (new.pass ≡ old.pass)
     × ((set : ℕ → Version) (deeds : Deeds) → AreVersions s new.seen.history set → Explains s deeds new.seen → Causes (judged_by s set deeds) asked ending (length new.seen.history) cause)
 
-pub record BlockRan (s : Setup) (asked : Transaction) (ending : Ending) (old new : Known) (o : Outcome) : Type 0 where
+pub record BlockRan (s : OpenedWith) (asked : Transaction) (ending : Ending) (old new : Known) (o : Outcome) : Type 0 where
   pub grows : IsPartOf new.seen old.seen
   pub version : o.version ≡ length new.seen.history
   pub transacts : Transacts s asked ending old new (ended_view o.told)
 
 -- a compaction ran as a block without operations does
 abbrev pub CompactionRan : Known → Known → Outcome → Type 0
-CompactionRan old new o = (s : Setup) → first_version old.seen ≡ s.opening → BlockRan s no_changes Commit old new o
+CompactionRan old new o = (s : OpenedWith) → first_version old.seen ≡ s.opening → BlockRan s no_changes Commit old new o
 
 -- A transaction's prerequisites are met, and its operations are accepted up to one of them.
 pub record Accepts (origin : Name) (asked : Transaction) (zone : Version) : Type 0 where
@@ -111,7 +111,7 @@ pub record Accepts (origin : Name) (asked : Transaction) (zone : Version) : Type
   pub made : all_applied origin (front ++ one ∷ []) zone ≡ Ok next
 
 -- Memory was wanting for a block that no rule had refused up to there. Its pass has made no version.
-pub record BlockWants (s : Setup) (asked : Transaction) (old new : Known) : Type 0 where
+pub record BlockWants (s : OpenedWith) (asked : Transaction) (old new : Known) : Type 0 where
   pub grows : IsPartOf new.seen old.seen
   pub pass : new.pass ≡ old.pass
   pub accepts : (zone : Version) → StandsAs (version_seen new.seen) zone → Accepts s.origin asked zone

@@ -9,7 +9,7 @@ use Rattle.trie_model.specs.Shape.{nodes, keys_of}
 use Rattle.qp_multi.specs.Passes.{Known, version_seen}
 use Rattle.qp_multi.specs.Closings.{AreAll}
 use Rattle.job_commands.specs.declared.closing.Last.{Last}
-use Rattle.job_commands.specs.Histories.{Setup, StandsAs}
+use Rattle.job_commands.specs.Histories.{OpenedWith, StandsAs}
 use Rattle.job_commands.specs.Closings.{Gathers}
 use Rattle.job_commands.specs.Runs.{IsRun}
 
@@ -17,7 +17,7 @@ use Rattle.job_commands.specs.Runs.{IsRun}
 -- opened: the job has come to this last version.
 abbrev pub EndsRun : ℕ → List Known → Known → Last → Type 0
 EndsRun count views main last =
-    (s : Setup) (zone : Version) (before : List Known) (ws : List (List Command)) (os : List Outcomes) → Gathers s before ws os views main
+    (s : OpenedWith) (zone : Version) (before : List Known) (ws : List (List Command)) (os : List Outcomes) → Gathers s before ws os views main
     → length before ≡ count → AreAll count before → StandsAs s.opening zone → IsRun s.chunks s.passes s.origin zone ws os last.version last.names last.nodes
 
 -- A pass took the current version, which is no older than what it had seen. So large is the version that it has then seen last.

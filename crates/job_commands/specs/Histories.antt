@@ -8,7 +8,7 @@ use Rattle.trie_model.specs.Keys as trie
 use Rattle.zone_answer.specs.Standing.{IsVersion}
 use Rattle.master_file.specs.Rows.{CanBeDumped}
 use Rattle.job_model.specs.Sizes.{trie_entries}
-use Rattle.job_model.specs.Outcomes.{Setting}
+use Rattle.job_model.specs.Outcomes.{JudgedBy}
 use Rattle.shared_cells.specs.declared.view.Entry.{Entry as Commit'}
 use Rattle.shared_cells.specs.declared.view.Naming.{Naming}
 use Rattle.shared_cells.specs.declared.view.Seen.{Seen}
@@ -24,11 +24,11 @@ Entries = List trie.Entry
 abbrev pub Commit : Type 0
 Commit = Commit' (List Operation)
 
-abbrev pub Sighting : Type 0
-Sighting = Seen (List trie.Entry) (List Operation)
+abbrev pub SeenHistory : Type 0
+SeenHistory = Seen (List trie.Entry) (List Operation)
 
 -- An index, and the zone that it was opened with: how many chunks and passes it has, the zone's origin, and the entries of version 0.
-pub record Setup : Type 0 where
+pub record OpenedWith : Type 0 where
   pub chunks : ℕ
   pub passes : ℕ
   pub origin : Name
@@ -44,7 +44,7 @@ pub record StandsAs (es : Entries) (version : Version) : Type 0 where
   pub entries : trie_entries version ≡ es
 
 -- these versions, by their numbers, are those of the history
-abbrev pub AreVersions : Setup → List Commit → (ℕ → Version) → Type 0
+abbrev pub AreVersions : OpenedWith → List Commit → (ℕ → Version) → Type 0
 AreVersions s history set = (j : ℕ) → j ≤ length history → StandsAs (index_at s.opening history j) (set j)
 
 -- What commands have done: the versions that they show, and the transaction that made each version.
@@ -54,23 +54,23 @@ pub record Deeds : Type 0 where
 
 -- What a commit did to its base is what a transaction asks for: with no more operations, and whatever it had made when it had done
 -- some of them, some first ones of the transaction make too.
-pub record IsAsked (s : Setup) (asked : Transaction) (base : List Commit) (change : List Operation) : Type 0 where
+pub record IsAsked (s : OpenedWith) (asked : Transaction) (base : List Commit) (change : List Operation) : Type 0 where
   pub short : length change ≤ length asked.operations
   pub ways : (zone : Version) → StandsAs (version_after applied s.opening base) zone
       → (n : ℕ) → MadeOnTheWay s.origin asked.operations zone (applied (version_after applied s.opening base) (take n change))
 
 -- so it is of each commit of a history, the first of which made version 1
-abbrev pub AreAsked : Setup → (ℕ → Transaction) → List Commit → Type 0
+abbrev pub AreAsked : OpenedWith → (ℕ → Transaction) → List Commit → Type 0
 AreAsked s made_by history = (before : List Commit) (e : Commit) → StartsWith history (before ++ e ∷ []) → IsAsked s (made_by (length before + 1)) before e.change
 
 -- They explain what was seen: an older version that a pass was found reading is one that they show, and each commit does what was
 -- asked for.
-pub record Explains (s : Setup) (deeds : Deeds) (seen : Sighting) : Type 0 where
+pub record Explains (s : OpenedWith) (deeds : Deeds) (seen : SeenHistory) : Type 0 where
   pub namings : (n : Naming) → Contains seen.namings n → n.version < length seen.history → Contains deeds.shown n.version
   pub commits : AreAsked s deeds.made_by seen.history
 
 -- what outcomes are judged by
-abbrev pub judged_by : Setup → (ℕ → Version) → Deeds → Setting
+abbrev pub judged_by : OpenedWith → (ℕ → Version) → Deeds → JudgedBy
 judged_by s set deeds = record { chunks = s.chunks; passes = s.passes; origin = s.origin; set = set; made_by = deeds.made_by; shown = deeds.shown }
 
 -- 1 if the pass of this number made version j, and else 0

@@ -3,7 +3,7 @@ pub mod Weights
 pub mod Commands
 pub mod Calls
 pub mod Steps
-pub mod Stations
+pub mod WorkerPasses
 pub mod Works
 pub mod Closings
 pub mod Runs

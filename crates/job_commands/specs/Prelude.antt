@@ -18,12 +18,12 @@ pub use Rattle.qp_multi.specs.Prelude.{first_version, known_at, versions_in}
 pub use Rattle.zone_edit.specs.Blocks.{Edited}
 pub use Rattle.zone_edit.specs.Stores.{IsOfTheSame, WorksOnSome}
 pub use Rattle.job_commands.specs.Calls.{AllHeard, AreHeard, IsHeard}
-pub use Rattle.job_commands.specs.Commands.{Asked, BlockRan, BlockWants, CompactionRan, IsIndex, IsSetup, OpensAt, Seat, StoppedBy, known_in, table_size}
+pub use Rattle.job_commands.specs.Commands.{Asked, BlockRan, BlockWants, CompactionRan, IsIndex, IsOpenedWith, OpensAt, Seat, StoppedBy, known_in, table_size}
 pub use Rattle.job_commands.specs.Endings.{EndsRun, Measured}
-pub use Rattle.job_commands.specs.Histories.{AreVersions, Entries, IsZone, Setup, StandsAs}
+pub use Rattle.job_commands.specs.Histories.{AreVersions, Entries, IsZone, OpenedWith, StandsAs}
 pub use Rattle.job_commands.specs.Runs.{IsRun}
 pub use Rattle.job_commands.specs.Sittings.{ComesTo, EndsAt, Sits, versions_by}
-pub use Rattle.job_commands.specs.Stations.{IsHeld, IsPlaced, Pinned, holder_view, station}
+pub use Rattle.job_commands.specs.WorkerPasses.{IsHeld, IsPlaced, Pinned, holder_view, worker_passes}
 pub use Rattle.job_commands.specs.Steps.{IsUnder, MovedAt, Step}
 pub use Rattle.job_commands.specs.Weights.{RanAs, RanByWeight}
 pub use Rattle.job_commands.specs.Works.{AreNew, Begins, IsNew, Numbers}

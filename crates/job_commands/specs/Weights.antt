@@ -6,8 +6,8 @@ use Rattle.job_model.specs.Outcomes.{Committed}
 use Rattle.job_report.specs.Outcomes.{ended_view}
 use Rattle.job_report.specs.declared.outcomes.Outcome.{Outcome}
 use Rattle.qp_multi.specs.declared.commit.Receipt.{Receipt}
-use Rattle.qp_multi.specs.declared.desk.Draft.{Draft}
-use Rattle.qp_multi.specs.Drafts.{Begins}
+use Rattle.qp_multi.specs.declared.writer.WorkingVersion.{WorkingVersion}
+use Rattle.qp_multi.specs.WorkingVersions.{Begins}
 use Rattle.qp_multi.specs.Keepings.{GoesOn}
 use Rattle.qp_multi.specs.Kinds.{StartsAs}
 use Rattle.qp_multi.specs.Passes.{Known}
@@ -17,10 +17,10 @@ use Rattle.job_commands.specs.Histories.{IsLawful}
 -- A version was made by a transaction that began a chunk of its own or didn't, and whose commit left so many chunks sparse, as its
 -- receipt says.
 pub record CommittedAs (own_chunk : Bool) (most_sparse : ℕ) (old new : Known) : Type 0 where
-  pub first : Draft
+  pub first : WorkingVersion
   pub begins : Begins IsLawful old first
   pub starts : StartsAs own_chunk first.usage
-  pub last : Draft
+  pub last : WorkingVersion
   pub goes_on : GoesOn first.seat.place.me.0 last.seat.place.me.0
   pub receipt : Receipt
   pub recycles : Recycles most_sparse last new receipt

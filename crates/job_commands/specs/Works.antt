@@ -11,11 +11,11 @@ use Rattle.shared_cells.specs.declared.view.PassView.{PassView}
 use Rattle.shared_cells.specs.History.{StartsWith, entries_by}
 use Rattle.qp_multi.specs.declared.meaning.Operation.{Operation}
 use Rattle.qp_multi.specs.Passes.{Known, first_version}
-use Rattle.job_commands.specs.Histories.{Setup, Commit, Entries, IsAsked, index_at, StandsAs, AreVersions, Deeds, Explains, judged_by, times_by}
-use Rattle.job_commands.specs.Steps.{Station}
+use Rattle.job_commands.specs.Histories.{OpenedWith, Commit, Entries, IsAsked, index_at, StandsAs, AreVersions, Deeds, Explains, judged_by, times_by}
+use Rattle.job_commands.specs.Steps.{WorkerPasses}
 
 -- a version that was made is what its operations make of the version before; its commit does what they ask for
-abbrev pub Replayed : Setup → List Commit → Pair → Type 0
+abbrev pub Replayed : OpenedWith → List Commit → Pair → Type 0
 Replayed s history pair =
     is_committed pair.1.ended ≡ true → (0 < pair.1.version)
     × ((before : List Commit) (e : Commit) → StartsWith history (before ++ e ∷ []) → length before + 1 ≡ pair.1.version → IsAsked s (asked_by pair.0) before e.change)
@@ -24,7 +24,7 @@ Replayed s history pair =
 
 -- Commands with their outcomes, by a worker whose passes have seen a history. They tell what is so and are lawful on each history
 -- that begins with it. The versions that they made are those of its first pass, which has told all of these.
-pub record Work (s : Setup) (t : Station) (pairs : List Pair) : Type 0 where
+pub record Work (s : OpenedWith) (t : WorkerPasses) (pairs : List Pair) : Type 0 where
   pub opened : first_version t.asks.seen ≡ s.opening
   pub along : (set : ℕ → Version) (deeds : Deeds) → AreVersions s t.asks.seen.history set → Explains s deeds t.asks.seen → Along (judged_by s set deeds) at_first pairs
   pub none_above : AllByRecursion (λ pair. pair.1.version ≤ length t.asks.seen.history) pairs
@@ -63,16 +63,16 @@ pub record IsNew (number : ℕ) (opening : Entries) (v : Known) : Type 0 where
 abbrev pub AreNew : Entries → List Known → Type 0
 AreNew opening views = AllByRecursion (λ v. (number : ℕ) × IsNew number opening v) views
 
-pub record Begins (s : Setup) (numbers : Numbers) (asks spare : Known) : Type 0 where
+pub record Begins (s : OpenedWith) (numbers : Numbers) (asks spare : Known) : Type 0 where
   pub asker : IsNew numbers.asker s.opening asks
   pub holder : IsNew numbers.holder s.opening spare
 
 -- no snapshot is held
-abbrev pub ended : Known → Known → Station
+abbrev pub ended : Known → Known → WorkerPasses
 ended asks spare = record { asks = asks; holds = spare; held = false }
 
 -- a worker's commands came to these outcomes
-pub record WorkerRan (s : Setup) (numbers : Numbers) (t : Station) (commands : List Command) (os : List Outcome) : Type 0 where
+pub record WorkerRan (s : OpenedWith) (numbers : Numbers) (t : WorkerPasses) (commands : List Command) (os : List Outcome) : Type 0 where
   pub told : (set : ℕ → Version) → AreVersions s t.asks.seen.history set → EachTells s.origin set commands os
   pub work : Work s t (pairs_of commands os)
   pub asker : work.asker.number ≡ numbers.asker

@@ -1,13 +1,13 @@
 //! Commands that need no snapshot. One pass of the index is enough for them.
 ghost use Rattle.std.specs.Prelude.{◌≡◌, IsSome, IfOk, Option};
-ghost use Rattle.job_commands.specs.Prelude.{NeedsNoSnapshot, command_view, AllAsked, known_at, Setup, IsSetup};
-ghost use Rattle.job_commands.specs.Prelude.{OpensAt, RanByWeight, Seat, IsUnder, Step, Pinned, IsPlaced, holder_view, station};
+ghost use Rattle.job_commands.specs.Prelude.{NeedsNoSnapshot, command_view, AllAsked, known_at, OpenedWith, IsOpenedWith};
+ghost use Rattle.job_commands.specs.Prelude.{OpensAt, RanByWeight, Seat, IsUnder, Step, Pinned, IsPlaced, holder_view, worker_passes};
 
 use crate::asking::run_question;
 use crate::compactions::run_compaction;
 use crate::entered::Entered;
 use crate::law::ZoneLaw;
-use crate::room::Room;
+use crate::scratch::WorkerScratch;
 use crate::transactions::run_block;
 use dns_name::Name;
 use job_report::Outcome;
@@ -23,7 +23,7 @@ pub fn run_alone<R: Wait, N: Named>(
     index: &Index<ZoneLaw, N>,
     pass: &mut Pass<N>,
     entered: Entered<'_, R, Command>,
-    room: &mut Room,
+    room: &mut WorkerScratch,
 ) -> Result<Outcome, AllocError>
     requires here { IsSome pass.old.seat }
     requires place { pass.old.place ≡ index.now.place }
@@ -32,9 +32,10 @@ pub fn run_alone<R: Wait, N: Named>(
     requires said { AllAsked origin.now (command_view entered.command.now) }
     ensures here { IsSome pass.new.seat }
     ensures place { pass.new.place ≡ pass.old.place }
-    ensures steps { (s : Setup) → IsSetup s origin.now index.now.shared.table.shared.key (known_at pass.old.seat)
+    ensures steps { (s : OpenedWith) → IsOpenedWith s origin.now index.now.shared.table.shared.key (known_at pass.old.seat)
         → (spare : Option (Option Seat)) (held : Option Pinned) → IsPlaced spare held → IsUnder (known_at pass.old.seat) (holder_view spare held)
-        → IfOk result (λ o. Step s (command_view entered.entry.command.now) o (station pass.old.seat spare held) (station pass.new.seat spare held)) }
+        → IfOk result (λ o. Step s (command_view entered.entry.command.now) o (worker_passes pass.old.seat spare held)
+        (worker_passes pass.new.seat spare held)) }
     ensures weight { (block : _) → entered.entry.command.now ≡ Command.Block block
         → IfOk result (RanByWeight block.weight (known_at pass.old.seat) (known_at pass.new.seat)) }
 {

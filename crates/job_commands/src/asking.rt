@@ -4,7 +4,7 @@ ghost use Rattle.job_commands.specs.Prelude.{known_at, Asked};
 
 use crate::law::ZoneLaw;
 use crate::replying::reply_text;
-use crate::room::Room;
+use crate::scratch::WorkerScratch;
 use dns_name::Name;
 use job_model::Question;
 use job_report::{Outcome, Told};
@@ -19,7 +19,7 @@ pub fn run_question<N: Named>(
     index: &Index<ZoneLaw, N>,
     pass: &mut Pass<N>,
     question: &Question,
-    room: &mut Room,
+    room: &mut WorkerScratch,
 ) -> Result<Outcome, AllocError>
     requires here { IsSome pass.old.seat }
     requires place { pass.old.place ≡ index.now.place }

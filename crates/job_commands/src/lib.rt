@@ -11,7 +11,7 @@ mod gate;
 mod law;
 mod measuring;
 mod replying;
-mod room;
+mod scratch;
 mod transactions;
 
 pub use alone::run_alone;
@@ -23,5 +23,5 @@ pub use gate::{Gate, counted};
 pub use law::ZoneLaw;
 pub use measuring::measure;
 pub use replying::reply_text;
-pub use room::Room;
+pub use scratch::WorkerScratch;
 pub use transactions::run_block;

@@ -3,7 +3,7 @@ ghost use Rattle.std.specs.Prelude.{◌≡◌, ◌≤◌, ◌++◌, length, IfOk
 ghost use Rattle.job_commands.specs.Prelude.{all_rows, most_item_octets, Version, find, Shows, ShowsSome};
 ghost use Rattle.job_commands.specs.Prelude.{found_text, reply_of, reply_text, respond, response_text, rows_text, size_text, node_count};
 
-use crate::room::Room;
+use crate::scratch::WorkerScratch;
 use dns_name::Name;
 use job_model::Question;
 use job_report::{
@@ -135,7 +135,7 @@ pub fn reply_text<V: Reading>(
     origin: &Name,
     version: &mut V,
     question: &Question,
-    room: &mut Room,
+    room: &mut WorkerScratch,
 ) -> Result<Vec<u8>, AllocError>
     requires { ShowsSome (V.holds version.old) }
     ensures same { version.new ≡ version.old }

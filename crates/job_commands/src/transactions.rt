@@ -1,7 +1,8 @@
 //! Transactions.
 ghost use Rattle.std.specs.Prelude.{◌≡◌, IsSome, IsSomeAnd, IfOk, IfErr, OnErr};
 ghost use Rattle.job_commands.specs.Prelude.{Committed, Refused, NoNumber, ended_view, EndsBlock, asked_view, AllSaid, known_at, versions_in};
-ghost use Rattle.job_commands.specs.Prelude.{Edited, IsOfTheSame, WorksOnSome, Setup, IsSetup, BlockRan, BlockWants, OpensAt, RanAs, RanByWeight, StoppedBy};
+ghost use Rattle.job_commands.specs.Prelude.{Edited, IsOfTheSame, WorksOnSome, OpenedWith, IsOpenedWith, BlockRan, BlockWants, OpensAt, RanAs, RanByWeight};
+ghost use Rattle.job_commands.specs.Prelude.{StoppedBy};
 
 use crate::law::ZoneLaw;
 use dns_name::Name;
@@ -9,7 +10,7 @@ use job_model::{Ending, Weight};
 use job_report::{Cause, Outcome, Told};
 use job_script::Block;
 use qp_multi::{
-    Heavy, Index, Kind, Light, Locked, Named, Pass, Receipt, Spent, Transaction, Versions,
+    Heavy, Index, Kind, Light, Named, Pass, Receipt, Spent, Transaction, Versions, WriteGuard,
 };
 use std::alloc::{AllocError, Global};
 use std::sync::Wait;
@@ -79,10 +80,10 @@ fn edit<N: Named, K>(
     block: &Block,
     buffers: &mut ItemBuffers,
 ) -> Result<(), EditRefusal>
-    requires { IsSomeAnd transaction.old.locked.now.draft WorksOnSome }
+    requires { IsSomeAnd transaction.old.locked.now.working WorksOnSome }
     ensures same_reference { IsOfTheSame transaction.old transaction.new }
     ensures place { transaction.new.locked.now.place ≡ transaction.old.locked.now.place }
-    ensures executes { Edited origin.now (asked_view block.now) result transaction.old.locked.now.draft transaction.new.locked.now.draft }
+    ensures executes { Edited origin.now (asked_view block.now) result transaction.old.locked.now.working transaction.new.locked.now.working }
 {
     execute(
         alloc,
@@ -111,13 +112,13 @@ fn run_as<K: Kind, R: Wait, N: Named>(
     ensures here { IsSome pass.new.seat }
     ensures place { pass.new.place ≡ pass.old.place }
     ensures ends { IfOk result (λ o. EndsBlock o.told) }
-    ensures ran { (s : Setup) → IsSetup s origin.now index.now.shared.table.shared.key (known_at pass.old.seat)
+    ensures ran { (s : OpenedWith) → IsOpenedWith s origin.now index.now.shared.table.shared.key (known_at pass.old.seat)
         → IfOk result (BlockRan s (asked_view block.now) block.now.ending (known_at pass.old.seat) (known_at pass.new.seat)) }
-    ensures wants { (s : Setup) → IsSetup s origin.now index.now.shared.table.shared.key (known_at pass.old.seat)
+    ensures wants { (s : OpenedWith) → IsOpenedWith s origin.now index.now.shared.table.shared.key (known_at pass.old.seat)
         → OnErr result (BlockWants s (asked_view block.now) (known_at pass.old.seat) (known_at pass.new.seat)) }
     ensures kind { IfOk result (RanAs K.OWN_CHUNK K.MOST_SPARSE (known_at pass.old.seat) (known_at pass.new.seat)) }
 {
-    let mut locked = Locked::of(index);
+    let mut locked = WriteGuard::of(index);
     let mut transaction = index.begin::<K, R>(rt, &mut locked, pass);
     let version = transaction.version();
     if let Err(refusal) = edit(alloc, origin, &mut transaction, block, buffers) {
@@ -150,9 +151,9 @@ pub fn run_block<R: Wait, N: Named>(
     ensures here { IsSome pass.new.seat }
     ensures place { pass.new.place ≡ pass.old.place }
     ensures ends { IfOk result (λ o. EndsBlock o.told) }
-    ensures ran { (s : Setup) → IsSetup s origin.now index.now.shared.table.shared.key (known_at pass.old.seat)
+    ensures ran { (s : OpenedWith) → IsOpenedWith s origin.now index.now.shared.table.shared.key (known_at pass.old.seat)
         → IfOk result (BlockRan s (asked_view block.now) block.now.ending (known_at pass.old.seat) (known_at pass.new.seat)) }
-    ensures wants { (s : Setup) → IsSetup s origin.now index.now.shared.table.shared.key (known_at pass.old.seat)
+    ensures wants { (s : OpenedWith) → IsOpenedWith s origin.now index.now.shared.table.shared.key (known_at pass.old.seat)
         → OnErr result (BlockWants s (asked_view block.now) (known_at pass.old.seat) (known_at pass.new.seat)) }
     ensures weight { IfOk result (RanByWeight block.now.weight (known_at pass.old.seat) (known_at pass.new.seat)) }
 {

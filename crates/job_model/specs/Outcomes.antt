@@ -103,7 +103,7 @@ shown_in (pair ∷ rest) = shown_by pair.0 pair.1.version ++ shown_in rest
 
 -- What outcomes are judged by: the chunks of the index and its passes, the origin, the versions by their numbers, the transaction
 -- that made each of them, and the versions that questions and holds show.
-pub record Setting : Type 0 where
+pub record JudgedBy : Type 0 where
   pub chunks : ℕ
   pub passes : ℕ
   pub origin : Name
@@ -117,19 +117,19 @@ cells_kept set [] = 0
 cells_kept set (v ∷ vs) = cell_count (set v) + cells_kept set vs
 
 -- No version up to a base has more cells than so many, and no transaction that made one of them more operations.
-pub record BoundsVersions (s : Setting) (base most_cells most_operations : ℕ) : Type 0 where
+pub record BoundsVersions (s : JudgedBy) (base most_cells most_operations : ℕ) : Type 0 where
   pub cells : (v : ℕ) → v ≤ base → cell_count (s.set v) ≤ most_cells
   pub operations : (v : ℕ) → 0 < v → v ≤ base → length (s.made_by v).operations ≤ most_operations
 
 -- No numbers that bound the versions up to a base, and the operations up to one of a transaction, are such that the index has room
 -- for them.
-abbrev pub IsCramped : Setting → ℕ → ℕ → Type 0
+abbrev pub IsCramped : JudgedBy → ℕ → ℕ → Type 0
 IsCramped s base operation =
     (most_cells most_operations : ℕ) → BoundsVersions s base most_cells most_operations → operation ≤ most_operations → is_roomy s.passes most_cells most_operations s.chunks → ⊥
 
 -- No set that the index was to hold up to there has more cells than so many: neither version 0, nor what any first operations of the
 -- transaction that made a version make of the one before, nor what any first ones of a transaction on the base make of that.
-pub record BoundsSets (s : Setting) (base : ℕ) (front : List Operation) (most : ℕ) : Type 0 where
+pub record BoundsSets (s : JudgedBy) (base : ℕ) (front : List Operation) (most : ℕ) : Type 0 where
   pub first : cell_count (s.set 0) ≤ most
   pub ways : (v : ℕ) → v < base → (begun rest : List Operation) → (s.made_by (v + 1)).operations ≡ begun ++ rest
       → (working : Version) → all_applied s.origin begun (s.set v) ≡ Ok working → cell_count working ≤ most
@@ -138,7 +138,7 @@ pub record BoundsSets (s : Setting) (base : ℕ) (front : List Operation) (most 
 
 -- Where so many cells, at most 768, bound these sets, the kept versions and the working set may have taken all chunks but the reserve of a
 -- quarter: each of them one for each 257 of its cells, and nine that have fewer; and what the operation asks for, one for each 769.
-pub record IsCrowded (s : Setting) (base : ℕ) (front : List Operation) (asked kept : ℕ) : Type 0 where
+pub record IsCrowded (s : JudgedBy) (base : ℕ) (front : List Operation) (asked kept : ℕ) : Type 0 where
   pub bound : (most : ℕ) → most ≤ 768 → 4 ≤ s.chunks → BoundsSets s base front most
       → s.chunks - s.chunks / 4 ≤ (kept + 1) * (most / 257 + 9) + 1 + asked / 769
 
@@ -146,7 +146,7 @@ pub record IsCrowded (s : Setting) (base : ℕ) (front : List Operation) (asked 
 -- prerequisites: the tries of that and of the kept versions have almost as many cells as there are chunks but for the reserve of a quarter. The base is the last kept
 -- version, and each other one is kept since a question or a hold shows it. Nor does it come where the index has the chunks that are
 -- enough for these versions and operations; nor on a table that has more chunks than small sets may have taken.
-pub record FullCause (s : Setting) (asked : Transaction) (base operation : ℕ) (kept : List ℕ) : Type 0 where
+pub record WhyFull (s : JudgedBy) (asked : Transaction) (base operation : ℕ) (kept : List ℕ) : Type 0 where
   pub met : all_met (s.set base) asked.needs ≡ true
   pub front : List Operation
   pub refused : Operation
@@ -172,34 +172,34 @@ abbrev pub last_version : ℕ
 last_version = 2 ^ 40 - 1
 
 -- why a block was refused on a base
-abbrev pub Causes : Setting → Transaction → Ending → ℕ → Cause → Type 0
+abbrev pub Causes : JudgedBy → Transaction → Ending → ℕ → Cause → Type 0
 Causes s asked ending base (Rule refusal) = whole s.origin asked (s.set base) ≡ Err refusal
-Causes s asked ending base (Full operation kept) = FullCause s asked base operation kept
+Causes s asked ending base (Full operation kept) = WhyFull s asked base operation kept
 Causes s asked ending base Spent = (base ≡ last_version) × (ending ≡ Commit) × IsOk (whole s.origin asked (s.set base))
 
 -- a block that ended so, by a worker that had seen a version
-abbrev pub BlockEnds : Setting → ℕ → Transaction → Ending → ℕ → Ended → Type 0
+abbrev pub BlockEnds : JudgedBy → ℕ → Transaction → Ending → ℕ → Ended → Type 0
 BlockEnds s seen asked ending v Shown = ⊥
 BlockEnds s seen asked ending v Committed = (ending ≡ Commit) × (seen < v) × IsOk (whole s.origin asked (s.set (v - 1)))
 BlockEnds s seen asked ending v RolledBack = (ending ≡ Rollback) × (seen ≤ v) × IsOk (whole s.origin asked (s.set v))
 BlockEnds s seen asked ending v (Refused cause) = (seen ≤ v) × Causes s asked ending v cause
 
 -- What a worker has come to: the version that it saw or made last, and that of the snapshot that it holds.
-pub record Sight : Type 0 where
+pub record WorkerProgress : Type 0 where
   pub seen : ℕ
   pub held : Option ℕ
 
-abbrev pub at_first : Sight
+abbrev pub at_first : WorkerProgress
 at_first = record { seen = 0; held = None }
 
 -- behind a command that shows, made or was on a version
-abbrev pub sight_after : Sight → Command → ℕ → Sight
-sight_after sight (Ask question) v = record sight { seen = v }
-sight_after sight Hold v = record { seen = v; held = Some v }
-sight_after sight (AskHeld question) v = sight
-sight_after sight Release v = record sight { held = None }
-sight_after sight (Block _ asked ending) v = record sight { seen = v }
-sight_after sight Compact v = record sight { seen = v }
+abbrev pub progress_after : WorkerProgress → Command → ℕ → WorkerProgress
+progress_after progress (Ask question) v = record progress { seen = v }
+progress_after progress Hold v = record { seen = v; held = Some v }
+progress_after progress (AskHeld question) v = progress
+progress_after progress Release v = record progress { held = None }
+progress_after progress (Block _ asked ending) v = record progress { seen = v }
+progress_after progress Compact v = record progress { seen = v }
 
 -- it shows a version, which may be that one
 abbrev pub Shows : Type 0 → Ended → Type 0
@@ -210,26 +210,26 @@ Shows May (Refused cause) = ⊥
 
 -- A command ended so. What it shows of the current version is nothing older than what the worker saw or made; of a snapshot it is the
 -- version that was held.
-abbrev pub EndsLawfully : Setting → Sight → Command → ℕ → Ended → Type 0
-EndsLawfully s sight (Ask question) v ended = Shows (sight.seen ≤ v) ended
-EndsLawfully s sight Hold v ended = Shows (sight.seen ≤ v) ended
-EndsLawfully s sight (AskHeld question) v ended = Shows (sight.held ≡ Some v) ended
-EndsLawfully s sight Release v ended = Shows (sight.held ≡ Some v) ended
-EndsLawfully s sight (Block _ asked ending) v ended = BlockEnds s sight.seen asked ending v ended
-EndsLawfully s sight Compact v ended = BlockEnds s sight.seen no_changes Commit v ended
+abbrev pub EndsLawfully : JudgedBy → WorkerProgress → Command → ℕ → Ended → Type 0
+EndsLawfully s progress (Ask question) v ended = Shows (progress.seen ≤ v) ended
+EndsLawfully s progress Hold v ended = Shows (progress.seen ≤ v) ended
+EndsLawfully s progress (AskHeld question) v ended = Shows (progress.held ≡ Some v) ended
+EndsLawfully s progress Release v ended = Shows (progress.held ≡ Some v) ended
+EndsLawfully s progress (Block _ asked ending) v ended = BlockEnds s progress.seen asked ending v ended
+EndsLawfully s progress Compact v ended = BlockEnds s progress.seen no_changes Commit v ended
 
 -- the commands of one worker, from what it has come to
-abbrev pub Along : Setting → Sight → List Pair → Type 0
-Along s sight [] = Unit {0}
-Along s sight (pair ∷ rest) =
-    EndsLawfully s sight pair.0 pair.1.version pair.1.ended × Along s (sight_after sight pair.0 pair.1.version) rest
+abbrev pub Along : JudgedBy → WorkerProgress → List Pair → Type 0
+Along s progress [] = Unit {0}
+Along s progress (pair ∷ rest) =
+    EndsLawfully s progress pair.0 pair.1.version pair.1.ended × Along s (progress_after progress pair.0 pair.1.version) rest
 
 -- the commands of all workers with their outcomes
 abbrev pub all_pairs : List (List Pair) → List Pair
 all_pairs [] = []
 all_pairs (w ∷ ws) = w ++ all_pairs ws
 
-abbrev pub AllAlong : Setting → List (List Pair) → Type 0
+abbrev pub AllAlong : JudgedBy → List (List Pair) → Type 0
 AllAlong s [] = Unit {0}
 AllAlong s (w ∷ ws) = Along s at_first w × AllAlong s ws
 
@@ -238,8 +238,8 @@ abbrev pub passes_for : ℕ → ℕ
 passes_for workers = 2 * workers + 1
 
 -- the outcomes of a job are judged by the versions that they themselves make
-abbrev pub setting_of : ℕ → ℕ → Name → Version → List (List Pair) → Setting
-setting_of chunks passes origin zone workers = record {
+abbrev pub judged_by : ℕ → ℕ → Name → Version → List (List Pair) → JudgedBy
+judged_by chunks passes origin zone workers = record {
   chunks = chunks;
   passes = passes;
   origin = origin;
@@ -253,7 +253,7 @@ setting_of chunks passes origin zone workers = record {
 pub record Lawful (chunks passes : ℕ) (origin : Name) (zone : Version) (workers : List (List Pair)) (last : ℕ) : Type 0 where
   pub once : (j : ℕ) → 0 < j → j ≤ last → times_made j (all_pairs workers) ≡ 1
   pub none_above : AllByRecursion (λ pair. pair.1.version ≤ last) (all_pairs workers)
-  pub along : AllAlong (setting_of chunks passes origin zone workers) workers
+  pub along : AllAlong (judged_by chunks passes origin zone workers) workers
 
 -- some block was refused
 abbrev pub some_refused : List (List Pair) → Bool

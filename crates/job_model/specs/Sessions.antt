@@ -12,7 +12,7 @@ use Rattle.job_model.specs.Commands.{Command, held_after}
 use Rattle.job_model.specs.Words.{says}
 use Rattle.job_model.specs.Phrases.{script_tokens}
 use Rattle.job_model.specs.Jobs.{Script, Unfinished, no_live_lines, script_line}
-use Rattle.job_model.specs.Outcomes.{Pair, Sight, Lawful, all_pairs, at_first, is_refused, sight_after, version_at}
+use Rattle.job_model.specs.Outcomes.{Pair, WorkerProgress, Lawful, all_pairs, at_first, is_refused, progress_after, version_at}
 use Rattle.job_model.specs.Reports.{command_text, end_text, head_text}
 use Rattle.job_model.specs.Feeds.{passes_fed}
 
@@ -168,12 +168,12 @@ abbrev pub given_up_text : ℕ → ℕ → List ℕ
 given_up_text c version = head_text 1 c version ++ codes "REFUSED line\n"
 
 -- replies, the first command of which has number c, where this was come to before; a transaction that was given up counts as a command
-abbrev pub replies_text : Name → (ℕ → Version) → ℕ → Sight → List Reply → List ℕ
-replies_text origin set c sight [] = []
-replies_text origin set c sight (Ran pair ∷ replies) =
-    head_text 1 c pair.1.version ++ command_text origin set pair.0 pair.1 ++ replies_text origin set (c + 1) (sight_after sight pair.0 pair.1.version) replies
-replies_text origin set c sight (RefusedLine line kind ∷ replies) = refused_line_text line kind ++ replies_text origin set c sight replies
-replies_text origin set c sight (GivenUp ∷ replies) = given_up_text c sight.seen ++ replies_text origin set (c + 1) sight replies
+abbrev pub replies_text : Name → (ℕ → Version) → ℕ → WorkerProgress → List Reply → List ℕ
+replies_text origin set c progress [] = []
+replies_text origin set c progress (Ran pair ∷ replies) =
+    head_text 1 c pair.1.version ++ command_text origin set pair.0 pair.1 ++ replies_text origin set (c + 1) (progress_after progress pair.0 pair.1.version) replies
+replies_text origin set c progress (RefusedLine line kind ∷ replies) = refused_line_text line kind ++ replies_text origin set c progress replies
+replies_text origin set c progress (GivenUp ∷ replies) = given_up_text c progress.seen ++ replies_text origin set (c + 1) progress replies
 
 -- the versions of a zone that these replies made
 abbrev pub versions_in : Name → Version → List Reply → ℕ → Version

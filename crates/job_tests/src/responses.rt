@@ -5,7 +5,7 @@
 use chunk_cells::PlainCells;
 use chunk_usage::Usage;
 use dns_name::Name;
-use job_commands::{Room, reply_text};
+use job_commands::{WorkerScratch, reply_text};
 use job_model::Question;
 use master_file::{Zone, read_zone};
 use qp_main::zone_items;
@@ -71,7 +71,7 @@ fn responded(
     let root = build(&mut cells, &mut usage, &items)?;
     let mut version = CellReading::new(cells, root, 0);
     let question = Question::Respond(Name::read(name, origin)?, rtype);
-    let mut room = Room::new(alloc)?;
+    let mut room = WorkerScratch::new(alloc)?;
     Ok(reply_text(alloc, origin, &mut version, &question, &mut room)?)
 }
 

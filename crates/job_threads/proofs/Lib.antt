@@ -1,4 +1,4 @@
 pub mod SnapshotLaws
-pub mod StationLaws
+pub mod WorkerPassesLaws
 pub mod WorkerLaws
 pub mod GatherLaws

@@ -3,7 +3,7 @@ use Rattle.std.proofs.Common.{◌≡◌, ◌∙◌, ℕ, ◌≤◌, Bool, true, 
 use Rattle.trie_model.specs.Keys as trie
 use Rattle.job_model.specs.declared.Question.{Question}
 use Rattle.job_model.specs.Commands.{Hold, AskHeld, Release}
-use Rattle.job_model.specs.Outcomes.{Shown, is_committed, Sight}
+use Rattle.job_model.specs.Outcomes.{Shown, is_committed, WorkerProgress}
 use Rattle.job_report.specs.Outcomes.{ended_view}
 use Rattle.job_report.specs.declared.outcomes.Outcome.{Outcome}
 use Rattle.shared_cells.specs.declared.pinned.PinnedSeat.{PinnedSeat}
@@ -11,15 +11,15 @@ use Rattle.shared_cells.specs.History.{StartsWith, IsPartOf}
 use Rattle.shared_cells.specs.Views.{is_told, pinned_image, pinned_version, pinned_root}
 use Rattle.qp_multi.specs.declared.meaning.Operation.{Operation}
 use Rattle.qp_multi.specs.Passes.{Known, first_version, version_seen, Pinned}
-use Rattle.job_commands.specs.Histories.{Setup, StandsAs, IsLawful}
+use Rattle.job_commands.specs.Histories.{OpenedWith, StandsAs, IsLawful}
 use Rattle.job_threads.specs.Snapshots.{Held, AskedHeld, Released}
-use Rattle.job_commands.specs.Steps.{Station, HoldsLast, IsSight, IsUnder, Step}
+use Rattle.job_commands.specs.Steps.{WorkerPasses, HoldsLast, IsProgress, IsUnder, Step}
 use Rattle.job_commands.proofs.HistoryLaws.{begins_length, opened_same, part_same}
 use Rattle.job_commands.proofs.ShowLaws.{shown_some}
 use Rattle.job_commands.proofs.StepLaws.{shows_at, shown_alone, stays_same, stays_pinned, writes_nothing, shown_plain, seen_stands}
 use Rattle.zone_answer.specs.Standing.{ShowsSome}
 use Rattle.qp_multi.specs.Meanings.{Holds}
-use Rattle.job_commands.specs.Stations.{IsHeld, Pinned as PinnedSeat'}
+use Rattle.job_commands.specs.WorkerPasses.{IsHeld, Pinned as PinnedSeat'}
 
 -- ---- a pinned seat
 
@@ -45,7 +45,7 @@ held_shows seat h = shown_some (pinned_image seat.place.me.0.progress) seat.root
 
 -- ---- steps
 
-module _ (s : Setup) (o : Outcome) (old new : Station) (opened : first_version old.asks.seen ≡ s.opening) (told_asks : is_told old.asks.seen.opening ≡ true) (told_holds : is_told old.holds.seen.opening ≡ true) (under : IsUnder old.asks old.holds) where
+module _ (s : OpenedWith) (o : Outcome) (old new : WorkerPasses) (opened : first_version old.asks.seen ≡ s.opening) (told_asks : is_told old.asks.seen.opening ≡ true) (told_holds : is_told old.holds.seen.opening ≡ true) (under : IsUnder old.asks old.holds) where
   -- the second pass took a snapshot
   pub hold_step : (seat : PinnedSeat (List trie.Entry) (List Operation)) → new.holds ≡ seat.place.me.0 → new.held ≡ true → IsHeld seat → Held old.asks old.holds new.asks seat o → Step s Hold o old new
   hold_step seat now taken h t =
@@ -59,12 +59,12 @@ module _ (s : Setup) (o : Outcome) (old new : Station) (opened : first_version o
         under = subst (IsUnder new.asks) (sym now) (record { opening = sym (opened_same new.asks.seen seat.place.me.0.seen seat.told t.tells); history = t.tells.history });
         held = taken;
         tells = λ set are. t.is_told;
-        ends = λ sight is set deeds are explains.
+        ends = λ progress is set deeds are explains.
             let seen = is.seen in
-            let le : sight.seen ≤ o.version = omega (arith, seen, grows, last) in
-            shows_at (sight.seen ≤ o.version) (ended_view o.told) shown le;
+            let le : progress.seen ≤ o.version = omega (arith, seen, grows, last) in
+            shows_at (progress.seen ≤ o.version) (ended_view o.told) shown le;
         below = omega (arith, long, last);
-        holding = λ sight is. record {
+        holding = λ progress is. record {
           seen = omega (arith, long, last);
           held = subst (λ (b : Bool). HoldsLast new b (Some o.version)) (sym taken) (ap (λ (n : ℕ). Some n) (last ∙ sym (ap (λ (v : Known). length v.seen.history) now)));
         };
@@ -74,16 +74,16 @@ module _ (s : Setup) (o : Outcome) (old new : Station) (opened : first_version o
       }
 
 -- nothing more was seen
-module _ (s : Setup) (o : Outcome) (old : Station) (opened : first_version old.asks.seen ≡ s.opening) (told_asks : is_told old.asks.seen.opening ≡ true) (told_holds : is_told old.holds.seen.opening ≡ true) (under : IsUnder old.asks old.holds) (seat : PinnedSeat (List trie.Entry) (List Operation)) (now : old.holds ≡ seat.place.me.0) (taken : old.held ≡ true) (h : IsHeld seat) where
+module _ (s : OpenedWith) (o : Outcome) (old : WorkerPasses) (opened : first_version old.asks.seen ≡ s.opening) (told_asks : is_told old.asks.seen.opening ≡ true) (told_holds : is_told old.holds.seen.opening ≡ true) (under : IsUnder old.asks old.holds) (seat : PinnedSeat (List trie.Entry) (List Operation)) (now : old.holds ≡ seat.place.me.0) (taken : old.held ≡ true) (h : IsHeld seat) where
   below_asks : o.version ≡ seat.version → o.version ≤ length old.asks.seen.history
   below_asks e =
       let long = begins_length old.asks.seen.history old.holds.seen.history under.history in
       let same = ap (λ (v : Known). length v.seen.history) now in
       omega (arith, e, h.version, long, same)
 
-  held_version : (sight : Sight) → IsSight old sight → o.version ≡ seat.version → sight.held ≡ Some o.version
-  held_version sight is e =
-      subst (λ (b : Bool). HoldsLast old b sight.held) taken is.held ∙ ap (λ (n : ℕ). Some n) (ap (λ (v : Known). length v.seen.history) now ∙ sym h.version ∙ sym e)
+  held_version : (progress : WorkerProgress) → IsProgress old progress → o.version ≡ seat.version → progress.held ≡ Some o.version
+  held_version progress is e =
+      subst (λ (b : Bool). HoldsLast old b progress.held) taken is.held ∙ ap (λ (n : ℕ). Some n) (ap (λ (v : Known). length v.seen.history) now ∙ sym h.version ∙ sym e)
 
   pub held_step : (question : Question) → AskedHeld s.origin question seat o → Step s (AskHeld question) o old old
   held_step question a = record {
@@ -93,15 +93,15 @@ module _ (s : Setup) (o : Outcome) (old : Station) (opened : first_version old.a
     held = refl;
     tells = λ set are. a.replies (set o.version)
         (subst (λ (v : Known). StandsAs (version_seen v.seen) (set o.version)) now (seen_stands s set old.asks old.holds o.version (under.opening ∙ opened) under.history (a.version ∙ h.version ∙ sym (ap (λ (v : Known). length v.seen.history) now)) are));
-    ends = λ sight is set deeds are explains. shows_at (sight.held ≡ Some o.version) (ended_view o.told) a.shown (held_version sight is a.version);
+    ends = λ progress is set deeds are explains. shows_at (progress.held ≡ Some o.version) (ended_view o.told) a.shown (held_version progress is a.version);
     below = below_asks a.version;
-    holding = λ sight is. is;
+    holding = λ progress is. is;
     writes = λ own is. writes_nothing s own (AskHeld question) o.version (is_committed (ended_view o.told)) old.asks old.asks (shown_plain (ended_view o.told) a.shown) (stays_same (AskHeld question) o.version own old.asks is);
     kept = λ own is. stays_same (AskHeld question) o.version own old.holds is;
     moves = λ is. absurd (shown_alone o.told a.shown is);
   }
 
-  pub release_step : (new : Station) → new.asks ≡ old.asks → new.held ≡ false → Released seat new.holds o → Step s Release o old new
+  pub release_step : (new : WorkerPasses) → new.asks ≡ old.asks → new.held ≡ false → Released seat new.holds o → Step s Release o old new
   release_step new same free r =
       let shown : ended_view o.told ≡ Shown = ap ended_view r.is_told in
       let seen : new.holds.seen ≡ old.holds.seen = ap (λ (v : Known). v.seen) r.left ∙ sym (ap (λ (v : Known). v.seen) now) in
@@ -115,9 +115,9 @@ module _ (s : Setup) (o : Outcome) (old : Station) (opened : first_version old.a
         });
         held = free;
         tells = λ set are. r.is_told;
-        ends = λ sight is set deeds are explains. shows_at (sight.held ≡ Some o.version) (ended_view o.told) shown (held_version sight is r.version);
+        ends = λ progress is set deeds are explains. shows_at (progress.held ≡ Some o.version) (ended_view o.told) shown (held_version progress is r.version);
         below = (let b = below_asks r.version in let e = ap (λ (v : Known). length v.seen.history) same in omega arith);
-        holding = λ sight is. record {
+        holding = λ progress is. record {
           seen = (let l = is.seen in let e = ap (λ (v : Known). length v.seen.history) same in omega arith);
           held = subst (λ (b : Bool). HoldsLast new b None) (sym free) refl;
         };

@@ -7,8 +7,8 @@ use Rattle.job_script.specs.declared.commands.Command.{Command as Said}
 use Rattle.job_report.specs.declared.outcomes.Outcome.{Outcome as Told_outcome}
 use Rattle.shared_cells.specs.Views.{is_told}
 use Rattle.qp_multi.specs.Passes.{Known}
-use Rattle.job_commands.specs.Histories.{Setup}
-use Rattle.job_commands.specs.Steps.{Station, Step}
+use Rattle.job_commands.specs.Histories.{OpenedWith}
+use Rattle.job_commands.specs.Steps.{WorkerPasses, Step}
 use Rattle.job_commands.specs.Works.{Numbers, WorkerRan, ended}
 use Rattle.job_commands.proofs.HistoryLaws.{opened_same}
 use Rattle.job_commands.proofs.WorkLaws.{WorkerAt, worker_goes_on, drop_here, take_here}
@@ -28,7 +28,7 @@ pub said_here : (P : Command → Type 0) (commands : List Said) (i : ℕ) (here 
 said_here P commands i here lt is all = subst (AllByRecursion P) (drop_here command_view commands i here lt is) all
 
 -- a worker has run its next command, and its outcome stands behind the others
-pub worker_next : (s : Setup) (numbers : Numbers) (old new : Station) (commands : List Said) (i : ℕ) (here : Said) (os : List Told_outcome) (o : Told_outcome) (after : List Told_outcome) → i < length commands → here ≡ get_or commands i here → after ≡ os ++ o ∷ []
+pub worker_next : (s : OpenedWith) (numbers : Numbers) (old new : WorkerPasses) (commands : List Said) (i : ℕ) (here : Said) (os : List Told_outcome) (o : Told_outcome) (after : List Told_outcome) → i < length commands → here ≡ get_or commands i here → after ≡ os ++ o ∷ []
     → is_told old.asks.seen.opening ≡ true → WorkerAt s numbers old (map command_view (take i commands)) (map command_view (drop i commands)) os → Step s (command_view here) o old new
     → WorkerAt s numbers new (map command_view (take (i + 1) commands)) (map command_view (drop (i + 1) commands)) after
 worker_next s numbers old new commands i here os o after lt is pushed told w step =
@@ -39,7 +39,7 @@ worker_next s numbers old new commands i here os o after lt is pushed told w ste
     (worker_goes_on s numbers old new (map command_view (take i commands)) (command_view here) (map command_view (drop (i + 1) commands)) os o (opened_same new.asks.seen old.asks.seen told step.asks) ahead step))
 
 -- the same commits and pinned versions, at a pass that has left its snapshot
-pub worker_back : (s : Setup) (numbers : Numbers) (t : Station) (asks spare : Known) (commands : List Command) (os : List Told_outcome) → asks ≡ t.asks → spare.pass ≡ t.holds.pass → WorkerRan s numbers t commands os → WorkerRan s numbers (ended asks spare) commands os
+pub worker_back : (s : OpenedWith) (numbers : Numbers) (t : WorkerPasses) (asks spare : Known) (commands : List Command) (os : List Told_outcome) → asks ≡ t.asks → spare.pass ≡ t.holds.pass → WorkerRan s numbers t commands os → WorkerRan s numbers (ended asks spare) commands os
 worker_back s numbers t asks spare commands os same pass r = subst (λ (v : Known). WorkerRan s numbers (ended v spare) commands os) (sym same) (record {
   told = r.told;
   work = record {

@@ -1,4 +1,4 @@
--- A worker's two passes as a station.
+-- What a worker's two passes know.
 use Rattle.std.specs.Prelude.{◌≡◌, ℕ, Bool, Option, IfSome, IsSome}
 use Rattle.std.specs.Option.{is_some, option_map}
 use Rattle.zone_model.specs.Names.{Name}
@@ -9,8 +9,8 @@ use Rattle.qp_multi.specs.declared.pass.Pass.{Pass}
 use Rattle.qp_multi.specs.Passes.{Known, known_at}
 use Rattle.qp_multi.specs.Prelude.{Accounts, AllSeen}
 use Rattle.job_commands.specs.Commands.{OpensAt, Seat}
-use Rattle.job_commands.specs.Stations.{IsPlaced, Pinned, holder_view, station}
-use Rattle.job_commands.specs.Steps.{Station}
+use Rattle.job_commands.specs.WorkerPasses.{IsPlaced, Pinned, holder_view, worker_passes}
+use Rattle.job_commands.specs.Steps.{WorkerPasses}
 use Rattle.job_threads.specs.declared.passes.Passes.{Passes}
 
 module _ {Y : Type 0} {N : Ghosts Y} where
@@ -32,8 +32,8 @@ module _ {Y : Type 0} {N : Ghosts Y} where
   abbrev pub holder_of : Passes Y N → Known
   holder_of passes = holder_view (spare_seat passes) (held_seat passes)
 
-  abbrev pub station_of : Passes Y N → Station
-  station_of passes = station passes.asks.seat (spare_seat passes) (held_seat passes)
+  abbrev pub worker_passes_of : Passes Y N → WorkerPasses
+  worker_passes_of passes = worker_passes passes.asks.seat (spare_seat passes) (held_seat passes)
 
   -- both are of the index at this place
   pub record AreAt (place : ℕ) (passes : Passes Y N) : Type 0 where

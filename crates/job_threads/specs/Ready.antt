@@ -17,7 +17,7 @@ use Rattle.job_commands.specs.Commands.{OpensAt, known_in}
 use Rattle.job_commands.specs.Histories.{IsZone}
 use Rattle.job_commands.specs.Works.{AreNew}
 use Rattle.job_threads.specs.declared.job.Gathered.{Gathered}
-use Rattle.job_threads.specs.declared.worker.Done.{Done}
+use Rattle.job_threads.specs.declared.worker.WorkerEnd.{WorkerEnd}
 
 -- a worker's commands come in turn, and ask for changes of a zone of the origin
 pub record CanBeRun (origin : Name) (commands : List Command) : Type 0 where
@@ -47,7 +47,7 @@ module _ {Y : Type 0} {N : Ghosts Y} where
     pub said : AllByRecursion (AllByRecursion (AllAsked origin)) workers
 
   -- a worker's passes are back
-  pub record IsBack (place : ℕ) (d : Done Y N) : Type 0 where
+  pub record IsBack (place : ℕ) (d : WorkerEnd Y N) : Type 0 where
     pub here : (IsSome d.asks.seat) × (IsSome d.spare.seat)
     pub places : (d.asks.place ≡ place) × (d.spare.place ≡ place)
 

@@ -3,7 +3,7 @@ ghost use Rattle.std.specs.Prelude.{◌≡◌, IsSome, IfOk};
 ghost use Rattle.job_threads.specs.Prelude.{known_at, IsHeld, Held, AskedHeld, Released};
 
 use dns_name::Name;
-use job_commands::{Room, ZoneLaw, reply_text};
+use job_commands::{WorkerScratch, ZoneLaw, reply_text};
 use job_model::Question;
 use job_report::{Outcome, Told};
 use qp_multi::{Index, Named, Pass, Snapshot};
@@ -43,7 +43,7 @@ pub fn ask_held<N: Named>(
     origin: &Name,
     snapshot: &mut Snapshot<'_, ZoneLaw, N>,
     question: &Question,
-    room: &mut Room,
+    room: &mut WorkerScratch,
 ) -> Result<Outcome, AllocError>
     requires { IsHeld snapshot.old.seat }
     ensures same { snapshot.new ≡ snapshot.old }

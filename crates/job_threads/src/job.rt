@@ -1,11 +1,11 @@
 //! All workers of a job, each in a thread of its own where one can be started.
 ghost use Rattle.std.specs.Prelude.{◌≡◌, ◌+◌, ◌*◌, ◌∷◌, IfOk, None, length, map};
 ghost use Rattle.job_threads.specs.Prelude.{IsSync, Version, passes_for, command_view, job_view, worker_view};
-ghost use Rattle.job_threads.specs.Prelude.{workers_view, known_at, Learnt, AreAll, Setup, StandsAs, AreNew, Begins, Numbers};
-ghost use Rattle.job_threads.specs.Prelude.{AllHeard, AreHeard, IsIndex, IsSetup, IsRun, table_size, known_in, DoneRan, AreGathered};
+ghost use Rattle.job_threads.specs.Prelude.{workers_view, known_at, Learnt, AreAll, OpenedWith, StandsAs, AreNew, Begins, Numbers};
+ghost use Rattle.job_threads.specs.Prelude.{AllHeard, AreHeard, IsIndex, IsOpenedWith, IsRun, table_size, known_in, WorkerEndRan, AreGathered};
 ghost use Rattle.job_threads.specs.Prelude.{IsBack, AreBack, CanStart, AreReady, CanBeRun};
 
-use crate::worker::{Done, run_worker};
+use crate::worker::{WorkerEnd, run_worker};
 use crew::Turnstile;
 use dns_name::Name;
 use job_commands::{Gate, ZoneLaw, close_index};
@@ -36,7 +36,7 @@ struct Gathered<N: Named> {
 // A worker is done beside others.
 fn with_done<N: Named>(
     index: &Index<ZoneLaw, N>,
-    done: Done<N>,
+    done: WorkerEnd<N>,
     others: Gathered<N>,
 ) -> Result<Gathered<N>, AllocError>
     requires done { IsBack index.now.place done }
@@ -46,7 +46,7 @@ fn with_done<N: Named>(
         × (known_in g.passes.items ≡ known_at done.asks.seat ∷ known_at done.spare.seat ∷ known_in others.passes.items)) }
     ensures learnt { IfOk result (λ g. Learnt (known_at others.main.seat) (known_at g.main.seat) (known_at done.asks.seat).seen) }
 {
-    let Done {
+    let WorkerEnd {
         outcomes: list,
         mut asks,
         spare,
@@ -97,7 +97,7 @@ fn run_workers<R: Threads + Wait + Sync, N: Named + Send + Sync, G: Gate>(
 ) -> Result<Gathered<N>, AllocError>
     requires can { CanStart origin.now index.now.place (2 * length workers.now + 1) (workers_view workers.now) passes.items }
     ensures back { IfOk result (AreBack index.now.place) }
-    ensures ran { (s : Setup) → IsIndex s origin.now (table_size index.now) → AreNew s.opening (known_in passes.items)
+    ensures ran { (s : OpenedWith) → IsIndex s origin.now (table_size index.now) → AreNew s.opening (known_in passes.items)
         → IfOk result (AreGathered s (known_in passes.items) (workers_view workers.now)) }
     ensures heard { IfOk result (λ _. AllHeard (G.hears gate.now) number (workers_view workers.now)) }
 {
@@ -117,13 +117,13 @@ fn run_workers<R: Threads + Wait + Sync, N: Named + Send + Sync, G: Gate>(
         unreachable!();
     };
     let next = number.saturating_add(1);
-    let first = move || -> Result<Done<N>, AllocError>
+    let first = move || -> Result<WorkerEnd<N>, AllocError>
         requires ready { AreReady origin.now index.now.place asks spare }
         requires commands { CanBeRun origin.now (worker_view worker.now) }
         ensures back { IfOk result (IsBack index.entry.now.place) }
-        ensures ran { (s : Setup) (numbers : Numbers) → IsSetup s origin.entry.now (table_size index.entry.now) (known_at asks.seat)
+        ensures ran { (s : OpenedWith) (numbers : Numbers) → IsOpenedWith s origin.entry.now (table_size index.entry.now) (known_at asks.seat)
             → Begins s numbers (known_at asks.seat) (known_at spare.seat)
-            → IfOk result (DoneRan s numbers (worker_view worker.entry.now)) }
+            → IfOk result (WorkerEndRan s numbers (worker_view worker.entry.now)) }
         ensures heard { IfOk result (λ _. AreHeard (G.hears gate.entry.now) number (length (worker_view worker.entry.now))) }
     {
         let mut turnstile = turnstile_of(rt, gate, number, worker);
@@ -133,7 +133,7 @@ fn run_workers<R: Threads + Wait + Sync, N: Named + Send + Sync, G: Gate>(
         requires sync { IsSync R.row }
         requires can { CanStart origin.now index.now.place (2 * length others.now + 1) (workers_view others.now) passes.items }
         ensures back { IfOk result (AreBack index.entry.now.place) }
-        ensures ran { (s : Setup) → IsIndex s origin.entry.now (table_size index.entry.now) → AreNew s.opening (known_in passes.items)
+        ensures ran { (s : OpenedWith) → IsIndex s origin.entry.now (table_size index.entry.now) → AreNew s.opening (known_in passes.items)
             → IfOk result (AreGathered s (known_in passes.items) (workers_view others.entry.now)) }
         ensures heard { IfOk result (λ _. AllHeard (G.hears gate.entry.now) next (workers_view others.entry.now)) }
     { run_workers(rt, alloc, origin, index, others, next, passes, gate) };
@@ -154,7 +154,8 @@ pub fn run_job<R: Threads + Wait + Sync, N: Named + Send + Sync, G: Gate>(
     requires can { CanStart origin.now index.place (passes_for (length job.now.workers.items)) (job_view job.now) passes.items }
     requires size { index.shared.table.shared.key.passes ≡ length passes.items }
     requires all { AreAll (length passes.items) (known_in passes.items) }
-    ensures ran { (s : Setup) (zone : Version) → IsIndex s origin.now (table_size index) → StandsAs s.opening zone → AreNew s.opening (known_in passes.items)
+    ensures ran { (s : OpenedWith) (zone : Version) → IsIndex s origin.now (table_size index) → StandsAs s.opening zone
+        → AreNew s.opening (known_in passes.items)
         → IfOk result (λ f. IsRun s.chunks s.passes origin.now zone (job_view job.now) f.outcomes.items f.version f.names f.nodes) }
     // Each worker is told by its own number, from 1.
     ensures heard { IfOk result (λ _. AllHeard (G.hears gate.now) 1 (job_view job.now)) }

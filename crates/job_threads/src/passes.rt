@@ -1,11 +1,11 @@
 //! A worker's two passes: one asks and writes, and the other is with the snapshot while one is held.
 ghost use Rattle.std.specs.Prelude.{◌≡◌, IsSome, IfOk, None, true, false};
-ghost use Rattle.job_threads.specs.Prelude.{Hold, AskHeld, Release, IsPartOf, known_at, first_version, Setup};
-ghost use Rattle.job_threads.specs.Prelude.{IsUnder, Step, ArePlaced, holder_of, holds_one, station_of, StandAt, AreAt, IsSecond};
+ghost use Rattle.job_threads.specs.Prelude.{Hold, AskHeld, Release, IsPartOf, known_at, first_version, OpenedWith};
+ghost use Rattle.job_threads.specs.Prelude.{IsUnder, Step, ArePlaced, holder_of, holds_one, worker_passes_of, StandAt, AreAt, IsSecond};
 
 use crate::holding::{ask_held, hold, release};
 use dns_name::Name;
-use job_commands::{Room, ZoneLaw};
+use job_commands::{WorkerScratch, ZoneLaw};
 use job_model::Question;
 use job_report::Outcome;
 use qp_multi::{Index, Named, Pass, Snapshot};
@@ -27,9 +27,9 @@ pub fn take_snapshot<'i, N: Named>(
     requires free { StandAt index.now.place false passes.old }
     ensures taken { StandAt index.now.place true passes.new }
     ensures grows { IsPartOf (known_at passes.new.asks.seat).seen (known_at passes.old.asks.seat).seen }
-    ensures steps { (s : Setup) → first_version (known_at passes.old.asks.seat).seen ≡ s.opening
+    ensures steps { (s : OpenedWith) → first_version (known_at passes.old.asks.seat).seen ≡ s.opening
         → IsUnder (known_at passes.old.asks.seat) (holder_of passes.old)
-        → Step s Hold result (station_of passes.old) (station_of passes.new) }
+        → Step s Hold result (worker_passes_of passes.old) (worker_passes_of passes.new) }
 {
     let Some(second) = passes.spare.take() else {
         // Nothing is held.
@@ -46,15 +46,15 @@ pub fn ask_snapshot<N: Named>(
     origin: &Name,
     passes: &mut Passes<'_, N>,
     question: &Question,
-    room: &mut Room,
+    room: &mut WorkerScratch,
 ) -> Result<Outcome, AllocError>
     requires here { IsSome passes.old.asks.seat }
     requires placed { ArePlaced passes.old }
     requires taken { holds_one passes.old ≡ true }
     ensures same { IfOk result (λ _. passes.new ≡ passes.old) }
-    ensures steps { (s : Setup) → s.origin ≡ origin.now → first_version (known_at passes.old.asks.seat).seen ≡ s.opening
+    ensures steps { (s : OpenedWith) → s.origin ≡ origin.now → first_version (known_at passes.old.asks.seat).seen ≡ s.opening
         → IsUnder (known_at passes.old.asks.seat) (holder_of passes.old)
-        → IfOk result (λ o. Step s (AskHeld question.now) o (station_of passes.old) (station_of passes.old)) }
+        → IfOk result (λ o. Step s (AskHeld question.now) o (worker_passes_of passes.old) (worker_passes_of passes.old)) }
 {
     let Some(mut snapshot) = passes.held.take() else {
         // A script asks a snapshot only while one is held.
@@ -70,9 +70,9 @@ pub fn give_back<N: Named>(passes: &mut Passes<'_, N>) -> Outcome
     requires taken { StandAt passes.old.asks.place true passes.old }
     ensures same { passes.new.asks ≡ passes.old.asks }
     ensures free { StandAt passes.old.asks.place false passes.new }
-    ensures steps { (s : Setup) → first_version (known_at passes.old.asks.seat).seen ≡ s.opening
+    ensures steps { (s : OpenedWith) → first_version (known_at passes.old.asks.seat).seen ≡ s.opening
         → IsUnder (known_at passes.old.asks.seat) (holder_of passes.old)
-        → Step s Release result (station_of passes.old) (station_of passes.new) }
+        → Step s Release result (worker_passes_of passes.old) (worker_passes_of passes.new) }
 {
     let Some(snapshot) = passes.held.take() else {
         // A script gives a snapshot back only while one is held.

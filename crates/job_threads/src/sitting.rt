@@ -2,14 +2,14 @@
 //! the index is open, and while a snapshot is held.
 ghost use Rattle.std.specs.Prelude.{◌≡◌, ◌≤◌, ◌++◌, ◌∷◌, [], IfOk, IfErr, length, Some, slice_get, false};
 ghost use Rattle.job_threads.specs.Prelude.{Version, MayCome, held_after, passes_fed, command_view, AllAsked, known_at, known_in};
-ghost use Rattle.job_threads.specs.Prelude.{entries_of_items, Refuses, Setup, IsIndex, IsZone, StandsAs, AreVersions, AreNew};
-ghost use Rattle.job_threads.specs.Prelude.{Sits, ComesTo, EndsAt, versions_by, table_size, AreAt, holder_of, holds_one, station_of};
+ghost use Rattle.job_threads.specs.Prelude.{entries_of_items, Refuses, OpenedWith, IsIndex, IsZone, StandsAs, AreVersions, AreNew};
+ghost use Rattle.job_threads.specs.Prelude.{Sits, ComesTo, EndsAt, versions_by, table_size, AreAt, holder_of, holds_one, worker_passes_of};
 ghost use Rattle.job_threads.specs.Prelude.{OpensForOne, AreOfOne, CanRun, StandAt, AccountsBeside};
 
 use crate::passes::{Passes, take_second};
 use crate::worker::run_command;
 use dns_name::Name;
-use job_commands::{Entered, Last, Room, ZoneLaw, measure};
+use job_commands::{Entered, Last, WorkerScratch, ZoneLaw, measure};
 use job_report::Outcome;
 use job_script::Command;
 use qp_multi::{Blank, Index, Named, Note, OpenRefusal, Pass};
@@ -52,7 +52,7 @@ pub fn seat_worker<'i, N: Named>(
 ) -> Passes<'i, N>
     requires passes { AreOfOne origin.now index.now.place passes.items }
     ensures can { CanRun origin.now index.now.place false result }
-    ensures sits { (s : Setup) → s.passes ≡ 2 → AreNew s.opening (known_in passes.items) → Sits s (station_of result) [] [] }
+    ensures sits { (s : OpenedWith) → s.passes ≡ 2 → AreNew s.opening (known_in passes.items) → Sits s (worker_passes_of result) [] [] }
 {
     let mut passes = passes;
     let (Some(asks), Some(spare)) = (passes.pop(), passes.pop()) else {
@@ -74,14 +74,14 @@ pub fn run_next<'i, R: Wait, N: Named>(
     index: &'i Index<ZoneLaw, N>,
     passes: &mut Passes<'i, N>,
     command: &Command,
-    room: &mut Room,
+    room: &mut WorkerScratch,
 ) -> Result<Outcome, AllocError>
     requires can { CanRun origin.now index.now.place (holds_one passes.old) passes.old }
     requires may { MayCome (holds_one passes.old) (command_view command.now) }
     requires said { AllAsked origin.now (command_view command.now) }
     ensures can { IfOk result (λ _. CanRun origin.now index.now.place (held_after (holds_one passes.old) (command_view command.now)) passes.new) }
-    ensures sits { (s : Setup) (commands : _) (os : _) → IsIndex s origin.now (table_size index.now) → Sits s (station_of passes.old) commands os
-        → IfOk result (λ o. Sits s (station_of passes.new) (commands ++ command_view command.now ∷ []) (os ++ o ∷ [])) }
+    ensures sits { (s : OpenedWith) (commands : _) (os : _) → IsIndex s origin.now (table_size index.now) → Sits s (worker_passes_of passes.old) commands os
+        → IfOk result (λ o. Sits s (worker_passes_of passes.new) (commands ++ command_view command.now ∷ []) (os ++ o ∷ [])) }
 {
     let entered = Entered::new(rt, command);
     run_command(alloc, origin, index, passes, entered, room)
@@ -114,9 +114,10 @@ pub fn tell_all<N: Named>(index: &Index<ZoneLaw, N>, passes: &mut Passes<'_, N>)
     requires at { AreAt index.now.place passes.old }
     ensures stands { StandAt index.now.place (holds_one passes.old) passes.new }
     ensures same { known_at passes.new.asks.seat ≡ known_at passes.old.asks.seat }
-    ensures sits { (s : Setup) (commands : _) (os : _) → Sits s (station_of passes.old) commands os → Sits s (station_of passes.new) commands os }
-    ensures told { (s : Setup) (zone : Version) (commands : _) (os : _) → IsIndex s s.origin (table_size index.now) → StandsAs s.opening zone
-        → Sits s (station_of passes.old) commands os
+    ensures sits { (s : OpenedWith) (commands : _) (os : _) → Sits s (worker_passes_of passes.old) commands os
+        → Sits s (worker_passes_of passes.new) commands os }
+    ensures told { (s : OpenedWith) (zone : Version) (commands : _) (os : _) → IsIndex s s.origin (table_size index.now) → StandsAs s.opening zone
+        → Sits s (worker_passes_of passes.old) commands os
         → ComesTo s zone commands os (length (known_at passes.new.asks.seat).seen.history)
         × AreVersions s (known_at passes.new.asks.seat).seen.history (versions_by s zone commands os) }
 {
@@ -129,8 +130,8 @@ pub fn tell_all<N: Named>(index: &Index<ZoneLaw, N>, passes: &mut Passes<'_, N>)
 pub fn measure_last<N: Named>(index: &Index<ZoneLaw, N>, passes: &mut Passes<'_, N>) -> Last
     requires { AreAt index.now.place passes.old }
     ensures free { holds_one passes.new ≡ false }
-    ensures ends { (s : Setup) (zone : Version) (commands : _) (os : _) → IsIndex s s.origin (table_size index.now) → StandsAs s.opening zone
-        → Sits s (station_of passes.old) commands os → EndsAt s zone commands os result }
+    ensures ends { (s : OpenedWith) (zone : Version) (commands : _) (os : _) → IsIndex s s.origin (table_size index.now) → StandsAs s.opening zone
+        → Sits s (worker_passes_of passes.old) commands os → EndsAt s zone commands os result }
 {
     let mut spare = take_second(passes);
     let last = measure(index, &mut passes.asks);

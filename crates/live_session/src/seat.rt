@@ -1,7 +1,7 @@
 //! A worker with the two passes of an index.
 
 use dns_name::Name;
-use job_commands::{Room, ZoneLaw};
+use job_commands::{WorkerScratch, ZoneLaw};
 use job_report::Outcome;
 use job_script::Command;
 use job_threads::{Passes, measure_last, run_next, tell_all};
@@ -18,13 +18,13 @@ pub struct Seat<'i, R: Wait, N: Named> {
     pub origin: &'i Name,
     pub index: &'i Index<ZoneLaw, N>,
     pub passes: Passes<'i, N>,
-    pub room: Room,
+    pub room: WorkerScratch,
 }
 
 impl<R: Wait, N: Named> Worker for Seat<'_, R, N> {
     ghost use Rattle.std.specs.Prelude.{◌≡◌};
     ghost use Rattle.job_commands.specs.Prelude.{OpensAt, known_at, table_size};
-    ghost use Rattle.job_threads.specs.Passes.{AreAt, holds_one, station_of};
+    ghost use Rattle.job_threads.specs.Passes.{AreAt, holds_one, worker_passes_of};
     ghost use Rattle.live_session.specs.Seats.{HasRun};
 
     ghost origin = { λ s. s.origin.now };
@@ -33,7 +33,7 @@ impl<R: Wait, N: Named> Worker for Seat<'_, R, N> {
 
     ghost holds = { λ s. holds_one s.passes };
 
-    ghost has_run = { λ s o commands os. HasRun s.origin.now (table_size s.index.now) (station_of s.passes) o commands os };
+    ghost has_run = { λ s o commands os. HasRun s.origin.now (table_size s.index.now) (worker_passes_of s.passes) o commands os };
 
     fn run(&mut self, command: &Command) -> Result<Outcome, AllocError> {
         let Seat {

@@ -14,7 +14,7 @@ use crate::taking::take_zone;
 use crate::zone::ZoneBytes;
 use dns_name::Name;
 use index_items::{zone_items, zone_size};
-use job_commands::{Room, ZoneLaw};
+use job_commands::{WorkerScratch, ZoneLaw};
 use job_threads::{open_for_one, seat_worker, table_for_one};
 use master_file::{Zone, read_zone};
 use outer_io::{Sink, Talk};
@@ -63,7 +63,7 @@ fn serve_opened<R: Wait, N: Named, K: Sink, T: Talk<K>>(
         origin,
         index,
         passes: seat_worker(index, origin, passes),
-        room: Room::new(alloc)?,
+        room: WorkerScratch::new(alloc)?,
     };
     let refused = serve(alloc, origin, seat, first, names, intake, talk, sink)?;
     Ok(refused)

@@ -6,7 +6,7 @@ use Rattle.std.specs.List.{AllByRecursion, range_with_len}
 use Rattle.job_model.specs.Commands.{Command, FedJob}
 use Rattle.job_model.specs.Sizes.{cell_count}
 use Rattle.job_model.specs.Needs.{cells_of_operations, cells_of_commands, cells_of_workers, longest}
-use Rattle.job_model.specs.Outcomes.{Pair, asked_by, asked_at, made, all_pairs, setting_of, version_at, Lawful}
+use Rattle.job_model.specs.Outcomes.{Pair, asked_by, asked_at, made, all_pairs, judged_by, version_at, Lawful}
 use Rattle.job_model.specs.Feeds.{Fed, FedPair, fed_commands, all_numbers, by_worker, pairs_by, passes_fed}
 use Rattle.job_model.proofs.FeedLaws.{IsAmong, fed_among}
 use Rattle.report_laws.specs.Changes.{AllAsked}
@@ -149,7 +149,7 @@ module _ (job : FedJob) (said : IsSaidList job) (fed : List FedPair) (same : Are
   list_room chunks last sized handed lawful =
       let long : length job.commands ≡ length fed = sym (ap (λ (l : List Command). length l) same) ∙ length-map fed (λ (f : FedPair). f.pair.0) in
       let among = fed_among workers fed (subst (λ (n : ℕ). Fed n (all_numbers workers fed)) long handed) in
-      let room = all_room (setting_of chunks (passes_fed workers) job.origin job.zone (by_worker workers fed)) (cell_count job.zone + cells_of_commands job.commands) (longest job.commands)
+      let room = all_room (judged_by chunks (passes_fed workers) job.origin job.zone (by_worker workers fed)) (cell_count job.zone + cells_of_commands job.commands) (longest job.commands)
       sized few
       (λ v. made_short v (longest job.commands) (all_pairs (by_worker workers fed)) short) (by_worker workers fed) short lawful.along in
       all_of_mine (λ (pair : Pair). FindsRoom pair.1.ended) workers fed among (λ w some within. mine_of (λ (pair : Pair). FindsRoom pair.1.ended) w 1 workers fed some (omega (arith, within)) room)

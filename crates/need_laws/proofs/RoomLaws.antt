@@ -9,7 +9,7 @@ use Rattle.job_model.specs.declared.Ending.TheVariants.{Commit}
 use Rattle.job_model.specs.Commands.{Command, Ask, Hold, AskHeld, Release, Block, Compact, Job}
 use Rattle.job_model.specs.Sizes.{cell_count}
 use Rattle.job_model.specs.Needs.{cells_of_workers, most_cells, most_operations}
-use Rattle.job_model.specs.Outcomes.{Cause, Rule, Full, Spent, Causes, Ended, Shown, Committed, RolledBack, Refused, Pair, asked_by, Setting, setting_of, BlockEnds, Sight, sight_after, at_first, Shows, EndsLawfully, Along, AllAlong, all_pairs, Lawful, passes_for}
+use Rattle.job_model.specs.Outcomes.{Cause, Rule, Full, Spent, Causes, Ended, Shown, Committed, RolledBack, Refused, Pair, asked_by, JudgedBy, judged_by, BlockEnds, WorkerProgress, progress_after, at_first, Shows, EndsLawfully, Along, AllAlong, all_pairs, Lawful, passes_for}
 use Rattle.qp_multi.specs.Openings.{room_in}
 use Rattle.report_laws.specs.Versions.{AreOutcomesOf}
 use Rattle.need_laws.specs.Bounds.{IsSaidJob, IsSized, FindsRoom, AllFindRoom}
@@ -36,7 +36,7 @@ roomy_still passes cells operations least chunks is more = further ((passes + 2)
     further needed le = omega (arith, le, more)
 
 -- Where no cause that may come of a transaction on a version is want of room, no command ends by that.
-module _ (s : Setting) (MayCome : Transaction → ℕ → Ended → Type 0)
+module _ (s : JudgedBy) (MayCome : Transaction → ℕ → Ended → Type 0)
     (cause_room : (asked : Transaction) (ending : Ending) (base : ℕ) (cause : Cause) → MayCome asked base (Refused cause) → Causes s asked ending base cause → FindsRoom (Refused cause)) where
   block_room : (seen : ℕ) (asked : Transaction) (ending : Ending) (v : ℕ) (ended : Ended) → MayCome asked v ended → BlockEnds s seen asked ending v ended → FindsRoom ended
   block_room seen asked ending v Shown may b = tt
@@ -50,20 +50,20 @@ module _ (s : Setting) (MayCome : Transaction → ℕ → Ended → Type 0)
   shown_room May RolledBack h = tt
   shown_room May (Refused cause) h = absurd h
 
-  ends_room : (sight : Sight) (command : Command) (v : ℕ) (ended : Ended) → MayCome (asked_by command) v ended → EndsLawfully s sight command v ended → FindsRoom ended
-  ends_room sight (Ask question) v ended may e = shown_room (sight.seen ≤ v) ended e
-  ends_room sight Hold v ended may e = shown_room (sight.seen ≤ v) ended e
-  ends_room sight (AskHeld question) v ended may e = shown_room (sight.held ≡ Some v) ended e
-  ends_room sight Release v ended may e = shown_room (sight.held ≡ Some v) ended e
-  ends_room sight (Block _ asked ending) v ended may e = block_room sight.seen asked ending v ended may e
-  ends_room sight Compact v ended may e = block_room sight.seen no_changes Commit v ended may e
+  ends_room : (progress : WorkerProgress) (command : Command) (v : ℕ) (ended : Ended) → MayCome (asked_by command) v ended → EndsLawfully s progress command v ended → FindsRoom ended
+  ends_room progress (Ask question) v ended may e = shown_room (progress.seen ≤ v) ended e
+  ends_room progress Hold v ended may e = shown_room (progress.seen ≤ v) ended e
+  ends_room progress (AskHeld question) v ended may e = shown_room (progress.held ≡ Some v) ended e
+  ends_room progress Release v ended may e = shown_room (progress.held ≡ Some v) ended e
+  ends_room progress (Block _ asked ending) v ended may e = block_room progress.seen asked ending v ended may e
+  ends_room progress Compact v ended may e = block_room progress.seen no_changes Commit v ended may e
 
   abbrev PairMayCome : Pair → Type 0
   PairMayCome pair = MayCome (asked_by pair.0) pair.1.version pair.1.ended
 
-  along_room : (sight : Sight) (pairs : List Pair) → AllByRecursion PairMayCome pairs → Along s sight pairs → AllFindRoom pairs
-  along_room sight [] may a = tt
-  along_room sight (pair ∷ pairs) may a = (ends_room sight pair.0 pair.1.version pair.1.ended may.0 a.0, along_room (sight_after sight pair.0 pair.1.version) pairs may.1 a.1)
+  along_room : (progress : WorkerProgress) (pairs : List Pair) → AllByRecursion PairMayCome pairs → Along s progress pairs → AllFindRoom pairs
+  along_room progress [] may a = tt
+  along_room progress (pair ∷ pairs) may a = (ends_room progress pair.0 pair.1.version pair.1.ended may.0 a.0, along_room (progress_after progress pair.0 pair.1.version) pairs may.1 a.1)
 
   both_of : (P : Pair → Type 0) (xs ys : List Pair) → AllByRecursion P (xs ++ ys) → AllByRecursion P xs × AllByRecursion P ys
   both_of P [] ys all = (tt, all)
@@ -76,7 +76,7 @@ module _ (s : Setting) (MayCome : Transaction → ℕ → Ended → Type 0)
       all_join (λ (pair : Pair). FindsRoom pair.1.ended) pairs (all_pairs workers) (along_room at_first pairs parts.0 a.0) (ends_with_room workers parts.1 a.1)
 
 -- where there are enough chunks
-module _ (s : Setting) (cells operations : ℕ) (roomy : is_roomy s.passes cells operations s.chunks) (few : (v : ℕ) → cell_count (s.set v) ≤ cells) (short : (v : ℕ) → length (s.made_by v).operations ≤ operations) where
+module _ (s : JudgedBy) (cells operations : ℕ) (roomy : is_roomy s.passes cells operations s.chunks) (few : (v : ℕ) → cell_count (s.set v) ≤ cells) (short : (v : ℕ) → length (s.made_by v).operations ≤ operations) where
   sized_cause : (asked : Transaction) (ending : Ending) (base : ℕ) (cause : Cause) → length asked.operations ≤ operations → Causes s asked ending base cause → FindsRoom (Refused cause)
   sized_cause asked ending base (Rule refusal) within c = tt
   sized_cause asked ending base (Full operation kept) within c =
@@ -93,5 +93,5 @@ pub sized_room : (job : Job) → IsSaidJob job → (workers : List (List Pair)) 
 sized_room job said workers same chunks last sized lawful =
     let few = jobs_few job said workers same in
     let short = jobs_short job workers same in
-    all_room (setting_of chunks (passes_for (length job.workers)) job.origin job.zone workers) (most_cells job) (most_operations job)
+    all_room (judged_by chunks (passes_for (length job.workers)) job.origin job.zone workers) (most_cells job) (most_operations job)
     sized few.versions short.made workers short.asked lawful.along

@@ -11,7 +11,7 @@ use Rattle.zone_answer.specs.Standing.{IsStorable}
 use Rattle.job_model.specs.declared.Ending.{Ending}
 use Rattle.job_model.specs.Commands.{Job}
 use Rattle.job_model.specs.Sizes.{cell_count, cells_asked, item_cells}
-use Rattle.job_model.specs.Outcomes.{BoundsSets, Cause, Rule, Full, Spent, Causes, Ended, Refused, Pair, asked_by, Setting, setting_of, FullCause, all_pairs, Lawful}
+use Rattle.job_model.specs.Outcomes.{BoundsSets, Cause, Rule, Full, Spent, Causes, Ended, Refused, Pair, asked_by, JudgedBy, judged_by, WhyFull, all_pairs, Lawful}
 use Rattle.report_laws.specs.Changes.{IsSaid, AllSaid, AllAsked}
 use Rattle.report_laws.specs.Versions.{AreOutcomesOf}
 use Rattle.report_laws.proofs.ChangeLemmas.{IsZone, is_zone}
@@ -51,12 +51,12 @@ one_said origin (first ∷ front) back one said = one_said origin front back one
 too_many : (kept asked : ℕ) → kept ≤ 2 → asked ≤ 4883 → 64 - 64 / 4 ≤ (kept + 1) * (768 / 257 + 9) + 1 + asked / 769 → ⊥
 too_many kept asked few small bound = omega (arith, few, small, bound)
 
-module _ (s : Setting) (chunks : s.chunks ≡ 64) (first : cell_count (s.set 0) ≤ 768) (between : (v : ℕ) → WorksWithin 768 s.origin (s.set v) (s.made_by (v + 1))) (zones : (v : ℕ) → IsZone s.origin (s.set v)) where
+module _ (s : JudgedBy) (chunks : s.chunks ≡ 64) (first : cell_count (s.set 0) ≤ 768) (between : (v : ℕ) → WorksWithin 768 s.origin (s.set v) (s.made_by (v + 1))) (zones : (v : ℕ) → IsZone s.origin (s.set v)) where
   -- a transaction on a version that ended so, of small sets and with few versions kept
   abbrev IsSmall : Transaction → ℕ → Ended → Type 0
   IsSmall asked v ended = WorksWithin 768 s.origin (s.set (base_of (record { version = v; ended = ended }))) asked × AllSaid s.origin asked × NamesFew 2 ended
 
-  sets_small : (asked : Transaction) (base operation : ℕ) (kept : List ℕ) → WorksWithin 768 s.origin (s.set base) asked → (c : FullCause s asked base operation kept) → BoundsSets s base c.front 768
+  sets_small : (asked : Transaction) (base operation : ℕ) (kept : List ℕ) → WorksWithin 768 s.origin (s.set base) asked → (c : WhyFull s asked base operation kept) → BoundsSets s base c.front 768
   sets_small asked base operation kept works c = record {
     first = first;
     ways = λ v lt begun rest parts working made. between v begun rest working parts made;
@@ -64,7 +64,7 @@ module _ (s : Setting) (chunks : s.chunks ≡ 64) (first : cell_count (s.set 0) 
         works begun (rest ++ c.refused ∷ c.back) working (c.all ∙ ap (λ (l : List Operation). l ++ c.refused ∷ c.back) parts ∙ append_assoc begun rest (c.refused ∷ c.back)) made;
   }
 
-  asked_small : (asked : Transaction) (base operation : ℕ) (kept : List ℕ) → WorksWithin 768 s.origin (s.set base) asked → AllSaid s.origin asked → (c : FullCause s asked base operation kept) → cells_asked (owner_of c.refused) c.working c.next ≤ 4883
+  asked_small : (asked : Transaction) (base operation : ℕ) (kept : List ℕ) → WorksWithin 768 s.origin (s.set base) asked → AllSaid s.origin asked → (c : WhyFull s asked base operation kept) → cells_asked (owner_of c.refused) c.working c.next ≤ 4883
   asked_small asked base operation kept works said c =
       let all : AllByRecursion (IsSaid s.origin) (c.front ++ c.refused ∷ c.back) = subst (AllByRecursion (IsSaid s.origin)) c.all said in
       let one = one_said s.origin c.front c.back c.refused all in
@@ -85,7 +85,7 @@ pub small_room : (job : Job) → IsSaidJob job → (workers : List (List Pair)) 
     → Lawful 64 passes job.origin job.zone workers last → AllFindRoom (all_pairs workers)
 small_room job said workers same few names passes last lawful =
     let ask = all_ask job.origin workers (subst (AllWorkersAsk job.origin) (sym same) said.workers) in
-    let s : Setting = setting_of 64 passes job.origin job.zone workers in
+    let s : JudgedBy = judged_by 64 passes job.origin job.zone workers in
     let zones : (v : ℕ) → IsZone job.origin (s.set v) = version_zone job.origin job.zone (all_pairs workers) (is_zone job.origin job.zone said.zone) ask in
     let Small : Pair → Type 0 = λ pair. IsSmall s refl (few.versions 0) few.between zones (asked_by pair.0) pair.1.version pair.1.ended in
     let works = all_both (λ (pair : Pair). WorksWithin 768 job.origin (s.set (base_of pair.1)) (asked_by pair.0)) (λ (pair : Pair). AllAsked job.origin pair.0) (λ (pair : Pair). WorksWithin 768 job.origin (s.set (base_of pair.1)) (asked_by pair.0) × AllAsked job.origin pair.0)

@@ -2,10 +2,10 @@
 //! faults. A caller learns that a call failed, and that the object's count of faults rose with it.
 #![tactic(auto)]
 
+mod bounded;
 mod feed;
 mod noting;
 mod reading;
-mod room;
 mod schedule;
 mod sinks;
 mod sources;

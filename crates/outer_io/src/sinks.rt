@@ -2,7 +2,7 @@ ghost use Rattle.std.specs.Prelude.{◌≡◌, ◌<◌, ◌≤◌, ◌↔◌, �
 ghost use Rattle.std.specs.Prelude.{ℕ, List, Option, None, Some, MatchOption, take, length, min, IsErr, IfOk, OnOk, OnErr, IsOkAnd, Contains};
 ghost use Rattle.outer_io.specs.Prelude.{Rose, Held, held_of, Grows, GrowsByFront, next_count, told};
 
-use crate::room::Room;
+use crate::bounded::BoundedBuffer;
 use crate::schedule::{Failed, Schedule};
 use std::alloc::{AllocError, Global};
 use std::marker::Model;
@@ -30,7 +30,7 @@ pub trait Sink {
 /// Bytes in memory. The calls with given numbers fail, and move nothing.
 #[derive(Drop)]
 pub struct MemSink {
-    room: Room,
+    room: BoundedBuffer,
     most: usize,
     schedule: Schedule,
 }
@@ -60,7 +60,7 @@ impl MemSink {
         ensures faults { IfOk result (λ s. s.calls.faults ≡ 0) }
     {
         Ok(MemSink {
-            room: Room::new(alloc, room)?,
+            room: BoundedBuffer::new(alloc, room)?,
             most,
             schedule: Schedule::new(fails),
         })
@@ -106,7 +106,7 @@ impl Sink for MemSink {
 /// Bytes in memory. No call fails.
 #[derive(Drop)]
 pub struct QuietSink {
-    room: Room,
+    room: BoundedBuffer,
     most: usize,
 }
 
@@ -131,7 +131,7 @@ impl QuietSink {
         ensures most { IfOk result (λ s. s.most ≡ most) }
     {
         Ok(QuietSink {
-            room: Room::new(alloc, room)?,
+            room: BoundedBuffer::new(alloc, room)?,
             most,
         })
     }

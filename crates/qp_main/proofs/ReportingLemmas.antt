@@ -8,7 +8,7 @@ use Rattle.zone_model.specs.Versions.{Version}
 use Rattle.zone_model.specs.Lines.{lines_of}
 use Rattle.job_model.specs.Commands.{Command}
 use Rattle.job_model.specs.Jobs.{script_lines}
-use Rattle.job_model.specs.Outcomes.{AllAlong, Pair, Setting, all_pairs, is_refused, passes_for, setting_of, times_made, version_at}
+use Rattle.job_model.specs.Outcomes.{AllAlong, Pair, JudgedBy, all_pairs, is_refused, passes_for, judged_by, times_made, version_at}
 use Rattle.job_model.specs.Reports.{end_text}
 use Rattle.job_model.specs.Feeds.{by_worker, pairs_by, passes_fed}
 use Rattle.job_model.proofs.FeedLaws.{workers_fed}
@@ -99,9 +99,9 @@ no_pairs : (from workers : ℕ) → all_pairs (map (λ w. pairs_by w []) (range_
 no_pairs from zero = refl
 no_pairs from (suc workers) = no_pairs (from + 1) workers
 
-no_pairs_along : (setting : Setting) (from workers : ℕ) → AllAlong setting (map (λ w. pairs_by w []) (range_with_len from workers))
-no_pairs_along setting from zero = tt
-no_pairs_along setting from (suc workers) = (tt, no_pairs_along setting (from + 1) workers)
+no_pairs_along : (judged : JudgedBy) (from workers : ℕ) → AllAlong judged (map (λ w. pairs_by w []) (range_with_len from workers))
+no_pairs_along judged from zero = tt
+no_pairs_along judged from (suc workers) = (tt, no_pairs_along judged (from + 1) workers)
 
 pub none_told : (workers chunks : ℕ) (origin : Name) (zone : Version) (f : Finished) (text : List ℕ) → RanOn chunks origin zone [] (ran.Finished f) → text ≡ [] ++ end_text f.version f.names
     → FedAnswers workers chunks (Ok (record { origin = origin; zone = zone; commands = [] })) status.Done text
@@ -116,7 +116,7 @@ none_told workers chunks origin zone f text r printed =
       lawful = record {
         once = λ j some le. ap (times_made j) none ∙ r.1.lawful.once j some le;
         none_above = subst (AllByRecursion (λ (pair : Pair). pair.1.version ≤ f.version)) (sym none) tt;
-        along = no_pairs_along (setting_of chunks (passes_fed workers) origin zone (by_worker workers [])) 1 workers;
+        along = no_pairs_along (judged_by chunks (passes_fed workers) origin zone (by_worker workers [])) 1 workers;
       };
       is = printed ∙ ap (λ (n : ℕ). [] ++ end_text f.version n) (r.1.names_are ∙ ap length (sym made));
       ended = refl;

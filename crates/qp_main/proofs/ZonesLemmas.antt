@@ -4,16 +4,16 @@ use Rattle.zone_model.specs.MasterFile.{Zone}
 use Rattle.zone_model.specs.Versions.{Version}
 use Rattle.zones_model.specs.Commands.{Command, Get, Block, Attach, Detach, origins_of}
 use Rattle.zones_model.specs.Reports.{set_of}
-use Rattle.zones_report.specs.declared.outcomes.Done.{Done}
-use Rattle.zones_report.specs.declared.outcomes.Done.TheVariants.{Got, Ran, Attached, Detached}
-use Rattle.zones_report.specs.declared.outcomes.DoneList.{DoneList}
+use Rattle.zones_report.specs.declared.outcomes.CommandEnd.{CommandEnd}
+use Rattle.zones_report.specs.declared.outcomes.CommandEnd.TheVariants.{Got, Ran, Attached, Detached}
+use Rattle.zones_report.specs.declared.outcomes.CommandEnds.{CommandEnds}
 use Rattle.zones_report.specs.declared.outcomes.ZonesFinished.{ZonesFinished}
 use Rattle.zones_report.specs.Outcomes.{AllAreOf, AreOf, IsOf, all_dones_view, all_refused}
 use Rattle.zones_report.specs.Telling.{AllTell, EachTells, IsTold, Tells, last_of}
 use Rattle.zones_report.specs.Texts.{finished_text}
 use Rattle.zones_report.proofs.ReportLaws.{refused_told, reported, workers_same}
 use Rattle.zones_threads.specs.Runs.{IsZonesRun}
-use Rattle.zones_threads.specs.Tellings.{DoneTells, WorkerTells, WorkersTell}
+use Rattle.zones_threads.specs.Tellings.{CommandEndTells, WorkerTells, WorkersTell}
 use Rattle.qp_main.specs.Due.{ZonesReported}
 use Rattle.qp_main.specs.declared.status.Status.{Status}
 use Rattle.qp_main.specs.declared.status.Status.TheVariants as status
@@ -21,7 +21,7 @@ use Rattle.qp_main.specs.declared.status.Status.TheVariants as status
 -- ---- what is of its command's kind, and tells what is so
 
 module _ (zones : List Zone) (set : ℕ → ℕ → Version) where
-  done_tells : (c : Command) (d : Done) → IsOf c d → DoneTells zones set c d → Tells zones set c d
+  done_tells : (c : Command) (d : CommandEnd) → IsOf c d → CommandEndTells zones set c d → Tells zones set c d
   done_tells (Get name rtype) (Got table None) k t = tt
   done_tells (Get name rtype) (Got table (Some a)) k t = t
   done_tells (Get name rtype) (Ran ran o) k t = absurd k
@@ -40,13 +40,13 @@ module _ (zones : List Zone) (set : ℕ → ℕ → Version) where
   done_tells (Detach zone) (Attached table refused) k t = absurd k
   done_tells (Detach zone) (Detached table refused) k t = tt
 
-  worker_tells : (cs : List Command) (ds : List Done) → AreOf cs ds → WorkerTells zones set cs ds → EachTells zones set cs ds
+  worker_tells : (cs : List Command) (ds : List CommandEnd) → AreOf cs ds → WorkerTells zones set cs ds → EachTells zones set cs ds
   worker_tells [] [] k t = tt
   worker_tells [] (d ∷ ds) k t = absurd k
   worker_tells (c ∷ cs) [] k t = absurd k
   worker_tells (c ∷ cs) (d ∷ ds) k t = (done_tells c d k.0 t.0, worker_tells cs ds k.1 t.1)
 
-  all_tell : (ws : List (List Command)) (ds : List DoneList) → AllAreOf ws ds → WorkersTell zones set ws ds → AllTell zones set ws ds
+  all_tell : (ws : List (List Command)) (ds : List CommandEnds) → AllAreOf ws ds → WorkersTell zones set ws ds → AllTell zones set ws ds
   all_tell [] [] k t = tt
   all_tell [] (d ∷ ds) k t = absurd k
   all_tell (w ∷ ws) [] k t = absurd k

@@ -20,7 +20,7 @@ use Rattle.job_model.specs.declared.ScriptKind.TheVariants.{NoWorker, BadCommand
 use Rattle.job_model.specs.Loads.{made_text}
 use Rattle.need_laws.specs.Bounds.{AllFedFindRoom, AllFindRoom, IsSized, IsSizedList}
 use Rattle.zones_model.specs.Commands.{Job as ZonesJob}
-use Rattle.zones_model.specs.Outcomes.{Done, Last, ZonesLawful, command_of}
+use Rattle.zones_model.specs.Outcomes.{CommandEnd, Last, ZonesLawful, command_of}
 use Rattle.zones_model.specs.Reports as several
 use Rattle.zones_script.specs.Jobs.{ZonesRefusal, zones_job_of}
 use Rattle.zones_script.specs.Jobs as of_zones
@@ -108,7 +108,7 @@ pub record FedReported (workers chunks : ℕ) (job : FedJob) (s : Status) (text 
 
 -- The same of commands over several zones, each of which has an index of so many chunks.
 pub record ZonesReported (chunks : ℕ) (job : ZonesJob) (s : Status) (text : List ℕ) : Type 0 where
-  pub workers : List (List Done)
+  pub workers : List (List CommandEnd)
   pub last : Last
   pub same : map (map command_of) workers ≡ job.workers
   pub lawful : ZonesLawful chunks job.zones workers last

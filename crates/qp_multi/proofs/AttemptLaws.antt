@@ -212,7 +212,7 @@ module _ {first lent : Cells} {v w : Known} {u n : Ledger} {count : ℕ} (l : Re
       consumes = λ twigs p. consumes twigs (path_in twigs p);
     }
 
--- what the draft of the seat that lent them knows of them now
+-- what the working version of the seat that lent them knows of them now
 
 pub wide_back : {first lent : Cells} {u n : Ledger} {lent_by : TableId} (old new : JoinedSeat (List Entry) (List Operation)) → Returned first lent old.place.me.0 new.place.me.0 u n old.passes → words_for (length u.given) ≡ old.place.table_id.words
     → old.place.table_id ≡ lent_by → new.place.table_id ≡ lent_by → words_for (length n.given) ≡ new.place.table_id.words

@@ -13,7 +13,7 @@ use Rattle.chunk_usage.specs.Keeping.{closed, is_among, rows_of}
 use Rattle.chunk_usage.specs.Ledger.{Ledger, Frozen, IsLedger, Row, free_count, is_bump}
 use Rattle.shared_cells.specs.declared.view.Entry.{Entry as Commit}
 use Rattle.shared_cells.specs.History.{StartsWith, version_after}
-use Rattle.qp_multi.specs.declared.desk.Draft.{Draft}
+use Rattle.qp_multi.specs.declared.writer.WorkingVersion.{WorkingVersion}
 use Rattle.qp_multi.specs.declared.meaning.Operation.{Operation}
 use Rattle.qp_multi.specs.Bounds.{IsCramped}
 use Rattle.qp_multi.specs.Capacity.{BoundsHistory, EachRoomy, RestsRoomy, WorksRoomy, given_count, most_at_rest}
@@ -158,10 +158,10 @@ short_roomy u n s t operations f is spares opening history cost lacks r =
 pub rows_narrowed : (c : ℕ) (versions : List ℕ) (rows : List Row) → RowsAreFew c rows → RowsAreFew c (rows_of versions rows)
 rows_narrowed c versions rows few = All-filter (λ (r : Row). is_among versions r.version) (λ (r : Row). row_size r ≤ most_met c) rows few
 
--- ---- of a draft
+-- ---- of a working version
 
-pub cramped_draft : (d : Draft) → EachRoomy d.usage d.seat.place.me.0.seen (λ c o. length d.log.operations ≤ o → ⊥) → IsCramped d
-cramped_draft d none c o b roomy = none c o b.some b.history (subst (λ (p : ℕ). is_roomy p c o (length d.usage.given)) (sym d.agrees.passes) roomy) b.operations
+pub cramped_working : (d : WorkingVersion) → EachRoomy d.usage d.seat.place.me.0.seen (λ c o. length d.log.operations ≤ o → ⊥) → IsCramped d
+cramped_working d none c o b roomy = none c o b.some b.history (subst (λ (p : ℕ). is_roomy p c o (length d.usage.given)) (sym d.agrees.passes) roomy) b.operations
 
-pub each_cramped : (d : Draft) → IsCramped d → EachRoomy d.usage d.seat.place.me.0.seen (λ c o. length d.log.operations ≤ o → ⊥)
+pub each_cramped : (d : WorkingVersion) → IsCramped d → EachRoomy d.usage d.seat.place.me.0.seen (λ c o. length d.log.operations ≤ o → ⊥)
 each_cramped d none c o some b roomy few = none c o (record { some = some; history = b; operations = few }) (subst (λ (p : ℕ). is_roomy p c o (length d.usage.given)) d.agrees.passes roomy)

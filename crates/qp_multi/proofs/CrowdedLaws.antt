@@ -9,16 +9,16 @@ use Rattle.chunk_usage.specs.declared.space.Shortage.{Shortage}
 use Rattle.chunk_usage.specs.Ledger.{Ledger, Frozen, IsLedger, free_count, is_bump, is_given, is_used, reserve_of}
 use Rattle.chunk_usage.specs.Handing.{Lacks, consumed}
 use Rattle.chunk_usage.specs.Keeping.{kept_versions, narrowed}
-use Rattle.evacuate.specs.declared.evacuation.Done.{Done}
-use Rattle.evacuate.specs.declared.evacuation.Done.TheVariants as done
+use Rattle.evacuate.specs.declared.evacuation.EvacuationEnd.{EvacuationEnd}
+use Rattle.evacuate.specs.declared.evacuation.EvacuationEnd.TheVariants as done
 use Rattle.evacuate.specs.Evacuations.{IsDense, refused}
 use Rattle.shared_cells.specs.Cells.{HasCell}
-use Rattle.qp_multi.specs.Drafts.{Works, working_set}
+use Rattle.qp_multi.specs.WorkingVersions.{Works, working_set}
 use Rattle.qp_multi.specs.Movings.{Evacuates}
 use Rattle.qp_multi.specs.Rooms.{MakesRoom}
 use Rattle.qp_multi.specs.Tries.{Spares}
 use Rattle.qp_multi.specs.Turns.{cells_with}
-use Rattle.qp_multi.specs.declared.desk.Draft.{Draft}
+use Rattle.qp_multi.specs.declared.writer.WorkingVersion.{WorkingVersion}
 use Rattle.qp_multi.proofs.CauseLaws.{NeededBy, each_needed, live_of, open_once, open_one}
 use Rattle.qp_multi.proofs.CountedLaws.{row_le}
 use Rattle.qp_multi.proofs.MeetLaws.{row_add}
@@ -67,7 +67,7 @@ dense_met u c is all =
     let j = open_once u.bump n in omega arith
 
 -- what an evacuation leaves, however it ends
-pub evacuated_met : (c : ℕ) (u : Ledger) (d : Draft) (end : Done) → c ≤ 768 → 1 ≤ reserve_of u → Works d → cells (working_set d) ≤ c → WorksSmall c u → Evacuates u d.usage end
+pub evacuated_met : (c : ℕ) (u : Ledger) (d : WorkingVersion) (end : EvacuationEnd) → c ≤ 768 → 1 ≤ reserve_of u → Works d → cells (working_set d) ≤ c → WorksSmall c u → Evacuates u d.usage end
     → free_count u + refused end ≤ free_count d.usage + (cells (working_set d) / 769 + 1) → met_count d.usage ≤ most_met c
 evacuated_met c u d done.Whole small some works fits w e asks =
     let a = dense_met d.usage (cells (working_set d)) (e.whole refl) (live_few (HasCell (cells_with d.usage d.seat.place.me.0.turn)) (is_used d.usage) d.usage d.root (working_set d) e.ledger works.stands) in omega arith
@@ -84,11 +84,11 @@ pub tried_works : (c : ℕ) (u n : Ledger) → TriedSmall u n → WorksSmall c u
 tried_works c u n t w = tried_small c u n t.spares (spread_few u n t.ledger t.spares.grown t.spares.grown.meets) w
 
 -- the same set
-pub same_set : (d e : Draft) → GoesOn d.seat.place.me.0 e.seat.place.me.0 → e.log.operations ≡ d.log.operations → working_set e ≡ working_set d
+pub same_set : (d e : WorkingVersion) → GoesOn d.seat.place.me.0 e.seat.place.me.0 → e.log.operations ≡ d.log.operations → working_set e ≡ working_set d
 same_set d e on log = set_stays d e on log
 
 -- what is left when room was made
-pub room_small : (c : ℕ) (first left : Draft) → c ≤ 768 → 4 ≤ length first.usage.given → WorksSmall c first.usage → (m : MakesRoom first left) → Works m.emptied → cells (working_set m.emptied) ≤ c
+pub room_small : (c : ℕ) (first left : WorkingVersion) → c ≤ 768 → 4 ≤ length first.usage.given → WorksSmall c first.usage → (m : MakesRoom first left) → Works m.emptied → cells (working_set m.emptied) ≤ c
     → free_count m.room.usage + refused m.done ≤ free_count m.emptied.usage + (cells (working_set m.emptied) / 769 + 1)
     → ((met_count left.usage ≤ most_met c) × ((k : ℕ) → is_given left.usage k ≡ true → NeededBy left.usage k)) × WorksSmall c left.usage
 room_small c first left small some w m works fits asks = ((met, needed), behind)
@@ -141,7 +141,7 @@ path_cells has used live (Some r) key es s tells =
     (twigs_on_path key s.0, (s.0, es, s.1, tells, refl), (let a = path_size key s.0 in let e = ap cells (sym s.1.trie.holds) ∙ size_is 0 s.0 s.1.trie.shape in omega arith))
 
 -- a try behind made room found none: the bound
-pub last_crowded : (c : ℕ) (left d : Draft) (change : TrieChange) (f : Shortage) (path : ℕ) → RowsAreFew c left.usage.rows → met_count left.usage ≤ most_met c → ((k : ℕ) → is_given left.usage k ≡ true → NeededBy left.usage k)
+pub last_crowded : (c : ℕ) (left d : WorkingVersion) (change : TrieChange) (f : Shortage) (path : ℕ) → RowsAreFew c left.usage.rows → met_count left.usage ≤ most_met c → ((k : ℕ) → is_given left.usage k ≡ true → NeededBy left.usage k)
     → Spares left.usage d.usage → consumed d.usage ≤ consumed left.usage + (written_by change + path) → Lacks d.usage f
     → length d.usage.given - reserve_of d.usage ≤ (length d.usage.rows + 1) * most_met c + 1 + (written_by change + path) / 769
 last_crowded c left d change f path rows met needed spares cost lacks =

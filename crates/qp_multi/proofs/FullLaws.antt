@@ -25,7 +25,7 @@ use Rattle.shared_cells.specs.Cells.{HasCell}
 use Rattle.qp_multi.specs.declared.change.TrieChange.{TrieChange}
 use Rattle.qp_multi.specs.declared.change.TrieChange.TheVariants as change
 use Rattle.trie_write.specs.declared.refusal.NotDone.TheVariants as not_done
-use Rattle.qp_multi.specs.declared.desk.Draft.{Draft}
+use Rattle.qp_multi.specs.declared.writer.WorkingVersion.{WorkingVersion}
 use Rattle.qp_multi.specs.declared.refusal.OutOfSpace.{OutOfSpace}
 use Rattle.qp_multi.specs.declared.meaning.Operation.{Operation}
 use Rattle.qp_multi.specs.Operations.{applied}
@@ -33,7 +33,7 @@ use Rattle.qp_multi.specs.Meanings.{IsVersion}
 use Rattle.qp_multi.specs.Passes.{Known, first_version}
 use Rattle.qp_multi.specs.Turns.{cells_with, row_for}
 use Rattle.qp_multi.specs.Changes.{key_of, written_by, asked_by, LeadsItem}
-use Rattle.qp_multi.specs.Drafts.{Works, working_set}
+use Rattle.qp_multi.specs.WorkingVersions.{Works, working_set}
 use Rattle.qp_multi.specs.Tries.{Tried, PathHas, PathHasEach}
 use Rattle.qp_multi.specs.Keepings.{GoesOn, numbers_of, versions_in}
 use Rattle.qp_multi.specs.Fulls.{WhyOutOfSpace, cells_kept, version_at}
@@ -69,7 +69,7 @@ each_of : (has : ℕ → Cell → Type 0) (used : ℕ → Bool) (live : ℕ → 
 each_of has used live None key es s tells = ([], refl)
 each_of has used live (Some r) key es s tells = (branches_on_path key s.0, (s.0, es, s.1, tells, refl))
 
-pub cause_of : (u : Ledger) (room d : Draft) (c : TrieChange) (full : Shortage) (f : OutOfSpace) → room.usage ≡ freed (narrowed u (kept_versions room.usage)) → f.shortage.needed ≡ full.needed → versions_in f.kept ≡ kept_versions room.usage → Works room → All (λ k. IsVersion k.image k.root (version_at room.seat.place.me.0 k.version)) (kept_in room.seat.place.me.0.turn)
+pub cause_of : (u : Ledger) (room d : WorkingVersion) (c : TrieChange) (full : Shortage) (f : OutOfSpace) → room.usage ≡ freed (narrowed u (kept_versions room.usage)) → f.shortage.needed ≡ full.needed → versions_in f.kept ≡ kept_versions room.usage → Works room → All (λ k. IsVersion k.image k.root (version_at room.seat.place.me.0 k.version)) (kept_in room.seat.place.me.0.turn)
     → LeadsItem c → Tried c room.root room.seat.place.me.0 room.usage d.seat.place.me.0 d.usage (Err (not_done.Full full)) → d.root ≡ room.root → GoesOn room.seat.place.me.0 d.seat.place.me.0 → working_set d ≡ working_set room → Lacks d.usage full
     → WhyOutOfSpace room.usage d (key_of c) (written_by c) (asked_by c) f
 cause_of u room d c full f after request same works images leads t root on set lacks =

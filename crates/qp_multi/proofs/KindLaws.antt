@@ -5,11 +5,11 @@ use Rattle.chunk_usage.specs.declared.bump.Bump.{Bump}
 use Rattle.chunk_usage.specs.Keeping.{closed, full}
 use Rattle.chunk_usage.specs.Ledger.{Ledger, is_bump}
 use Rattle.shared_cells.specs.declared.view.Seen.{Seen}
-use Rattle.qp_multi.specs.declared.desk.Draft.{Draft}
+use Rattle.qp_multi.specs.declared.writer.WorkingVersion.{WorkingVersion}
 use Rattle.qp_multi.specs.declared.meaning.Operation.{Operation}
 use Rattle.qp_multi.specs.Bases.{Joined, StandsFor}
 use Rattle.qp_multi.specs.Capacity.{RestsRoomy, WorksRoomy}
-use Rattle.qp_multi.specs.Drafts.{Begins, working_set}
+use Rattle.qp_multi.specs.WorkingVersions.{Begins, working_set}
 use Rattle.qp_multi.specs.Kinds.{StartsAs, started}
 use Rattle.qp_multi.specs.Operations.{applied}
 use Rattle.qp_multi.specs.Passes.{Known, version_seen}
@@ -35,7 +35,7 @@ started_roomy false u n s operations after none live bump r =
     subst (WorksRoomy n s) (sym none) (subst (λ (l : Ledger). WorksRoomy l s []) (sym after) (begins_roomy u s live (λ k. ap (λ (b : Option Bump). is_bump b k) bump) r))
 
 -- its working set is the base still
-pub started_begins : (lawful : List Entry → List Entry → Type 0) (before : Known) (d e : Draft) → Begins lawful before d → e.seat ≡ d.seat → e.log.operations ≡ d.log.operations
+pub started_begins : (lawful : List Entry → List Entry → Type 0) (before : Known) (d e : WorkingVersion) → Begins lawful before d → e.seat ≡ d.seat → e.log.operations ≡ d.log.operations
     → ((es : List Entry) → StandsFor d.seat.place.me.0 d.usage d.root es → StandsFor e.seat.place.me.0 e.usage e.root es) → Begins lawful before e
 started_begins lawful before d e b seat log stands = record {
   joined = subst (λ s. Joined lawful before s.place.me.0) (sym seat) b.joined;

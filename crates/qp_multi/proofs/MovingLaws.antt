@@ -8,7 +8,7 @@ use Rattle.std.proofs.lemmas.List.Sums.{sum_by-cons}
 use Rattle.chunk_usage.specs.Counting.{is_low, is_sparse, sparse_count}
 use Rattle.chunk_usage.specs.Ledger.{Ledger, IsLedger, is_given, is_bump}
 use Rattle.chunk_usage.specs.Rooms.{account_of}
-use Rattle.evacuate.specs.declared.evacuation.Done.{Done}
+use Rattle.evacuate.specs.declared.evacuation.EvacuationEnd.{EvacuationEnd}
 use Rattle.evacuate.specs.Evacuations.{CarriesTrie, EmptiesChunks, IsDense}
 use Rattle.evacuate.specs.Moving.{LeavesRest}
 use Rattle.shared_cells.specs.Cells.{Cells, given_chunks, kept_references, HasCell}
@@ -77,7 +77,7 @@ pub leaves_moved : {first lent : Cells} {u n : Ledger} → LeavesRest HasCell ke
 leaves_moved rest = let f = rest.frame in record { given_stays = f.given_stays; opens = f.opens; grows = f.grows; last = f.last; meets = f.meets; same = rest.ready.same }
 
 -- the trie stands for the same entries
-pub moved_of : {first lent : Cells} {v w : Known} {u n : Ledger} {count : ℕ} → Returned first lent v w u n count → (root new : Option ℕ) (done : Done) → IsLedger n → CarriesTrie HasCell first u root lent n new done → EmptiesChunks u n done → Moved root v u w n new done
+pub moved_of : {first lent : Cells} {v w : Known} {u n : Ledger} {count : ℕ} → Returned first lent v w u n count → (root new : Option ℕ) (done : EvacuationEnd) → IsLedger n → CarriesTrie HasCell first u root lent n new done → EmptiesChunks u n done → Moved root v u w n new done
 moved_of l root new done known trie chunks = record {
   stands = λ es s. let h = entered l root es s in left l new es (record { stands = trie.stands es h.stands; tells = h.tells });
   same = words_seat l;

@@ -18,14 +18,14 @@ use Rattle.shared_cells.specs.Views.{words_of}
 use Rattle.qp_multi.specs.declared.change.TrieChange.{TrieChange}
 use Rattle.trie_write.specs.declared.refusal.NotDone.{NotDone}
 use Rattle.trie_write.specs.declared.refusal.NotDone.TheVariants as not_done
-use Rattle.qp_multi.specs.declared.desk.Draft.{Draft}
+use Rattle.qp_multi.specs.declared.writer.WorkingVersion.{WorkingVersion}
 use Rattle.qp_multi.specs.declared.meaning.Operation.{Operation}
-use Rattle.qp_multi.specs.Bounds.{BoundsDraft, Crowds, HasRoom, IsCramped, IsCrowded, IsSmall, StaysSmall, WhereRoomy, WhereSmall}
+use Rattle.qp_multi.specs.Bounds.{BoundsWorking, Crowds, HasRoom, IsCramped, IsCrowded, IsSmall, StaysSmall, WhereRoomy, WhereSmall}
 use Rattle.qp_multi.specs.Capacity.{BoundsHistory, EachRoomy, RestsRoomy, WorksRoomy, given_count}
 use Rattle.qp_multi.specs.Crowds.{BoundsWays, BoundsWork, EachSmall, RestsSmall, RowsAreFew, base_count, met_in, most_met, row_size}
 use Rattle.qp_multi.specs.Changes.{LeadsItem, operation_of}
 use Rattle.qp_multi.specs.Closings.{AllSeen}
-use Rattle.qp_multi.specs.Drafts.{Operates, Works, working_set}
+use Rattle.qp_multi.specs.WorkingVersions.{Operates, Works, working_set}
 use Rattle.qp_multi.specs.Keepings.{GoesOn}
 use Rattle.qp_multi.specs.Movings.{FewThin}
 use Rattle.qp_multi.specs.Operations.{applied}
@@ -34,7 +34,7 @@ use Rattle.qp_multi.specs.Receipts.{Settles}
 use Rattle.qp_multi.specs.Rooms.{MakesRoom}
 use Rattle.qp_multi.specs.Tries.{Grown, Spares, Tried}
 use Rattle.qp_multi.specs.Turns.{Agrees, cells_with}
-use Rattle.qp_multi.proofs.CapacityLaws.{bounds_part, cramped_draft, cramped_of, done_roomy, each_cramped, each_on, last_cells, last_operations, none_wanting, rows_narrowed, same_part, short_roomy, some_passes}
+use Rattle.qp_multi.proofs.CapacityLaws.{bounds_part, cramped_working, cramped_of, done_roomy, each_cramped, each_on, last_cells, last_operations, none_wanting, rows_narrowed, same_part, short_roomy, some_passes}
 use Rattle.qp_multi.proofs.BoundLaws.{last_ways, small_on, ways_part, work_part, work_whole}
 use Rattle.qp_multi.proofs.CauseLaws.{each_needed}
 use Rattle.qp_multi.proofs.CrowdLaws.{base_same, published_small, spread_few, tried_small, undone_small}
@@ -49,7 +49,7 @@ use Rattle.qp_multi.proofs.WordsLaws.{freed_chunks}
 
 -- ---- an operation was tried
 
-pub tried_done : (c : TrieChange) (d : Draft) (w : Known) (n : Ledger) (new : Option ℕ) (operations : List Operation) → Works d → LeadsItem c → IsLedger n → Tried c d.root d.seat.place.me.0 d.usage w n (Ok new) → operations ≡ d.log.operations ++ operation_of c ∷ [] → HasRoom d → WorksRoomy n w.seen operations
+pub tried_done : (c : TrieChange) (d : WorkingVersion) (w : Known) (n : Ledger) (new : Option ℕ) (operations : List Operation) → Works d → LeadsItem c → IsLedger n → Tried c d.root d.seat.place.me.0 d.usage w n (Ok new) → operations ≡ d.log.operations ++ operation_of c ∷ [] → HasRoom d → WorksRoomy n w.seen operations
 tried_done c d w n new operations works leads is t log room =
     let on = words_go_on d.seat.place.me.0 w (words_of w.turn) t.same in
     subst (WorksRoomy n w.seen) (sym log)
@@ -67,7 +67,7 @@ kept_roomy s t u operations opening history r =
           works (work_part s t operations [] opening history (subst (BoundsWork most t) (sym (append-nil operations)) within))) r.works;
     }
 
-pub tried_failed : (c : TrieChange) (d : Draft) (w : Known) (n : Ledger) (x : NotDone) → Works d → LeadsItem c → IsLedger n → Tried c d.root d.seat.place.me.0 d.usage w n (Err x) → HasRoom d → WorksRoomy n w.seen d.log.operations
+pub tried_failed : (c : TrieChange) (d : WorkingVersion) (w : Known) (n : Ledger) (x : NotDone) → Works d → LeadsItem c → IsLedger n → Tried c d.root d.seat.place.me.0 d.usage w n (Err x) → HasRoom d → WorksRoomy n w.seen d.log.operations
 tried_failed c d w n not_done.Refused works leads is t room =
     let on = words_go_on d.seat.place.me.0 w (words_of w.turn) t.same in
     subst (λ (u : Ledger). WorksRoomy u w.seen d.log.operations) (sym (t.denied refl)) (kept_roomy d.seat.place.me.0.seen w.seen d.usage d.log.operations on.opening on.history room)
@@ -75,8 +75,8 @@ tried_failed c d w n (not_done.Full f) works leads is t room =
     let on = words_go_on d.seat.place.me.0 w (words_of w.turn) t.same in
     short_roomy d.usage n d.seat.place.me.0.seen w.seen d.log.operations f is t.spares on.opening on.history (few_consumed d c n works leads t.consumes) (t.full f refl) room
 
-pub tried_cramped : (c : TrieChange) (d : Draft) (w : Known) (n : Ledger) (f : Shortage) → Works d → LeadsItem c → Tried c d.root d.seat.place.me.0 d.usage w n (Err (not_done.Full f)) → HasRoom d → IsCramped d
-tried_cramped c d w n f works leads t room = cramped_draft d (cramped_of d.usage n d.seat.place.me.0.seen d.log.operations f t.spares.grown.wide (few_consumed d c n works leads t.consumes) (t.full f refl) room)
+pub tried_cramped : (c : TrieChange) (d : WorkingVersion) (w : Known) (n : Ledger) (f : Shortage) → Works d → LeadsItem c → Tried c d.root d.seat.place.me.0 d.usage w n (Err (not_done.Full f)) → HasRoom d → IsCramped d
+tried_cramped c d w n f works leads t room = cramped_working d (cramped_of d.usage n d.seat.place.me.0.seen d.log.operations f t.spares.grown.wide (few_consumed d c n works leads t.consumes) (t.full f refl) room)
 
 -- ---- the rows that are left
 
@@ -108,7 +108,7 @@ keeps_round u n versions e = subst (KeepsRows u) (sym e) (keeps_narrowed u versi
 pub keeps_then : {u m n : Ledger} → KeepsRows u m → KeepsRows m n → KeepsRows u n
 keeps_then a b = record { passes = b.passes ∙ a.passes; wide = b.wide ∙ a.wide; rows = λ c few. b.rows c (a.rows c few); base = b.base ∙ a.base }
 
-pub keeps_made : {first left : Draft} → MakesRoom first left → KeepsRows first.usage left.usage
+pub keeps_made : {first left : WorkingVersion} → MakesRoom first left → KeepsRows first.usage left.usage
 keeps_made {first} {left} m =
     keeps_then (keeps_round first.usage m.room.usage (kept_versions m.room.usage) m.before.round.frees)
     (keeps_then (keeps_grown m.evacuates.grown) (keeps_round m.emptied.usage left.usage (kept_versions left.usage) m.behind.round.frees))
@@ -121,17 +121,17 @@ rests_kept u n s t k opening history =
     small_on u n s t k.wide opening (same_part s t history) (λ most small b some r. record { rows = k.rows most r.rows; base = let e = k.base in let a = r.base in omega arith })
 
 -- an operation is done, or it isn't
-pub no_fewer : {o : Operation} {denied : List Entry → Type 0} {old new : Draft} {B : Type 0} (r : Result (Unit {0}) NotDone) → Operates o denied old new (IsOk r) B → length old.log.operations ≤ length new.log.operations
+pub no_fewer : {o : Operation} {denied : List Entry → Type 0} {old new : WorkingVersion} {B : Type 0} (r : Result (Unit {0}) NotDone) → Operates o denied old new (IsOk r) B → length old.log.operations ≤ length new.log.operations
 no_fewer {o} {denied} {old} {new} (Ok x) h = let e = ap (λ (os : List Operation). length os) (h.done refl) ∙ length-append old.log.operations (o ∷ []) in omega arith
 no_fewer {o} {denied} {old} {new} (Err x) h = let e = ap (λ (os : List Operation). length os) (h.stays (λ ok. cc)) in omega arith
 
 -- the operations are as before, or one more
-pub begins_with : {o : Operation} {denied : List Entry → Type 0} {old new : Draft} {B : Type 0} (r : Result (Unit {0}) NotDone) → Operates o denied old new (IsOk r) B → (more : List Operation) × (new.log.operations ≡ old.log.operations ++ more)
+pub begins_with : {o : Operation} {denied : List Entry → Type 0} {old new : WorkingVersion} {B : Type 0} (r : Result (Unit {0}) NotDone) → Operates o denied old new (IsOk r) B → (more : List Operation) × (new.log.operations ≡ old.log.operations ++ more)
 begins_with {o} {denied} {old} {new} (Ok x) h = (o ∷ [], h.done refl)
 begins_with {o} {denied} {old} {new} (Err x) h = ([], h.stays (λ ok. cc) ∙ sym (append-nil old.log.operations))
 
 -- where the numbers aren't those of a roomy table, nothing is said of what was given
-pub cramped_room : (d first e : Draft) → HasRoom d → IsCramped d → KeepsRows d.usage e.usage → GoesOn d.seat.place.me.0 e.seat.place.me.0 → (more : List Operation) × (e.log.operations ≡ d.log.operations ++ more)
+pub cramped_room : (d first e : WorkingVersion) → HasRoom d → IsCramped d → KeepsRows d.usage e.usage → GoesOn d.seat.place.me.0 e.seat.place.me.0 → (more : List Operation) × (e.log.operations ≡ d.log.operations ++ more)
     → IsLedger first.usage → Spares d.usage first.usage → working_set first ≡ working_set d → length first.usage.given ≡ length d.usage.given → StaysSmall first e.usage → HasRoom e
 cramped_room d first e room cramped keeps on more is spares same wide stays =
     let s = d.seat.place.me.0.seen in
@@ -149,7 +149,7 @@ cramped_room d first e room cramped keeps on more is spares same wide stays =
     }
 
 -- a first try found no room, and what made room and tried again found none
-pub crowded_by : (old first d : Draft) (key : List ℕ) (written : ℕ) (kept : List ℕ) → HasRoom old → Crowds first d key written → GoesOn old.seat.place.me.0 d.seat.place.me.0 → d.log.operations ≡ old.log.operations
+pub crowded_by : (old first d : WorkingVersion) (key : List ℕ) (written : ℕ) (kept : List ℕ) → HasRoom old → Crowds first d key written → GoesOn old.seat.place.me.0 d.seat.place.me.0 → d.log.operations ≡ old.log.operations
     → IsLedger first.usage → Spares old.usage first.usage → working_set first ≡ working_set old → length d.usage.given ≡ length old.usage.given → kept ≡ kept_versions d.usage → IsCrowded d key written (length kept)
 crowded_by old first d key written kept room k on log is spares same wide told = record {
   path = k.path;
@@ -170,27 +170,27 @@ crowded_by old first d key written kept room k on log is spares same wide told =
 
 -- ---- a working set is made ready for a commit
 
-pub whole_where : (d e : Draft) (so : Type 0) → HasRoom d → free_count e.usage ≡ 0 → free_count d.usage + 1 ≤ free_count e.usage + (cells (working_set d) / 769 + 1) → WhereRoomy d so
+pub whole_where : (d e : WorkingVersion) (so : Type 0) → HasRoom d → free_count e.usage ≡ 0 → free_count d.usage + 1 ≤ free_count e.usage + (cells (working_set d) / 769 + 1) → WhereRoomy d so
 whole_where d e so room none asks c o b fits roomy =
     let r = subst (λ (p : ℕ). is_roomy p c o (length d.usage.given)) (sym d.agrees.passes) roomy in
     absurd (none_wanting c o d.usage e.usage (length d.log.operations) (cells (working_set d)) r b.operations (room.consumes c o b.some b.history r b.operations) fits none asks)
 
-pub alike_room : {first d : Draft} → IsAlike first d → HasRoom first → HasRoom d
+pub alike_room : {first d : WorkingVersion} → IsAlike first d → HasRoom first → HasRoom d
 alike_room {first} {d} e room =
     subst (λ (u : Ledger). WorksRoomy u d.seat.place.me.0.seen d.log.operations) (sym e.usage)
     (subst (λ (v : Known). WorksRoomy first.usage v.seen d.log.operations) (sym e.known)
     (subst (WorksRoomy first.usage first.seat.place.me.0.seen) (sym e.log) room))
 
--- where a number bounds the sets, it is so of that number: of another draft with the same sets
-pub small_where : {so also : ℕ → Type 0} (d e : Draft) → e.seat.place.me.0.seen ≡ d.seat.place.me.0.seen → e.log.operations ≡ d.log.operations → length e.usage.given ≡ length d.usage.given → ((most : ℕ) → so most → also most) → WhereSmall d so → WhereSmall e also
+-- where a number bounds the sets, it is so of that number: of another working version with the same sets
+pub small_where : {so also : ℕ → Type 0} (d e : WorkingVersion) → e.seat.place.me.0.seen ≡ d.seat.place.me.0.seen → e.log.operations ≡ d.log.operations → length e.usage.given ≡ length d.usage.given → ((most : ℕ) → so most → also most) → WhereSmall d so → WhereSmall e also
 small_where {so} {also} d e seen log wide then is most small some b =
     then most (is most small (subst (λ (k : ℕ). 4 ≤ k) wide some) (record {
       history = subst (BoundsWays most) seen b.history;
       work = subst (λ (s : AllSeen). BoundsWork most s d.log.operations) seen (subst (BoundsWork most e.seat.place.me.0.seen) log b.work);
     }))
 
--- what is so where the table is roomy, told of another draft with the same set
-where_on : (d e : Draft) (so also : Type 0) → e.seat.place.me.0.seen ≡ d.seat.place.me.0.seen → e.log.operations ≡ d.log.operations → e.usage.passes ≡ d.usage.passes → length e.usage.given ≡ length d.usage.given → (so → also) → WhereRoomy d so → WhereRoomy e also
+-- what is so where the table is roomy, told of another working version with the same set
+where_on : (d e : WorkingVersion) (so also : Type 0) → e.seat.place.me.0.seen ≡ d.seat.place.me.0.seen → e.log.operations ≡ d.log.operations → e.usage.passes ≡ d.usage.passes → length e.usage.given ≡ length d.usage.given → (so → also) → WhereRoomy d so → WhereRoomy e also
 where_on d e so also seen log passes wide then is c o b fits roomy =
     then (is c o
     (record {
@@ -201,26 +201,26 @@ where_on d e so also seen log passes wide then is c o b fits roomy =
     (subst (λ (es : List Entry). cells es ≤ c) (ap (λ (s : AllSeen). applied (version_seen s) e.log.operations) seen ∙ ap (applied (version_seen d.seat.place.me.0.seen)) log) fits)
     (subst (λ (p : ℕ). is_roomy p c o (length d.usage.given)) (sym e.agrees.passes ∙ passes ∙ d.agrees.passes) (subst (λ (k : ℕ). is_roomy e.seat.passes c o k) wide roomy)))
 
-pub alike_where : {first d : Draft} (so also : Type 0) → IsAlike first d → (so → also) → WhereRoomy d so → WhereRoomy first also
+pub alike_where : {first d : WorkingVersion} (so also : Type 0) → IsAlike first d → (so → also) → WhereRoomy d so → WhereRoomy first also
 alike_where {first} {d} so also e then is =
     where_on d first so also (sym (ap (λ (v : Known). v.seen) e.known)) (sym e.log) (sym (ap (λ (u : Ledger). u.passes) e.usage)) (sym (ap (λ (u : Ledger). length u.given) e.usage)) then is
 
-keeps_settled : {most : ℕ} {first d : Draft} {whole : Bool} → Settles most first d whole → KeepsRows first.usage d.usage
+keeps_settled : {most : ℕ} {first d : WorkingVersion} {whole : Bool} → Settles most first d whole → KeepsRows first.usage d.usage
 keeps_settled {most} {first} {d} s = elim (cases_lt most (sparse_count first.usage)) [
   | inl many ↦ keeps_grown (s.many many).grown
   | inr few ↦ subst (KeepsRows first.usage) (sym (s.few (omega arith)).0) (record { passes = refl; wide = refl; rows = λ c h. h; base = refl })
 ]
 
-pub settled_rows : {most : ℕ} {first d : Draft} {whole : Bool} → Settles most first d whole → HasRoom first → EachRoomy d.usage d.seat.place.me.0.seen (λ c _. RowsAreFew c d.usage.rows)
+pub settled_rows : {most : ℕ} {first d : WorkingVersion} {whole : Bool} → Settles most first d whole → HasRoom first → EachRoomy d.usage d.seat.place.me.0.seen (λ c _. RowsAreFew c d.usage.rows)
 settled_rows {most} {first} {d} s room = each_kept first.usage d.usage first.seat.place.me.0.seen d.seat.place.me.0.seen (keeps_settled s) (ap (λ (x : AllSeen). x.opening) s.seen) (ap (λ (x : AllSeen). x.history) s.seen) room.rows
 
-pub settled_thin : {most : ℕ} {first d : Draft} {whole : Bool} → most ≤ 8 → Settles most first d whole → (whole ≡ true → FewThin most d.usage) → WhereRoomy first (whole ≡ true) → WhereRoomy d (FewThin 8 d.usage)
+pub settled_thin : {most : ℕ} {first d : WorkingVersion} {whole : Bool} → most ≤ 8 → Settles most first d whole → (whole ≡ true → FewThin most d.usage) → WhereRoomy first (whole ≡ true) → WhereRoomy d (FewThin 8 d.usage)
 settled_thin {most} {first} {d} {whole} few s thin is =
     let k = keeps_settled s in
     where_on first d (whole ≡ true) (FewThin 8 d.usage) s.seen s.log k.passes k.wide (λ w. let a = thin w in omega arith) is
 
 -- what is made ready for a commit meets few chunks
-pub ready_where : (most : ℕ) (first d : Draft) (whole : Bool) → most ≤ 8 → IsLedger d.usage → Settles most first d whole → (whole ≡ true → FewThin most d.usage)
+pub ready_where : (most : ℕ) (first d : WorkingVersion) (whole : Bool) → most ≤ 8 → IsLedger d.usage → Settles most first d whole → (whole ≡ true → FewThin most d.usage)
     → (whole ≡ false → (free_count d.usage ≡ 0) × (free_count first.usage + 1 ≤ free_count d.usage + (cells (working_set first) / 769 + 1))) → HasRoom first → WhereSmall first (IsSmall d.usage)
 ready_where most first d whole few is s thin stopped room n fits some b =
     let same : working_set d ≡ working_set first = set_stays first d s.goes_on s.log in
@@ -229,7 +229,7 @@ ready_where most first d whole few is s thin stopped room n fits some b =
     (λ none. let t = stopped none in (t.0, subst (λ (es : List Entry). free_count first.usage + 1 ≤ free_count d.usage + (cells es / 769 + 1)) (sym same) t.1))
     (room.works n fits some b.history b.work)
 
-pub settled_small : {most : ℕ} {first d : Draft} {whole : Bool} → Settles most first d whole → WhereSmall first (IsSmall d.usage) → WhereSmall d (IsSmall d.usage)
+pub settled_small : {most : ℕ} {first d : WorkingVersion} {whole : Bool} → Settles most first d whole → WhereSmall first (IsSmall d.usage) → WhereSmall d (IsSmall d.usage)
 settled_small {most} {first} {d} {whole} s is = small_where first d s.seen s.log (keeps_settled s).wide (λ n small. small) is
 
 -- ---- no transaction is under way
@@ -251,7 +251,7 @@ undone_rests cells u n count s t after agrees opening history rows rests =
     (each_on u (freed (restored u)) s t refl (freed_chunks (restored u)) opening (same_part s t history) (λ c o b few. few) rows)
     (small_on u (freed (restored u)) s t (freed_chunks (restored u)) opening (same_part s t history) (λ most small b some r. undone_small most u r) rests))
 
-pub published_rests : (cells_now : Cells) (d : Draft) (n : Ledger) (count version : ℕ) (versions : List ℕ) (t : AllSeen) (entry : Commit (List Operation)) → IsLedger d.usage → Works d → n ≡ freed (narrowed (frozen d.usage version) versions) → Agrees cells_now n count
+pub published_rests : (cells_now : Cells) (d : WorkingVersion) (n : Ledger) (count version : ℕ) (versions : List ℕ) (t : AllSeen) (entry : Commit (List Operation)) → IsLedger d.usage → Works d → n ≡ freed (narrowed (frozen d.usage version) versions) → Agrees cells_now n count
     → t.opening ≡ d.seat.place.me.0.seen.opening → t.history ≡ d.seat.place.me.0.seen.history ++ entry ∷ [] → entry.change ≡ d.log.operations
     → EachRoomy d.usage d.seat.place.me.0.seen (λ c _. RowsAreFew c d.usage.rows) → WhereRoomy d (FewThin 8 d.usage) → WhereSmall d (IsSmall d.usage) → RestsRoomy n t
 published_rests cells_now d n count version versions t entry is works after agrees opening history change rows thin small =
@@ -263,7 +263,7 @@ published_rests cells_now d n count version versions t entry is works after agre
         let r : is_roomy d.usage.passes c o (length d.usage.given) = subst (λ (k : ℕ). is_roomy d.usage.passes c o k) (freed_chunks (narrowed (frozen d.usage version) versions)) roomy in
         let fits : cells (working_set d) ≤ c = subst (λ (os : List Operation). cells (applied (version_seen d.seat.place.me.0.seen) os) ≤ c) change (last_cells d.seat.place.me.0.seen t entry opening history b) in
         let done : length d.log.operations ≤ o = subst (λ (os : List Operation). length os ≤ o) change (last_operations d.seat.place.me.0.seen t entry history b) in
-        let bounds : BoundsDraft c o d = record { some = some; history = before; operations = done } in
+        let bounds : BoundsWorking c o d = record { some = some; history = before; operations = done } in
         let met = met_few d.usage (cells (working_set d)) is (thin c o bounds fits (subst (λ (p : ℕ). is_roomy p c o (length d.usage.given)) d.agrees.passes r)) (live_few (HasCell (cells_with d.usage d.seat.place.me.0.turn)) (is_used d.usage) d.usage d.root (working_set d) is works.stands) in
         let size = set_size d.usage.live in
         rows_narrowed c versions (d.usage.rows ++ record { version = version; chunks = row_of d.usage.live } ∷ [])

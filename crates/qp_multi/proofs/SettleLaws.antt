@@ -4,10 +4,10 @@ use Rattle.trie_model.specs.Keys.{Entry}
 use Rattle.chunk_usage.specs.Counting.{sparse_count}
 use Rattle.chunk_usage.specs.Ledger.{Ledger, free_count}
 use Rattle.qp_multi.specs.declared.commit.Receipt.{Receipt}
-use Rattle.qp_multi.specs.declared.desk.Draft.{Draft}
+use Rattle.qp_multi.specs.declared.writer.WorkingVersion.{WorkingVersion}
 use Rattle.qp_multi.specs.declared.meaning.Operation.{Operation}
 use Rattle.qp_multi.specs.Bounds.{WhereRoomy}
-use Rattle.qp_multi.specs.Drafts.{Works, Commits, working_set}
+use Rattle.qp_multi.specs.WorkingVersions.{Works, Commits, working_set}
 use Rattle.qp_multi.specs.Keepings.{GoesOn}
 use Rattle.qp_multi.specs.Movings.{Evacuates, FewThin}
 use Rattle.qp_multi.specs.Operations.{applied}
@@ -18,7 +18,7 @@ use Rattle.qp_multi.proofs.WorkLaws.{commits_from, set_stays}
 
 -- where few chunks are sparse, and where what lay in them was moved
 
-pub settles_few : {most : ℕ} (d : Draft) → Works d → sparse_count d.usage ≤ most → Settles most d d true
+pub settles_few : {most : ℕ} (d : WorkingVersion) → Works d → sparse_count d.usage ≤ most → Settles most d d true
 settles_few d works few = record {
   goes_on = record { pass = refl; opening = refl; history = refl; namings = ([], sym (append-nil d.seat.place.me.0.seen.namings)) };
   seen = refl;
@@ -28,7 +28,7 @@ settles_few d works few = record {
   many = λ many. absurd (omega arith);
 }
 
-pub settles_many : {most : ℕ} {first d : Draft} (whole : Bool) → most < sparse_count first.usage → GoesOn first.seat.place.me.0 d.seat.place.me.0 → d.seat.place.me.0.seen ≡ first.seat.place.me.0.seen → Works d → d.log.operations ≡ first.log.operations
+pub settles_many : {most : ℕ} {first d : WorkingVersion} (whole : Bool) → most < sparse_count first.usage → GoesOn first.seat.place.me.0 d.seat.place.me.0 → d.seat.place.me.0.seen ≡ first.seat.place.me.0.seen → Works d → d.log.operations ≡ first.log.operations
     → Evacuates first.usage d.usage (ended whole) → Settles most first d whole
 settles_many whole many on seen works log moved = record {
   goes_on = on;
@@ -40,15 +40,15 @@ settles_many whole many on seen works log moved = record {
 }
 
 -- the same view, usage and log
-pub record IsAlike (first d : Draft) : Type 0 where
+pub record IsAlike (first d : WorkingVersion) : Type 0 where
   pub known : d.seat.place.me.0 ≡ first.seat.place.me.0
   pub usage : d.usage ≡ first.usage
   pub log : d.log.operations ≡ first.log.operations
 
-pub alike_set : {first d : Draft} → IsAlike first d → working_set d ≡ working_set first
+pub alike_set : {first d : WorkingVersion} → IsAlike first d → working_set d ≡ working_set first
 alike_set {first} {d} e = ap (applied (version_seen d.seat.place.me.0.seen)) e.log ∙ ap (λ (v : Known). applied (version_seen v.seen) first.log.operations) e.known
 
-module _ {most : ℕ} {first m d : Draft} {whole : Bool} (e : IsAlike first m) (s : Settles most m d whole) where
+module _ {most : ℕ} {first m d : WorkingVersion} {whole : Bool} (e : IsAlike first m) (s : Settles most m d whole) where
   pub settled_set : working_set d ≡ working_set first
   settled_set = set_stays m d s.goes_on s.log ∙ alike_set e
 

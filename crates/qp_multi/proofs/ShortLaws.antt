@@ -16,9 +16,9 @@ use Rattle.trie_write.specs.Roots.{OnPath}
 use Rattle.trie_space.specs.Standing.{Standing}
 use Rattle.shared_cells.specs.Cells.{HasCell}
 use Rattle.qp_multi.specs.declared.change.TrieChange.{TrieChange}
-use Rattle.qp_multi.specs.declared.desk.Draft.{Draft}
+use Rattle.qp_multi.specs.declared.writer.WorkingVersion.{WorkingVersion}
 use Rattle.qp_multi.specs.Changes.{LeadsItem, key_of, written_by}
-use Rattle.qp_multi.specs.Drafts.{Works, working_set}
+use Rattle.qp_multi.specs.WorkingVersions.{Works, working_set}
 use Rattle.qp_multi.specs.Tries.{PathHas}
 use Rattle.qp_multi.specs.Turns.{cells_with}
 use Rattle.qp_multi.proofs.FullLaws.{few_written}
@@ -46,7 +46,7 @@ short_path has used live None key es s tells = (0, refl, omega arith)
 short_path has used live (Some r) key es s tells = (twigs_on_path key s.0, (s.0, es, s.1, tells, refl), (let a = path_short key 0 s.0 s.1.trie.shape in omega arith))
 
 -- no more than 40 chunks hold: 27,803 cells, of which 30,760 could be
-pub few_consumed : (d : Draft) (c : TrieChange) (new : Ledger) → Works d → LeadsItem c → ((twigs : ℕ) → PathHas d.seat.place.me.0 d.usage d.root (key_of c) twigs → consumed new ≤ consumed d.usage + (written_by c + twigs)) → consumed new ≤ consumed d.usage + 30760
+pub few_consumed : (d : WorkingVersion) (c : TrieChange) (new : Ledger) → Works d → LeadsItem c → ((twigs : ℕ) → PathHas d.seat.place.me.0 d.usage d.root (key_of c) twigs → consumed new ≤ consumed d.usage + (written_by c + twigs)) → consumed new ≤ consumed d.usage + 30760
 few_consumed d c new works leads consumes =
     let p = short_path (HasCell (cells_with d.usage d.seat.place.me.0.turn)) (is_used d.usage) (λ k. slice_index d.usage.live k) d.root (key_of c) (working_set d) works.stands works.tells in
     let a = consumes p.0 p.1 in

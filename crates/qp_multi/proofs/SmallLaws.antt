@@ -12,11 +12,11 @@ use Rattle.chunk_usage.specs.Handing.{consumed}
 use Rattle.chunk_usage.specs.Keeping.{frozen}
 use Rattle.shared_cells.specs.Cells.{HasCell}
 use Rattle.qp_multi.specs.Capacity.{given_count}
-use Rattle.qp_multi.specs.Drafts.{working_set}
+use Rattle.qp_multi.specs.WorkingVersions.{working_set}
 use Rattle.qp_multi.specs.Movings.{FewThin}
 use Rattle.qp_multi.specs.Receipts.{Settles}
 use Rattle.qp_multi.specs.Turns.{cells_with}
-use Rattle.qp_multi.specs.declared.desk.Draft.{Draft}
+use Rattle.qp_multi.specs.declared.writer.WorkingVersion.{WorkingVersion}
 use Rattle.qp_multi.proofs.GivenLaws.{given_consumed}
 use Rattle.qp_multi.proofs.OpenLaws.{clear, clear_is}
 use Rattle.qp_multi.proofs.ThinLaws.{live_few, set_size}
@@ -25,7 +25,7 @@ use Rattle.qp_multi.specs.Crowds.{RestsSmall, RowsAreFew, WorksSmall, is_met, me
 use Rattle.qp_multi.proofs.CrowdLaws.{bump_given, rows_same, size_met, spread_few, stopped_met, thin_small}
 
 -- a working set made ready for a commit meets few chunks: where all was moved, or nothing was due, by its own cells; where no chunk was free, as before
-pub ready_small : (c most : ℕ) (first d : Draft) (whole : Bool) → c ≤ 768 → 4 ≤ length first.usage.given → most ≤ 8 → IsLedger d.usage → cells (working_set d) ≤ c → Settles most first d whole → (whole ≡ true → FewThin most d.usage)
+pub ready_small : (c most : ℕ) (first d : WorkingVersion) (whole : Bool) → c ≤ 768 → 4 ≤ length first.usage.given → most ≤ 8 → IsLedger d.usage → cells (working_set d) ≤ c → Settles most first d whole → (whole ≡ true → FewThin most d.usage)
     → (whole ≡ false → (free_count d.usage ≡ 0) × (free_count first.usage + 1 ≤ free_count d.usage + (cells (working_set d) / 769 + 1)))
     → WorksSmall c first.usage → IsSmall d.usage c
 ready_small c most first d true small chunks few is fits s thin stopped w = record {

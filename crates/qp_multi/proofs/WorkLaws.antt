@@ -16,7 +16,7 @@ use Rattle.qp_multi.specs.declared.change.TrieChange.{TrieChange}
 use Rattle.trie_write.specs.declared.refusal.NotDone.{NotDone}
 use Rattle.trie_write.specs.declared.refusal.NotDone.TheVariants as not_done
 use Rattle.trie_write.specs.declared.refusal.NotDone.TheVariants.{Refused}
-use Rattle.qp_multi.specs.declared.desk.Draft.{Draft}
+use Rattle.qp_multi.specs.declared.writer.WorkingVersion.{WorkingVersion}
 use Rattle.chunk_usage.specs.Keeping.{freed, kept_versions, narrowed}
 use Rattle.qp_multi.specs.declared.kept.Versions.{Versions}
 use Rattle.qp_multi.specs.declared.refusal.OutOfSpace.{OutOfSpace}
@@ -27,7 +27,7 @@ use Rattle.qp_multi.specs.Turns.{cells_with}
 use Rattle.qp_multi.specs.Bases.{StandsFor}
 use Rattle.qp_multi.specs.Changes.{operation_of, IsRefused}
 use Rattle.qp_multi.specs.Bounds.{IsCrowded}
-use Rattle.qp_multi.specs.Drafts.{Works, Operates, IsFull, Between, Commits, working_set}
+use Rattle.qp_multi.specs.WorkingVersions.{Works, Operates, IsFull, Between, Commits, working_set}
 use Rattle.qp_multi.specs.Fulls.{CausedFrom, full_with}
 use Rattle.qp_multi.specs.Tries.{Tried}
 use Rattle.qp_multi.specs.Keepings.{GoesOn, KeptBy, Rounds, versions_in}
@@ -35,7 +35,7 @@ use Rattle.qp_multi.proofs.AttemptLaws.{rooted_there}
 use Rattle.qp_multi.proofs.GoesLaws.{words_go_on, goes_further, base_goes_on, applied_more}
 
 -- the operation was done
-pub operates_done : (c : TrieChange) (old new : Draft) → Works old → Tried c old.root old.seat.place.me.0 old.usage new.seat.place.me.0 new.usage (Ok new.root) → new.log.operations ≡ old.log.operations ++ operation_of c ∷ [] → new.seat.passes ≡ old.seat.passes
+pub operates_done : (c : TrieChange) (old new : WorkingVersion) → Works old → Tried c old.root old.seat.place.me.0 old.usage new.seat.place.me.0 new.usage (Ok new.root) → new.log.operations ≡ old.log.operations ++ operation_of c ∷ [] → new.seat.passes ≡ old.seat.passes
     → Operates (operation_of c) (IsRefused c) old new (IsOk {T = Unit {0}} {E = NotDone} (Ok tt)) (◌≡◌ {A = Result (Unit {0}) NotDone} (Ok tt) (Err Refused))
 operates_done c old new works t log passes =
     let v : Known = old.seat.place.me.0 in
@@ -82,7 +82,7 @@ pub version_on : {v w : Known} (a b : ℕ) → GoesOn v w → a ≡ length v.see
 version_on {v} {w} a b g old new = new ∙ ap length g.history ∙ sym old
 
 -- why the call found no room
-pub full_of : (room d : Draft) (full : Shortage) (f : OutOfSpace) → GoesOn room.seat.place.me.0 d.seat.place.me.0 → kept_versions d.usage ≡ kept_versions room.usage → ((n : ℕ) → Contains (kept_versions room.usage) n → (n ≡ room.seat.version) ⊎ IsNamed room.seat.place.me.0 n)
+pub full_of : (room d : WorkingVersion) (full : Shortage) (f : OutOfSpace) → GoesOn room.seat.place.me.0 d.seat.place.me.0 → kept_versions d.usage ≡ kept_versions room.usage → ((n : ℕ) → Contains (kept_versions room.usage) n → (n ≡ room.seat.version) ⊎ IsNamed room.seat.place.me.0 n)
     → (older : List ℕ) × (kept_versions room.usage ≡ older ++ room.seat.version ∷ []) → Lacks d.usage full → f.shortage ≡ full → versions_in f.kept ≡ kept_versions d.usage → IsFull d f
 full_of room d full f on same named ends lacks request kept =
     record {
@@ -96,7 +96,7 @@ full_of room d full f on same named ends lacks request kept =
     }
 
 -- the working set stays where no operation was done
-pub set_stays : (room d : Draft) → GoesOn room.seat.place.me.0 d.seat.place.me.0 → d.log.operations ≡ room.log.operations → working_set d ≡ working_set room
+pub set_stays : (room d : WorkingVersion) → GoesOn room.seat.place.me.0 d.seat.place.me.0 → d.log.operations ≡ room.log.operations → working_set d ≡ working_set room
 set_stays room d g log = ap (applied (version_seen d.seat.place.me.0.seen)) log ∙ ap (λ (es : List Entry). applied es room.log.operations) (base_goes_on g)
 
 -- what a commit of it makes, after a view that goes on
@@ -111,7 +111,7 @@ commits_from {v} {w} operations x g c = record {
 }
 
 -- an operation after a step that changed nothing of the working set
-pub operates_after : (o : Operation) (denied : List Entry → Type 0) (first room d : Draft) (A B : Type 0) → GoesOn first.seat.place.me.0 room.seat.place.me.0 → room.log.operations ≡ first.log.operations → room.seat.passes ≡ first.seat.passes
+pub operates_after : (o : Operation) (denied : List Entry → Type 0) (first room d : WorkingVersion) (A B : Type 0) → GoesOn first.seat.place.me.0 room.seat.place.me.0 → room.log.operations ≡ first.log.operations → room.seat.passes ≡ first.seat.passes
     → Operates o denied room d A B → Operates o denied first d A B
 operates_after o denied first room d A B on log passes h = record {
   known = goes_further on h.known;
@@ -122,23 +122,23 @@ operates_after o denied first room d A B on log passes h = record {
   refused = subst (λ (es : List Entry). B ↔ denied es) (set_stays first room on log) h.refused;
 }
 
--- ---- drafts that are there
+-- ---- working versions that are there
 
-pub record Both (P : Draft → Type 0) (R : Draft → Draft → Type 0) (old new : Option Draft) : Type 0 where
-  pub before : Draft
-  pub after : Draft
+pub record Both (P : WorkingVersion → Type 0) (R : WorkingVersion → WorkingVersion → Type 0) (old new : Option WorkingVersion) : Type 0 where
+  pub before : WorkingVersion
+  pub after : WorkingVersion
   pub old_is : old ≡ Some before
   pub new_is : new ≡ Some after
   pub met : P before
   pub related : R before after
 
-pub both : (P : Draft → Type 0) (R : Draft → Draft → Type 0) (old new : Option Draft) → IsSomeAnd old P → Between R old new → Both P R old new
+pub both : (P : WorkingVersion → Type 0) (R : WorkingVersion → WorkingVersion → Type 0) (old new : Option WorkingVersion) → IsSomeAnd old P → Between R old new → Both P R old new
 both P R (Some d) (Some e) p r = record { before = d; after = e; old_is = refl; new_is = refl; met = p; related = r }
 both P R (Some d) None p r = absurd r
 both P R None (Some e) p r = absurd r
 both P R None None p r = absurd r
 
-pub between_as : (R S : Draft → Draft → Type 0) (old new : Option Draft) → ((d e : Draft) → old ≡ Some d → new ≡ Some e → R d e → S d e) → Between R old new → Between S old new
+pub between_as : (R S : WorkingVersion → WorkingVersion → Type 0) (old new : Option WorkingVersion) → ((d e : WorkingVersion) → old ≡ Some d → new ≡ Some e → R d e → S d e) → Between R old new → Between S old new
 between_as R S (Some d) (Some e) f r = f d e refl refl r
 between_as R S (Some d) None f r = r
 between_as R S None (Some e) f r = r
@@ -146,7 +146,7 @@ between_as R S None None f r = r
 
 -- the same outcome under other names
 
-operates_as : (o : Operation) (denied : List Entry → Type 0) (old new : Draft) (A B C D : Type 0) → (C → A) → (A → C) → (B → D) → (D → B) → Operates o denied old new A B → Operates o denied old new C D
+operates_as : (o : Operation) (denied : List Entry → Type 0) (old new : WorkingVersion) (A B C D : Type 0) → (C → A) → (A → C) → (B → D) → (D → B) → Operates o denied old new A B → Operates o denied old new C D
 operates_as o denied old new A B C D done still forth back h = record {
   known = h.known;
   works = h.works;
@@ -157,7 +157,7 @@ operates_as o denied old new A B C D done still forth back h = record {
 }
 
 -- a refusal, told by another enum
-pub refusal_told : {E : Type 0} (o : Operation) (denied : List Entry → Type 0) (old new : Option Draft) (r : Result (Unit {0}) NotDone) (e : NotDone) (told : E) → r ≡ Err e → e ≡ Refused → Between (λ d f. Operates o denied d f (IsOk r) (r ≡ Err Refused)) old new
+pub refusal_told : {E : Type 0} (o : Operation) (denied : List Entry → Type 0) (old new : Option WorkingVersion) (r : Result (Unit {0}) NotDone) (e : NotDone) (told : E) → r ≡ Err e → e ≡ Refused → Between (λ d f. Operates o denied d f (IsOk r) (r ≡ Err Refused)) old new
     → Between (λ d f. Operates o denied d f (IsOk {T = Unit {0}} {E = E} (Err told)) (◌≡◌ {A = Result (Unit {0}) E} (Err told) (Err told))) old new
 refusal_told {E} o denied old new r e told is field =
     let here : r ≡ Err Refused = subst (λ (u : NotDone). r ≡ Err u) field is in
@@ -166,14 +166,14 @@ refusal_told {E} o denied old new r e told is field =
     (λ never. absurd cc) (λ done. subst (λ (x : Result (Unit {0}) NotDone). IsOk x) here done) (λ b. refl) (λ d. here) h)
 
 -- where a change finds no room, the cause that it tells holds with the list of kept versions that is told besides
-pub cause_told : (key : List ℕ) (written : ℕ) (asks : List ℕ → List ℕ) (old new : Option Draft) (r : Result (Unit {0}) NotDone) (e : NotDone) (full : Shortage) (told f : OutOfSpace) → r ≡ Err e → e ≡ not_done.Full full
+pub cause_told : (key : List ℕ) (written : ℕ) (asks : List ℕ → List ℕ) (old new : Option WorkingVersion) (r : Result (Unit {0}) NotDone) (e : NotDone) (full : Shortage) (told f : OutOfSpace) → r ≡ Err e → e ≡ not_done.Full full
     → (kept : Versions) × IfSome new (λ d. versions_in kept ≡ kept_versions d.usage) × (told ≡ full_with full kept) → told ≡ f
     → ((n : Shortage) (kept : Versions) → r ≡ Err (not_done.Full n) → IfSome new (λ d. versions_in kept ≡ kept_versions d.usage) → Between (λ d e. CausedFrom d e key written asks (full_with n kept)) old new)
     → Between (λ d e. CausedFrom d e key written asks f) old new
 cause_told key written asks old new r e full told f is field made same cause =
     subst (λ (x : OutOfSpace). Between (λ d e. CausedFrom d e key written asks x) old new) (sym made.2 ∙ same) (cause full made.0 (subst (λ (u : NotDone). r ≡ Err u) field is) made.1)
 
-pub crowded_told : (key : List ℕ) (written : ℕ) (new : Option Draft) (r : Result (Unit {0}) NotDone) (e : NotDone) (full : Shortage) (told f : OutOfSpace) → r ≡ Err e → e ≡ not_done.Full full
+pub crowded_told : (key : List ℕ) (written : ℕ) (new : Option WorkingVersion) (r : Result (Unit {0}) NotDone) (e : NotDone) (full : Shortage) (told f : OutOfSpace) → r ≡ Err e → e ≡ not_done.Full full
     → (kept : Versions) × IfSome new (λ d. versions_in kept ≡ kept_versions d.usage) × (told ≡ full_with full kept) → told ≡ f
     → ((n : Shortage) (kept : Versions) → r ≡ Err (not_done.Full n) → IfSome new (λ d. versions_in kept ≡ kept_versions d.usage) → IsSomeAnd new (λ d. IsCrowded d key written (length (versions_in kept))))
     → IsSomeAnd new (λ d. IsCrowded d key written (length (versions_in f.kept)))

@@ -7,12 +7,12 @@ use Rattle.chunk_usage.specs.declared.space.Shortage.{Shortage}
 use Rattle.chunk_usage.specs.Ledger.{Ledger, is_bump, is_given, free_count, reserve_of}
 use Rattle.chunk_usage.specs.Keeping.{is_in_rows, kept_versions}
 use Rattle.shared_cells.specs.History.{version_after}
-use Rattle.qp_multi.specs.declared.desk.Draft.{Draft}
+use Rattle.qp_multi.specs.declared.writer.WorkingVersion.{WorkingVersion}
 use Rattle.qp_multi.specs.declared.kept.Versions.{Versions}
 use Rattle.qp_multi.specs.declared.refusal.OutOfSpace.{OutOfSpace}
 use Rattle.qp_multi.specs.Operations.{applied}
 use Rattle.qp_multi.specs.Passes.{Known, first_version}
-use Rattle.qp_multi.specs.Drafts.{working_set}
+use Rattle.qp_multi.specs.WorkingVersions.{working_set}
 use Rattle.qp_multi.specs.Keepings.{versions_in}
 use Rattle.qp_multi.specs.Rooms.{Fails, MakesRoom}
 use Rattle.qp_multi.specs.Tries.{PathHas, PathHasEach}
@@ -33,7 +33,7 @@ full_with f versions = record { shortage = f; kept = versions }
 -- At the refused request of a call, behind a round and a freeing that left this usage.
 -- The call is for a key, and writes so many cells beside the twigs on the key's path. Where the branches there have so many twigs, it
 -- asks for these numbers of cells.
-pub record WhyOutOfSpace (after : Ledger) (d : Draft) (key : List ℕ) (written : ℕ) (asks : List ℕ → List ℕ) (f : OutOfSpace) : Type 0 where
+pub record WhyOutOfSpace (after : Ledger) (d : WorkingVersion) (key : List ℕ) (written : ℕ) (asks : List ℕ → List ℕ) (f : OutOfSpace) : Type 0 where
   -- no chunk but the reserve is free
   pub none_free : free_count d.usage ≤ reserve_of d.usage
   -- the bump chunk of that round, and the chunks that were allocated since: of `filled_cells` that were written one, at most
@@ -53,14 +53,14 @@ pub record WhyOutOfSpace (after : Ledger) (d : Draft) (key : List ℕ) (written 
   pub many_cells : length d.usage.given - reserve_of d.usage - 8 ≤ cells (working_set d) + cells_kept d.seat.place.me.0 (versions_in f.kept)
 
 -- The call's first try had found no room either, and this was left when room was made, with the versions that are told.
-pub record CausedBy (first d : Draft) (key : List ℕ) (written : ℕ) (asks : List ℕ → List ℕ) (f : OutOfSpace) : Type 0 where
-  pub left : Draft
+pub record CausedBy (first d : WorkingVersion) (key : List ℕ) (written : ℕ) (asks : List ℕ → List ℕ) (f : OutOfSpace) : Type 0 where
+  pub left : WorkingVersion
   pub makes : MakesRoom first left
   pub kept : versions_in f.kept ≡ kept_versions left.usage
   pub fails : Fails left d
   pub cause : WhyOutOfSpace left.usage d key written asks f
 
-pub record CausedFrom (old d : Draft) (key : List ℕ) (written : ℕ) (asks : List ℕ → List ℕ) (f : OutOfSpace) : Type 0 where
-  pub first : Draft
+pub record CausedFrom (old d : WorkingVersion) (key : List ℕ) (written : ℕ) (asks : List ℕ → List ℕ) (f : OutOfSpace) : Type 0 where
+  pub first : WorkingVersion
   pub fails : Fails old first
   pub caused : CausedBy first d key written asks f

@@ -3,7 +3,7 @@ pub mod Meanings
 pub mod Passes
 pub mod Turns
 pub mod Bases
-pub mod Drafts
+pub mod WorkingVersions
 pub mod Logged
 pub mod Changes
 pub mod Tries

@@ -6,8 +6,8 @@ use Rattle.trie_model.specs.Shape.{cells}
 use Rattle.trie_model.specs.Capacity.{filled_cells}
 use Rattle.chunk_usage.specs.Ledger.{Ledger, IsLedger, free_count}
 use Rattle.chunk_usage.specs.Counting.{is_sparse}
-use Rattle.evacuate.specs.declared.evacuation.Done.{Done}
-use Rattle.evacuate.specs.declared.evacuation.Done.TheVariants.{Whole, Stopped}
+use Rattle.evacuate.specs.declared.evacuation.EvacuationEnd.{EvacuationEnd}
+use Rattle.evacuate.specs.declared.evacuation.EvacuationEnd.TheVariants.{Whole, Stopped}
 use Rattle.evacuate.specs.Evacuations.{FillsNew, IsCleared, IsDense, HasSparse, refused}
 use Rattle.evacuate.specs.Fillings.{IsUsedUp}
 use Rattle.shared_cells.specs.Views.{words_of}
@@ -17,7 +17,7 @@ use Rattle.qp_multi.specs.Bases.{StandsFor}
 use Rattle.qp_multi.specs.Tries.{Grown}
 
 -- What lay in sparse chunks was moved, to chunks that were free, which it fills; where nothing did, nothing was done.
-pub record Evacuates (u n : Ledger) (done : Done) : Type 0 where
+pub record Evacuates (u n : Ledger) (done : EvacuationEnd) : Type 0 where
   pub ledger : IsLedger n
   pub grown : Grown u n
   pub fills : FillsNew u n
@@ -27,7 +27,7 @@ pub record Evacuates (u n : Ledger) (done : Done) : Type 0 where
   pub stopped : done ≡ Stopped → IsUsedUp n × HasSparse n
 
 -- The new root stands for what the root stood for. What the turn knows is the same but for the words.
-pub record Moved (root : Option ℕ) (v : Known) (u : Ledger) (w : Known) (n : Ledger) (new : Option ℕ) (done : Done) : Type 0 where
+pub record Moved (root : Option ℕ) (v : Known) (u : Ledger) (w : Known) (n : Ledger) (new : Option ℕ) (done : EvacuationEnd) : Type 0 where
   pub stands : (es : List Entry) → StandsFor v u root es → StandsFor w n new es
   pub same : w ≡ with_words v (words_of w.turn)
   pub evacuates : Evacuates u n done

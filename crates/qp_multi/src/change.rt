@@ -6,10 +6,10 @@ ghost use Rattle.qp_multi.specs.Prelude.{Entry, Lacks, consumed, account_of, Twi
 ghost use Rattle.qp_multi.specs.Prelude.{operated, IsRooted, kept_versions, kept_in, IsNamed, IsVersion, operation_of, key_of};
 ghost use Rattle.qp_multi.specs.Prelude.{written_by, asked_by, LeadsItem, IsRefused, versions_in, Versions, Spares, Tried};
 
-use crate::desk::Draft;
 use crate::freeing::free_unreached;
 use crate::keeping::make_round;
 use crate::meaning::{Law, Meaning, Operations, Version};
+use crate::writer::WorkingVersion;
 use chunk_cells::CellWrite;
 use chunk_usage::Usage;
 use packed_node::Ref;
@@ -57,25 +57,25 @@ pub(crate) fn change_trie<C: CellWrite>(
     }
 }
 
-impl Draft {
+impl WorkingVersion {
     ghost use Rattle.qp_multi.specs.Bounds.{Crowds, HasRoom, IsCramped, IsCrowded, StaysSmall};
     ghost use Rattle.chunk_usage.specs.Ledger.{IsLedger};
-    ghost use Rattle.qp_multi.specs.Drafts.{Works, Operates, IsFull};
+    ghost use Rattle.qp_multi.specs.WorkingVersions.{Works, Operates, IsFull};
     ghost use Rattle.qp_multi.specs.Fulls.{CausedBy, CausedFrom, full_with, version_at};
     ghost use Rattle.qp_multi.specs.Rooms.{Fails, FreesRoom, MakesRoom, SparesReserve};
-    ghost use Rattle.qp_multi.specs.declared.desk.Draft.{Draft as Left};
+    ghost use Rattle.qp_multi.specs.declared.writer.WorkingVersion.{WorkingVersion as Left};
 
     // The operation is done: its trie has this root.
-    fn with_done(self, root: Option<Ref>, change: &TrieChange<'_>) -> Draft
+    fn with_done(self, root: Option<Ref>, change: &TrieChange<'_>) -> WorkingVersion
         ensures seat { result.seat ≡ self.seat }
         ensures usage { result.usage ≡ self.usage }
         ensures root { result.root ≡ root }
         ensures log { result.log.operations ≡ self.log.operations ++ operation_of change.now ∷ [] }
     {
-        let mut draft = self;
-        draft.root = root;
-        draft.log = draft.log.then(change);
-        draft
+        let mut working = self;
+        working.root = root;
+        working.log = working.log.then(change);
+        working
     }
 
     // Tries an operation on the trie, in cells whose seat is named. What was done so far stays.
@@ -83,7 +83,7 @@ impl Draft {
         self,
         shared: &Shared<Version, Operations, Meaning<L>>,
         change: &TrieChange<'_>,
-    ) -> (Draft, Result<Option<Ref>, NotDone>)
+    ) -> (WorkingVersion, Result<Option<Ref>, NotDone>)
         requires table { self.seat.place.table_id ≡ shared.now.table.shared.table_id }
         requires lent { (self.seat.place.table_id ≡ B.table) × (self.seat.place.me.0 ≡ B.view) }
         requires leads { LeadsItem change.now }
@@ -94,7 +94,7 @@ impl Draft {
         ensures tried { Tried change.now self.root self.seat.place.me.0 self.usage result.0.seat.place.me.0 result.0.usage result.1 }
         ensures ledger { IsLedger result.0.usage }
     {
-        let Draft {
+        let WorkingVersion {
             seat,
             mut usage,
             base,
@@ -104,14 +104,14 @@ impl Draft {
         let mut cells = seat.lend::<Meaning<L>, B>(shared);
         let outcome = change_trie(&mut cells, &mut usage, root, change);
         usage.known(); // for the proof
-        let draft = Draft {
+        let working = WorkingVersion {
             seat: cells.into_joined(),
             usage,
             base,
             root,
             log,
         };
-        (draft, outcome)
+        (working, outcome)
     }
 
     // Tries an operation once. Where it is done, it is logged.
@@ -119,7 +119,7 @@ impl Draft {
         self,
         shared: &Shared<Version, Operations, Meaning<L>>,
         change: &TrieChange<'_>,
-    ) -> (Draft, Result<(), NotDone>)
+    ) -> (WorkingVersion, Result<(), NotDone>)
         requires table { self.seat.place.table_id ≡ shared.now.table.shared.table_id }
         requires leads { LeadsItem change.now }
         requires works { Works self }
@@ -134,15 +134,15 @@ impl Draft {
         ensures room { HasRoom self → HasRoom result.0 }
         ensures cramped { HasRoom self → (f : _) → result.1 ≡ Err (NotDone.Full f) → IsCramped self }
     {
-        let (draft, outcome) = self.try_once::<L, Brand>(shared, change);
+        let (working, outcome) = self.try_once::<L, Brand>(shared, change);
         match outcome {
-            Ok(new) => (draft.with_done(new, change), Ok(())),
-            Err(refusal) => (draft, Err(refusal)),
+            Ok(new) => (working.with_done(new, change), Ok(())),
+            Err(refusal) => (working, Err(refusal)),
         }
     }
 
     // Makes a round, and frees what nothing needs.
-    fn make_room<L: Law>(self, shared: &Shared<Version, Operations, Meaning<L>>) -> Draft
+    fn make_room<L: Law>(self, shared: &Shared<Version, Operations, Meaning<L>>) -> WorkingVersion
         requires table { self.seat.place.table_id ≡ shared.now.table.shared.table_id }
         requires works { Works self }
         ensures table { result.seat.place.table_id ≡ self.seat.place.table_id }
@@ -153,7 +153,7 @@ impl Draft {
         ensures numbers { (result.seat.version ≡ self.seat.version) × (result.seat.passes ≡ self.seat.passes) }
         ensures images { All (λ k. IsVersion k.image k.root (version_at result.seat.place.me.0 k.version)) (kept_in result.seat.place.me.0.turn) }
     {
-        let Draft {
+        let WorkingVersion {
             mut seat,
             mut usage,
             base,
@@ -162,7 +162,7 @@ impl Draft {
         } = self;
         make_round(shared, &mut seat, &mut usage);
         let (seat, _) = free_unreached::<L, Brand>(shared, seat, &mut usage);
-        Draft {
+        WorkingVersion {
             seat,
             usage,
             base,
@@ -178,7 +178,7 @@ impl Draft {
         self,
         shared: &Shared<Version, Operations, Meaning<L>>,
         change: &TrieChange<'_>,
-    ) -> (Draft, Result<(), NotDone>)
+    ) -> (WorkingVersion, Result<(), NotDone>)
         requires table { self.seat.place.table_id ≡ shared.now.table.shared.table_id }
         requires leads { LeadsItem change.now }
         requires works { Works self }
@@ -204,7 +204,7 @@ impl Draft {
         self,
         shared: &Shared<Version, Operations, Meaning<L>>,
         change: &TrieChange<'_>,
-    ) -> (Draft, Result<(), NotDone>)
+    ) -> (WorkingVersion, Result<(), NotDone>)
         requires table { self.seat.place.table_id ≡ shared.now.table.shared.table_id }
         requires leads { LeadsItem change.now }
         requires works { Works self }
@@ -220,10 +220,10 @@ impl Draft {
         ensures room { HasRoom self → HasRoom result.0 }
         ensures cramped { HasRoom self → (f : _) → result.1 ≡ Err (NotDone.Full f) → IsCramped self }
     {
-        let (draft, outcome) = self.attempt(shared, change);
+        let (working, outcome) = self.attempt(shared, change);
         match outcome {
-            Err(NotDone::Full(_)) => draft.change_at_last(shared, change),
-            outcome => (draft, outcome),
+            Err(NotDone::Full(_)) => working.change_at_last(shared, change),
+            outcome => (working, outcome),
         }
     }
 }

@@ -64,7 +64,7 @@ impl<L: Law, N: Named> Index<L, N> {
         if turn.place != place {
             return 0;
         }
-        turn.desk.seat.version
+        turn.writer.seat.version
     }
 
     /// Ends the index, and tells the number of its current version: as many commits were made. It is no less than what these

@@ -2,13 +2,13 @@
 ghost use Rattle.std.specs.Prelude.{◌≡◌, ◌↔◌, ◌+◌, ◌^◌, ◌<◌, ◌≤◌, true, false, All, IfOk, IfErr, IsErr, length};
 ghost use Rattle.qp_multi.specs.Prelude.{free_count, kept_in, pass_of, CanPublish, Published, applied, AreWithin, IsVersion, first_version};
 
-use crate::desk::{Desk, Draft};
 use crate::freeing::free_unreached;
 use crate::keeping::make_round;
 use crate::log::Log;
 use crate::meaning::{Law, Meaning, Operations, Version};
+use crate::writer::{WorkingVersion, WriterAtRest};
 use chunk_usage::Usage;
-use evacuate::Done;
+use evacuate::EvacuationEnd;
 use packed_node::Ref;
 use pin_core::{LAST_VERSION, Spent, next_version};
 use shared_cells::{JoinedSeat, PassSeat, Payload, Shared};
@@ -58,11 +58,11 @@ fn publish<L: Law, M: Payload<Operations>>(
     seat.publish::<Meaning<L>, M>(shared, root)
 }
 
-impl Draft {
+impl WorkingVersion {
     ghost use Rattle.qp_multi.specs.Bounds.{HasRoom, IsSmall, WhereRoomy, WhereSmall};
     ghost use Rattle.qp_multi.specs.Capacity.{EachRoomy};
     ghost use Rattle.qp_multi.specs.Crowds.{RowsAreFew};
-    ghost use Rattle.qp_multi.specs.Drafts.{Works, Commits, working_set};
+    ghost use Rattle.qp_multi.specs.WorkingVersions.{Works, Commits, working_set};
     ghost use Rattle.qp_multi.specs.Movings.{FewThin};
     ghost use Rattle.qp_multi.specs.Receipts.{Publishes, Recycles, Settles};
 
@@ -91,7 +91,7 @@ impl Draft {
         self,
         shared: &Shared<Version, Operations, Meaning<L>>,
         most: u32,
-    ) -> (Draft, bool)
+    ) -> (WorkingVersion, bool)
         requires table { self.seat.place.table_id ≡ shared.now.table.shared.table_id }
         requires works { Works self }
         requires few { most ≤ 8 }
@@ -108,10 +108,10 @@ impl Draft {
         if self.usage.sparse() <= most {
             return (self, true);
         }
-        let (draft, done) = self.evacuate::<L, Brand>(shared);
+        let (working, done) = self.evacuate::<L, Brand>(shared);
         match done {
-            Done::Whole => (draft, true),
-            Done::Stopped => (draft, false),
+            EvacuationEnd::Whole => (working, true),
+            EvacuationEnd::Stopped => (working, false),
         }
     }
 
@@ -120,7 +120,7 @@ impl Draft {
         self,
         shared: &Shared<Version, Operations, Meaning<L>>,
         whole: bool,
-    ) -> (Desk, PassSeat<Version, Operations>, Receipt)
+    ) -> (WriterAtRest, PassSeat<Version, Operations>, Receipt)
         requires table { self.seat.place.table_id ≡ shared.now.table.shared.table_id }
         requires newest { All (λ k. k.version ≤ self.seat.version) (kept_in self.seat.place.me.0.turn) }
         requires next { self.seat.version + 1 < 2 ^ 40 }
@@ -136,7 +136,7 @@ impl Draft {
         ensures whole { result.2.whole ≡ whole }
         ensures receipt { Publishes self result.1.place.me.0 result.2 }
     {
-        let Draft {
+        let WorkingVersion {
             mut seat,
             mut usage,
             base: _,
@@ -150,8 +150,8 @@ impl Draft {
         let (seat, freed) = free_unreached::<L, Brand>(shared, seat, &mut usage);
         let (seat, pass) = seat.split(shared);
         let receipt = Receipt::of(version, freed, &usage, whole);
-        let desk = Desk { seat, usage, root };
-        (desk, pass, receipt)
+        let writer = WriterAtRest { seat, usage, root };
+        (writer, pass, receipt)
     }
 
     /// Makes the working set the next version. Where there is none, the base stays. What lies in sparse chunks is moved first, where
@@ -160,7 +160,11 @@ impl Draft {
         self,
         shared: &Shared<Version, Operations, Meaning<L>>,
         most: u32,
-    ) -> (Desk, PassSeat<Version, Operations>, Result<Receipt, Spent>)
+    ) -> (
+        WriterAtRest,
+        PassSeat<Version, Operations>,
+        Result<Receipt, Spent>,
+    )
         requires table { self.seat.place.table_id ≡ shared.now.table.shared.table_id }
         requires works { Works self }
         requires room { HasRoom self }
@@ -175,16 +179,16 @@ impl Draft {
         ensures spent { IsErr result.2 ↔ (self.seat.version ≡ LAST_VERSION) }
         ensures last { IfErr result.2 (λ s. s.version ≡ self.seat.version) }
     {
-        let mut draft = self;
-        match draft.next_version(shared) {
+        let mut working = self;
+        match working.next_version(shared) {
             Ok(_) => {
-                let (draft, whole) = draft.settle(shared, most);
-                let (desk, pass, receipt) = draft.publish(shared, whole);
-                (desk, pass, Ok(receipt))
+                let (working, whole) = working.settle(shared, most);
+                let (writer, pass, receipt) = working.publish(shared, whole);
+                (writer, pass, Ok(receipt))
             }
             Err(spent) => {
-                let (desk, pass) = draft.undo(shared);
-                (desk, pass, Err(spent))
+                let (writer, pass) = working.undo(shared);
+                (writer, pass, Err(spent))
             }
         }
     }

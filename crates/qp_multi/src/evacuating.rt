@@ -2,24 +2,24 @@
 ghost use Rattle.std.specs.Prelude.{◌≡◌, ◌+◌, ◌/◌, ◌≤◌};
 ghost use Rattle.qp_multi.specs.Prelude.{kept_in, Evacuates};
 
-use crate::desk::Draft;
 use crate::meaning::{Law, Meaning, Operations, Version};
-use evacuate::Done;
+use crate::writer::WorkingVersion;
+use evacuate::EvacuationEnd;
 use shared_cells::{Lent, Shared};
 
-impl Draft {
+impl WorkingVersion {
     ghost use Rattle.trie_model.specs.Capacity.{filled_cells};
     ghost use Rattle.trie_model.specs.Shape.{cells};
     ghost use Rattle.chunk_usage.specs.Ledger.{free_count};
     ghost use Rattle.evacuate.specs.Evacuations.{refused};
-    ghost use Rattle.qp_multi.specs.Drafts.{Works, working_set};
+    ghost use Rattle.qp_multi.specs.WorkingVersions.{Works, working_set};
     ghost use Rattle.qp_multi.specs.Keepings.{GoesOn};
 
     /// Moves what the working set has in sparse chunks, in cells whose seat is named. The set is the same.
     pub(crate) fn evacuate<L: Law, B: Lent<Version, Operations>>(
         self,
         shared: &Shared<Version, Operations, Meaning<L>>,
-    ) -> (Draft, Done)
+    ) -> (WorkingVersion, EvacuationEnd)
         requires table { self.seat.place.table_id ≡ shared.now.table.shared.table_id }
         requires lent { (self.seat.place.table_id ≡ B.table) × (self.seat.place.me.0 ≡ B.view) }
         requires works { Works self }
@@ -33,7 +33,7 @@ impl Draft {
         ensures evacuates { Evacuates self.usage result.0.usage result.1 }
         ensures asks { free_count self.usage + refused result.1 ≤ free_count result.0.usage + (cells (working_set self) / filled_cells + 1) }
     {
-        let Draft {
+        let WorkingVersion {
             seat,
             mut usage,
             base,
@@ -43,13 +43,13 @@ impl Draft {
         let mut cells = seat.lend::<Meaning<L>, B>(shared);
         let (root, done) = evacuate::evacuate(&mut cells, &mut usage, root);
         usage.known(); // for the proof
-        let draft = Draft {
+        let working = WorkingVersion {
             seat: cells.into_joined(),
             usage,
             base,
             root,
             log,
         };
-        (draft, done)
+        (working, done)
     }
 }

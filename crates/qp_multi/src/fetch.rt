@@ -2,8 +2,8 @@
 ghost use Rattle.std.specs.Prelude.{◌≡◌, ◌≤◌, ◌+◌, ◌*◌, List, length};
 ghost use Rattle.qp_multi.specs.Prelude.{words_for, most_item_octets, Entry, Fetched, StandsFor};
 
-use crate::desk::Draft;
 use crate::meaning::{Law, Meaning, Operations, Version};
+use crate::writer::WorkingVersion;
 use chunk_usage::Usage;
 use packed_node::Ref;
 use shared_cells::{JoinedSeat, Lent, Shared};
@@ -42,8 +42,8 @@ fn fetch_item<L: Law, B: Lent<Version, Operations>>(
     (cells.into_joined(), found)
 }
 
-impl Draft {
-    ghost use Rattle.qp_multi.specs.Drafts.{Works, IsSame, working_set};
+impl WorkingVersion {
+    ghost use Rattle.qp_multi.specs.WorkingVersions.{Works, IsSame, working_set};
 
     /// Reads the item of a key of the working set into the beginning of `out`, and gives its length; `None` where the key is not
     /// there.
@@ -52,7 +52,7 @@ impl Draft {
         shared: &Shared<Version, Operations, Meaning<L>>,
         key: &Key,
         out: &mut [u8],
-    ) -> (Draft, Option<usize>)
+    ) -> (WorkingVersion, Option<usize>)
         requires table { self.seat.place.table_id ≡ shared.now.table.shared.table_id }
         requires works { Works self }
         requires room { most_item_octets ≤ length out.old }
@@ -60,7 +60,7 @@ impl Draft {
         ensures same { IsSame self result.0 }
         ensures item { Fetched key.now (working_set self) out.old out.new result.1 }
     {
-        let Draft {
+        let WorkingVersion {
             seat,
             usage,
             base,
@@ -68,13 +68,13 @@ impl Draft {
             log,
         } = self;
         let (seat, found) = fetch_item::<L, Brand>(shared, seat, &usage, root, key, out);
-        let draft = Draft {
+        let working = WorkingVersion {
             seat,
             usage,
             base,
             root,
             log,
         };
-        (draft, found)
+        (working, found)
     }
 }

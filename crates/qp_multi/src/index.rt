@@ -1,8 +1,8 @@
 //! The index, and what its lock keeps.
 ghost use Rattle.std.specs.Prelude.{◌≡◌, ◌≤◌, Some, slice_get};
 
-use crate::desk::Desk;
 use crate::meaning::{Law, Meaning, Named, Operations, Version};
+use crate::writer::WriterAtRest;
 use shared_cells::Shared;
 use std::marker::PhantomData;
 use std::sync::Mutex;
@@ -25,9 +25,9 @@ pub struct Index<L: Law, N: Named> {
 #[derive(Drop)]
 pub struct Turn<N: Named> {
     pub(crate) place: u32,
-    pub(crate) desk: Desk,
+    pub(crate) writer: WriterAtRest,
     pub(crate) names: PhantomData<N>,
-    ghost here: { slice_get N.tables place ≡ Some desk.seat.place.table_id },
+    ghost here: { slice_get N.tables place ≡ Some writer.seat.place.table_id },
 }
 
 impl<L: Law, N: Named> Index<L, N> {

@@ -12,9 +12,9 @@
 //!
 //! The turn is behind a lock: a seat at the table, the usage of its chunks, and what both know of each other
 //! (`specs/Turns.antt`). A transaction waits for it, and the pass joins it, so that a commit is the pass's own step. Lock and
-//! working set lie in a `Locked`, a local of the caller: a struct that has both a lock's guard and the `&mut` of a pass
+//! working set lie in a `WriteGuard`, a local of the caller: a struct that has both a lock's guard and the `&mut` of a pass
 //! could not tell, when it is dropped, that the pass is back. The operations of a transaction are a `Log`, which exists in
-//! proofs alone; the working set is what they make of the base (`specs/Drafts.antt`).
+//! proofs alone; the working set is what they make of the base (`specs/WorkingVersions.antt`).
 //!
 //! What is behind a lock is known by its type alone. So the types of an index have a parameter that names tables, each by its
 //! place, and an index, a pass, a note and the turn have the place of their table.
@@ -24,7 +24,6 @@ mod accounts;
 mod change;
 mod close;
 mod commit;
-mod desk;
 mod evacuating;
 mod fetch;
 mod freeing;
@@ -43,6 +42,7 @@ mod query;
 mod refusal;
 mod snapshot;
 mod transaction;
+mod writer;
 
 pub use commit::Receipt;
 pub use index::Index;
@@ -56,4 +56,4 @@ pub use pin_core::Spent;
 pub use query::Query;
 pub use refusal::{ChangeRefusal, InsertRefusal, OutOfSpace};
 pub use snapshot::Snapshot;
-pub use transaction::{Locked, Transaction, Update, Write};
+pub use transaction::{Transaction, Update, Write, WriteGuard};

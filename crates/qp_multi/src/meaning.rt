@@ -46,7 +46,7 @@ pub struct Meaning<L> {
     law: PhantomData<L>,
 }
 
-impl<L: Law> shared_cells::Law<Version, Operations> for Meaning<L> {
+impl<L: Law> shared_cells::HistoryLaw<Version, Operations> for Meaning<L> {
     ghost use Rattle.qp_multi.specs.Operations.{applied, AreWithin};
     ghost use Rattle.qp_multi.specs.Meanings.{IsVersion};
 

@@ -18,10 +18,10 @@ ghost use Rattle.qp_multi.specs.Bases.{StandsFor};
 ghost use Rattle.qp_multi.specs.Closings.{AreAll};
 ghost use Rattle.qp_multi.specs.Openings.{IsUnused, SeesFirst, Refuses, room_in};
 
-use crate::desk::Desk;
 use crate::index::{Index, Turn};
 use crate::meaning::{Law, Meaning, Named, Operations, Version};
 use crate::pass::Pass;
+use crate::writer::WriterAtRest;
 use chunk_usage::Usage;
 use chunk_usage::capacity::FILLED_CELLS;
 use packed_node::Ref;
@@ -178,12 +178,12 @@ fn tell_passes<L: Law, N: Named>(
 
 impl<L: Law, N: Named> Index<L, N> {
     // The turn after the opening, with its usage.
-    fn first_desk(
+    fn first_writer(
         shared: &Shared<Version, Operations, Meaning<L>>,
         turn: NewTurnSeat<Version, Operations>,
         usage: Usage,
         items: &[Item],
-    ) -> Desk
+    ) -> WriterAtRest
         requires table { turn.place.table_id ≡ shared.now.table.shared.table_id }
         requires size { shared.now.table.shared.key.chunks ≡ length usage.given }
         requires enough { 16 ≤ length usage.given }
@@ -203,7 +203,7 @@ impl<L: Law, N: Named> Index<L, N> {
         };
         let seat = open_turn::<L, Brand>(shared, turn, root, items);
         usage.freeze(0);
-        Desk { seat, usage, root }
+        WriterAtRest { seat, usage, root }
     }
 
     // An index whose version 0 has these items, for which there is room.
@@ -232,12 +232,12 @@ impl<L: Law, N: Named> Index<L, N> {
             turn,
             usage,
         } = blank;
-        let mut desk = Index::<L, N>::first_desk(&shared, turn, usage, items);
-        let passes = tell_passes(alloc, &shared, &mut desk.seat, seats, place)?;
+        let mut writer = Index::<L, N>::first_writer(&shared, turn, usage, items);
+        let passes = tell_passes(alloc, &shared, &mut writer.seat, seats, place)?;
         let count = passes.len() as u32;
         let turn = Turn {
             place,
-            desk,
+            writer,
             names: PhantomData,
         };
         let index = Index {

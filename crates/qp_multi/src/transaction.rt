@@ -10,7 +10,6 @@ ghost use Rattle.qp_multi.specs.Bounds.{HasRoom, IsCramped, IsCrowded};
 
 use crate::change::TrieChange;
 use crate::commit::Receipt;
-use crate::desk::{Desk, Draft};
 use crate::index::{Index, Turn};
 use crate::kept::Versions;
 use crate::kind::{Compaction, Heavy, Kind, Light};
@@ -18,6 +17,7 @@ use crate::lock::HeldLock;
 use crate::meaning::{Law, Meaning, Named, Operations, Version};
 use crate::pass::Pass;
 use crate::refusal::{ChangeRefusal, InsertRefusal, OutOfSpace};
+use crate::writer::{WorkingVersion, WriterAtRest};
 use chunk_usage::Shortage;
 use pin_core::{LAST_VERSION, Spent};
 use shared_cells::{PassSeat, Shared};
@@ -28,47 +28,47 @@ use trie_write::NotDone;
 
 /// Where a transaction keeps the lock and its working set: a local of the caller, which outlives the transaction. Where the transaction
 /// was forgotten, dropping this rolls it back.
-pub struct Locked<'i, L: Law, N: Named> {
+pub struct WriteGuard<'i, L: Law, N: Named> {
     lock: Option<HeldLock<'i, N>>,
     pub(crate) place: u32,
     pub(crate) shared: &'i Shared<Version, Operations, Meaning<L>>,
     /// It is away while a call works on it, and between transactions.
-    pub(crate) draft: Option<Draft>,
+    pub(crate) working: Option<WorkingVersion>,
     ghost named: { slice_get N.tables place ≡ Some shared.now.table.shared.table_id },
-    ghost here: { ForSome draft (λ d. d.seat.place.table_id ≡ shared.now.table.shared.table_id) },
-    ghost room: { ForSome draft HasRoom } by { Prim.hlevel props },
-    ghost both: { is_some lock ≡ is_some draft },
+    ghost here: { ForSome working (λ d. d.seat.place.table_id ≡ shared.now.table.shared.table_id) },
+    ghost room: { ForSome working HasRoom } by { Prim.hlevel props },
+    ghost both: { is_some lock ≡ is_some working },
 }
 
-/// Gives the turn back with this desk, and lets the lock go.
-fn leave<N: Named>(lock: HeldLock<'_, N>, place: u32, desk: Desk)
-    requires { slice_get N.tables place ≡ Some desk.seat.place.table_id }
+/// Gives the turn back with the writer at rest, and lets the lock go.
+fn leave<N: Named>(lock: HeldLock<'_, N>, place: u32, writer: WriterAtRest)
+    requires { slice_get N.tables place ≡ Some writer.seat.place.table_id }
 {
     let turn = Turn {
         place,
-        desk,
+        writer,
         names: PhantomData,
     };
     let _there = lock.put_back(turn);
 }
 
-impl<L: Law, N: Named> Drop for Locked<'_, L, N> {
+impl<L: Law, N: Named> Drop for WriteGuard<'_, L, N> {
     fn drop(self) {
         let Self {
             lock,
             place,
             shared,
-            draft,
+            working,
         } = self;
         let Some(lock) = lock else {
             return;
         };
-        let Some(draft) = draft else {
-            // The lock is held by a transaction, which has a draft.
+        let Some(working) = working else {
+            // The lock is held by a transaction, which has a working version.
             unreachable!()
         };
-        let (desk, _seat) = draft.undo(shared);
-        leave(lock, place, desk);
+        let (writer, _seat) = working.undo(shared);
+        leave(lock, place, writer);
     }
 }
 
@@ -76,7 +76,7 @@ impl<L: Law, N: Named> Drop for Locked<'_, L, N> {
 /// it back.
 pub struct Transaction<'t, 'i, L: Law, N: Named, K> {
     pub(crate) home: &'t mut Pass<N>,
-    pub(crate) locked: &'t mut Locked<'i, L, N>,
+    pub(crate) locked: &'t mut WriteGuard<'i, L, N>,
     kind: PhantomData<K>,
 }
 
@@ -84,10 +84,10 @@ pub type Write<'t, 'i, L, N> = Transaction<'t, 'i, L, N, Light>;
 
 pub type Update<'t, 'i, L, N> = Transaction<'t, 'i, L, N, Heavy>;
 
-impl<'i, L: Law, N: Named> Locked<'i, L, N> {
+impl<'i, L: Law, N: Named> WriteGuard<'i, L, N> {
     ghost use Rattle.qp_multi.specs.Changes.{operation_of, key_of, written_by, asked_by, LeadsItem, IsRefused};
     ghost use Rattle.trie_read.specs.Readings.{Fetched};
-    ghost use Rattle.qp_multi.specs.Drafts.{Works, Operates, IsFull, IsSame, Between, working_set};
+    ghost use Rattle.qp_multi.specs.WorkingVersions.{Works, Operates, IsFull, IsSame, Between, working_set};
     ghost use Rattle.qp_multi.specs.Fulls.{CausedFrom, full_with};
     ghost use Rattle.qp_multi.specs.Rooms.{SparesReserve};
     ghost use Rattle.qp_multi.specs.Keepings.{versions_in};
@@ -97,29 +97,29 @@ impl<'i, L: Law, N: Named> Locked<'i, L, N> {
     /// For transactions of an index, none of which has the lock by it yet.
     pub fn of(index: &'i Index<L, N>) -> Self
         ensures place { result.place ≡ index.now.place }
-        ensures none { IsNone result.draft }
+        ensures none { IsNone result.working }
     {
-        Locked {
+        WriteGuard {
             lock: None,
             place: index.place,
             shared: &index.shared,
-            draft: None,
+            working: None,
         }
     }
 
     // The lock and the working set, where there is a transaction.
-    fn take(&mut self) -> Option<(HeldLock<'i, N>, Draft)>
+    fn take(&mut self) -> Option<(HeldLock<'i, N>, WorkingVersion)>
         ensures place { self.new.place ≡ self.old.place }
-        ensures some { IfSome result (λ held. self.old.draft ≡ Some held.1) }
-        ensures none { IfNone result (IsNone self.old.draft) }
-        ensures gone { IsNone self.new.draft }
+        ensures some { IfSome result (λ held. self.old.working ≡ Some held.1) }
+        ensures none { IfNone result (IsNone self.old.working) }
+        ensures gone { IsNone self.new.working }
     {
-        let draft = self.draft.take()?;
+        let working = self.working.take()?;
         let Some(lock) = self.lock.take() else {
             // Where there is a working set, the lock is held.
             unreachable!()
         };
-        Some((lock, draft))
+        Some((lock, working))
     }
 
     // The pass of this seat, in its place.
@@ -138,46 +138,46 @@ impl<'i, L: Law, N: Named> Locked<'i, L, N> {
 
     // Does an operation on the working set.
     fn change(&mut self, change: &TrieChange<'_>) -> Result<(), NotDone>
-        requires works { IsSomeAnd self.old.draft Works }
+        requires works { IsSomeAnd self.old.working Works }
         requires leads { LeadsItem change.now }
         ensures place { self.new.place ≡ self.old.place }
         ensures operates { Between (λ d e. Operates (operation_of change.now) (IsRefused change.now) d e (IsOk result) (result ≡ Err NotDone.Refused))
-            self.old.draft self.new.draft }
-        ensures spares { Between SparesReserve self.old.draft self.new.draft }
-        ensures full { (f : _) (kept : Kept) → result ≡ Err (NotDone.Full f) → IfSome self.new.draft (λ d. versions_in kept ≡ kept_versions d.usage)
-            → IsSomeAnd self.new.draft (λ d. IsFull d (full_with f kept)) }
-        ensures cause { (f : _) (kept : Kept) → result ≡ Err (NotDone.Full f) → IfSome self.new.draft (λ d. versions_in kept ≡ kept_versions d.usage)
+            self.old.working self.new.working }
+        ensures spares { Between SparesReserve self.old.working self.new.working }
+        ensures full { (f : _) (kept : Kept) → result ≡ Err (NotDone.Full f) → IfSome self.new.working (λ d. versions_in kept ≡ kept_versions d.usage)
+            → IsSomeAnd self.new.working (λ d. IsFull d (full_with f kept)) }
+        ensures cause { (f : _) (kept : Kept) → result ≡ Err (NotDone.Full f) → IfSome self.new.working (λ d. versions_in kept ≡ kept_versions d.usage)
             → Between (λ d e. CausedFrom d e (key_of change.now) (written_by change.now) (asked_by change.now) (full_with f kept))
-            self.old.draft self.new.draft }
-        ensures cramped { (f : _) → result ≡ Err (NotDone.Full f) → IsSomeAnd self.old.draft IsCramped }
-        ensures crowded { (f : _) (kept : Kept) → result ≡ Err (NotDone.Full f) → IfSome self.new.draft (λ d. versions_in kept ≡ kept_versions d.usage)
-            → IsSomeAnd self.new.draft (λ d. IsCrowded d (key_of change.now) (written_by change.now) (length (versions_in kept))) }
+            self.old.working self.new.working }
+        ensures cramped { (f : _) → result ≡ Err (NotDone.Full f) → IsSomeAnd self.old.working IsCramped }
+        ensures crowded { (f : _) (kept : Kept) → result ≡ Err (NotDone.Full f) → IfSome self.new.working (λ d. versions_in kept ≡ kept_versions d.usage)
+            → IsSomeAnd self.new.working (λ d. IsCrowded d (key_of change.now) (written_by change.now) (length (versions_in kept))) }
     {
-        let Some(draft) = self.draft.take() else {
-            // A transaction's draft is there between two calls.
+        let Some(working) = self.working.take() else {
+            // A transaction's working version is there between two calls.
             unreachable!()
         };
-        let (draft, outcome) = draft.change(self.shared, change);
-        self.draft = Some(draft);
+        let (working, outcome) = working.change(self.shared, change);
+        self.working = Some(working);
         outcome
     }
 
     // The versions that are kept.
     fn kept(&self) -> Versions
-        requires { IsSome self.now.draft }
-        ensures { IfSome self.now.draft (λ d. versions_in result ≡ kept_versions d.usage) }
+        requires { IsSome self.now.working }
+        ensures { IfSome self.now.working (λ d. versions_in result ≡ kept_versions d.usage) }
     {
-        match &self.draft {
-            Some(draft) => Versions::of(&draft.usage),
-            // A transaction's draft is there between two calls.
+        match &self.working {
+            Some(working) => Versions::of(&working.usage),
+            // A transaction's working version is there between two calls.
             None => unreachable!(),
         }
     }
 
     // Why there is no room, with the versions that are kept.
     fn full(&self, shortage: Shortage) -> OutOfSpace
-        requires { IsSome self.now.draft }
-        ensures { (kept : Kept) × IfSome self.now.draft (λ d. versions_in kept ≡ kept_versions d.usage) × (result ≡ full_with shortage kept) }
+        requires { IsSome self.now.working }
+        ensures { (kept : Kept) × IfSome self.now.working (λ d. versions_in kept ≡ kept_versions d.usage) × (result ≡ full_with shortage kept) }
     {
         OutOfSpace {
             shortage,
@@ -187,40 +187,48 @@ impl<'i, L: Law, N: Named> Locked<'i, L, N> {
 
     // Reads an item of the working set.
     fn fetch(&mut self, key: &Key, out: &mut [u8]) -> Option<usize>
-        requires works { IsSomeAnd self.old.draft Works }
+        requires works { IsSomeAnd self.old.working Works }
         requires room { most_item_octets ≤ length out.old }
         ensures place { self.new.place ≡ self.old.place }
-        ensures same { Between IsSame self.old.draft self.new.draft }
-        ensures item { IfSome self.old.draft (λ d. Fetched key.now (working_set d) out.old out.new result) }
+        ensures same { Between IsSame self.old.working self.new.working }
+        ensures item { IfSome self.old.working (λ d. Fetched key.now (working_set d) out.old out.new result) }
     {
-        let Some(draft) = self.draft.take() else {
-            // A transaction's draft is there between two calls.
+        let Some(working) = self.working.take() else {
+            // A transaction's working version is there between two calls.
             unreachable!()
         };
-        let (draft, found) = draft.fetch(self.shared, key, out);
-        self.draft = Some(draft);
+        let (working, found) = working.fetch(self.shared, key, out);
+        self.working = Some(working);
         found
     }
 }
 
 impl<L: Law, N: Named> Index<L, N> {
     ghost use Rattle.qp_multi.specs.Bases.{CommitsAreWithin};
-    ghost use Rattle.qp_multi.specs.Drafts.{Begins};
+    ghost use Rattle.qp_multi.specs.WorkingVersions.{Begins};
     ghost use Rattle.qp_multi.specs.Capacity.{RestsRoomy};
     ghost use Rattle.qp_multi.specs.Kinds.{StartsAs};
 
     // The lock, and the turn out of it.
-    fn wait<'i, R: Wait>(&'i self, rt: &R) -> (HeldLock<'i, N>, Desk)
+    fn wait<'i, R: Wait>(&'i self, rt: &R) -> (HeldLock<'i, N>, WriterAtRest)
         ensures table { slice_get N.tables self.now.place ≡ Some result.1.seat.place.table_id }
         ensures passes { result.1.seat.passes ≡ self.now.passes }
     {
         for _ in rt.forever() {
             if let Some((lock, turn)) = HeldLock::take(self.turn.lock(rt)) {
-                let Turn { place, desk, names } = turn;
-                if place == self.place && desk.seat.passes == self.passes {
-                    return (lock, desk);
+                let Turn {
+                    place,
+                    writer,
+                    names,
+                } = turn;
+                if place == self.place && writer.seat.passes == self.passes {
+                    return (lock, writer);
                 }
-                let _there = lock.put_back(Turn { place, desk, names });
+                let _there = lock.put_back(Turn {
+                    place,
+                    writer,
+                    names,
+                });
             }
         }
         // The loop has no end but that return.
@@ -228,7 +236,7 @@ impl<L: Law, N: Named> Index<L, N> {
     }
 
     // Waits for the turn, and joins the pass to it. The pass is then away.
-    fn join<'i, R: Wait>(&'i self, rt: &R, pass: &mut Pass<N>) -> (HeldLock<'i, N>, Draft)
+    fn join<'i, R: Wait>(&'i self, rt: &R, pass: &mut Pass<N>) -> (HeldLock<'i, N>, WorkingVersion)
         requires here { IsSome pass.old.seat }
         requires place { pass.old.place ≡ self.now.place }
         ensures table { result.1.seat.place.table_id ≡ self.now.shared.table.shared.table_id }
@@ -244,33 +252,33 @@ impl<L: Law, N: Named> Index<L, N> {
             // No query and no transaction of this pass has its seat.
             unreachable!()
         };
-        let (lock, desk) = self.wait(rt);
-        (lock, desk.begin(&self.shared, seat))
+        let (lock, writer) = self.wait(rt);
+        (lock, writer.begin(&self.shared, seat))
     }
 
     /// Waits for the turn, and begins a transaction of a kind.
     pub fn begin<'t, 'i, K: Kind, R: Wait>(
         &'i self,
         rt: &R,
-        locked: &'t mut Locked<'i, L, N>,
+        locked: &'t mut WriteGuard<'i, L, N>,
         pass: &'t mut Pass<N>,
     ) -> Transaction<'t, 'i, L, N, K>
         requires here { IsSome pass.old.seat }
         requires place { pass.old.place ≡ self.now.place }
         ensures same_reference { result.home.ghost_name ≡ pass.entry.ghost_name }
         ensures place { result.locked.now.place ≡ self.now.place }
-        ensures passes { IsSomeAnd result.locked.now.draft (λ d. d.seat.passes ≡ self.now.shared.table.shared.key.passes) }
-        ensures begins { IsSomeAnd result.locked.now.draft (Begins L.lawful (known_at pass.old.seat)) }
-        ensures few_operations { IsSomeAnd result.locked.now.draft (λ d. CommitsAreWithin L.most_operations d.seat.place.me.0) }
-        ensures chunks { IsSomeAnd result.locked.now.draft (λ d. length d.usage.given ≡ self.now.shared.table.shared.key.chunks) }
-        ensures starts { IsSomeAnd result.locked.now.draft (λ d. StartsAs K.OWN_CHUNK d.usage) }
+        ensures passes { IsSomeAnd result.locked.now.working (λ d. d.seat.passes ≡ self.now.shared.table.shared.key.passes) }
+        ensures begins { IsSomeAnd result.locked.now.working (Begins L.lawful (known_at pass.old.seat)) }
+        ensures few_operations { IsSomeAnd result.locked.now.working (λ d. CommitsAreWithin L.most_operations d.seat.place.me.0) }
+        ensures chunks { IsSomeAnd result.locked.now.working (λ d. length d.usage.given ≡ self.now.shared.table.shared.key.chunks) }
+        ensures starts { IsSomeAnd result.locked.now.working (λ d. StartsAs K.OWN_CHUNK d.usage) }
     {
-        let (lock, draft) = self.join(rt, pass);
-        *locked = Locked {
+        let (lock, working) = self.join(rt, pass);
+        *locked = WriteGuard {
             lock: Some(lock),
             place: self.place,
             shared: &self.shared,
-            draft: Some(draft.start::<K>()),
+            working: Some(working.start::<K>()),
         };
         Transaction {
             home: pass,
@@ -283,18 +291,18 @@ impl<L: Law, N: Named> Index<L, N> {
     pub fn write<'t, 'i, R: Wait>(
         &'i self,
         rt: &R,
-        locked: &'t mut Locked<'i, L, N>,
+        locked: &'t mut WriteGuard<'i, L, N>,
         pass: &'t mut Pass<N>,
     ) -> Write<'t, 'i, L, N>
         requires here { IsSome pass.old.seat }
         requires place { pass.old.place ≡ self.now.place }
         ensures same_reference { result.home.ghost_name ≡ pass.entry.ghost_name }
         ensures place { result.locked.now.place ≡ self.now.place }
-        ensures passes { IsSomeAnd result.locked.now.draft (λ d. d.seat.passes ≡ self.now.shared.table.shared.key.passes) }
-        ensures begins { IsSomeAnd result.locked.now.draft (Begins L.lawful (known_at pass.old.seat)) }
-        ensures few_operations { IsSomeAnd result.locked.now.draft (λ d. CommitsAreWithin L.most_operations d.seat.place.me.0) }
-        ensures chunks { IsSomeAnd result.locked.now.draft (λ d. length d.usage.given ≡ self.now.shared.table.shared.key.chunks) }
-        ensures starts { IsSomeAnd result.locked.now.draft (λ d. StartsAs false d.usage) }
+        ensures passes { IsSomeAnd result.locked.now.working (λ d. d.seat.passes ≡ self.now.shared.table.shared.key.passes) }
+        ensures begins { IsSomeAnd result.locked.now.working (Begins L.lawful (known_at pass.old.seat)) }
+        ensures few_operations { IsSomeAnd result.locked.now.working (λ d. CommitsAreWithin L.most_operations d.seat.place.me.0) }
+        ensures chunks { IsSomeAnd result.locked.now.working (λ d. length d.usage.given ≡ self.now.shared.table.shared.key.chunks) }
+        ensures starts { IsSomeAnd result.locked.now.working (λ d. StartsAs false d.usage) }
     {
         self.begin::<Light, R>(rt, locked, pass)
     }
@@ -303,18 +311,18 @@ impl<L: Law, N: Named> Index<L, N> {
     pub fn update<'t, 'i, R: Wait>(
         &'i self,
         rt: &R,
-        locked: &'t mut Locked<'i, L, N>,
+        locked: &'t mut WriteGuard<'i, L, N>,
         pass: &'t mut Pass<N>,
     ) -> Update<'t, 'i, L, N>
         requires here { IsSome pass.old.seat }
         requires place { pass.old.place ≡ self.now.place }
         ensures same_reference { result.home.ghost_name ≡ pass.entry.ghost_name }
         ensures place { result.locked.now.place ≡ self.now.place }
-        ensures passes { IsSomeAnd result.locked.now.draft (λ d. d.seat.passes ≡ self.now.shared.table.shared.key.passes) }
-        ensures begins { IsSomeAnd result.locked.now.draft (Begins L.lawful (known_at pass.old.seat)) }
-        ensures few_operations { IsSomeAnd result.locked.now.draft (λ d. CommitsAreWithin L.most_operations d.seat.place.me.0) }
-        ensures chunks { IsSomeAnd result.locked.now.draft (λ d. length d.usage.given ≡ self.now.shared.table.shared.key.chunks) }
-        ensures starts { IsSomeAnd result.locked.now.draft (λ d. StartsAs true d.usage) }
+        ensures passes { IsSomeAnd result.locked.now.working (λ d. d.seat.passes ≡ self.now.shared.table.shared.key.passes) }
+        ensures begins { IsSomeAnd result.locked.now.working (Begins L.lawful (known_at pass.old.seat)) }
+        ensures few_operations { IsSomeAnd result.locked.now.working (λ d. CommitsAreWithin L.most_operations d.seat.place.me.0) }
+        ensures chunks { IsSomeAnd result.locked.now.working (λ d. length d.usage.given ≡ self.now.shared.table.shared.key.chunks) }
+        ensures starts { IsSomeAnd result.locked.now.working (λ d. StartsAs true d.usage) }
     {
         self.begin::<Heavy, R>(rt, locked, pass)
     }
@@ -336,27 +344,27 @@ impl<L: Law, N: Named> Index<L, N> {
         ensures back { IfErr result (IsLast L.lawful (known_at pass.old.seat) (known_at pass.new.seat)) }
         ensures last { IfErr result (λ s. s.version ≡ LAST_VERSION) }
     {
-        let mut locked = Locked::of(self);
+        let mut locked = WriteGuard::of(self);
         let transaction = self.begin::<Compaction, R>(rt, &mut locked, pass);
         transaction.commit()
     }
 }
 
 impl<L: Law, N: Named, K> Drop for Transaction<'_, '_, L, N, K> {
-    ghost use Rattle.qp_multi.specs.Drafts.{IsBack};
+    ghost use Rattle.qp_multi.specs.WorkingVersions.{IsBack};
 
     fn drop(self)
-        ensures back { IfSome self.entry.locked.now.draft (λ d. IsBack d.seat.place.me.0 self.exit.0.now.seat) }
-        ensures place { IfSome self.entry.locked.now.draft (λ _. self.exit.0.now.place ≡ self.entry.locked.now.place) }
+        ensures back { IfSome self.entry.locked.now.working (λ d. IsBack d.seat.place.me.0 self.exit.0.now.seat) }
+        ensures place { IfSome self.entry.locked.now.working (λ _. self.exit.0.now.place ≡ self.entry.locked.now.place) }
     {
         let Self {
             home,
             locked,
             kind: _,
         } = self;
-        if let Some((lock, draft)) = locked.take() {
-            let (desk, seat) = draft.undo(locked.shared);
-            leave(lock, locked.place, desk);
+        if let Some((lock, working)) = locked.take() {
+            let (writer, seat) = working.undo(locked.shared);
+            leave(lock, locked.place, writer);
             *home = locked.pass_of(seat);
         }
     }
@@ -368,20 +376,20 @@ impl<L: Law, N: Named, K> Transaction<'_, '_, L, N, K> {
 
     /// The base's number.
     pub fn version(&self) -> u64
-        requires { IsSome self.now.locked.now.draft }
-        ensures { IfSome self.now.locked.now.draft (λ d. result ≡ length d.seat.place.me.0.seen.history) }
+        requires { IsSome self.now.locked.now.working }
+        ensures { IfSome self.now.locked.now.working (λ d. result ≡ length d.seat.place.me.0.seen.history) }
     {
-        match &self.locked.draft {
-            Some(draft) => draft.seat.version,
-            // A transaction's draft is there between two calls.
+        match &self.locked.working {
+            Some(working) => working.seat.version,
+            // A transaction's working version is there between two calls.
             None => unreachable!(),
         }
     }
 
     /// The versions that are kept, as the last round found them.
     pub fn kept(&self) -> Versions
-        requires { IsSome self.now.locked.now.draft }
-        ensures { IfSome self.now.locked.now.draft (λ d. versions_in result ≡ kept_versions d.usage) }
+        requires { IsSome self.now.locked.now.working }
+        ensures { IfSome self.now.locked.now.working (λ d. versions_in result ≡ kept_versions d.usage) }
     {
         self.locked.kept()
     }
@@ -390,7 +398,7 @@ impl<L: Law, N: Named, K> Transaction<'_, '_, L, N, K> {
 impl<L: Law, N: Named, K> Transaction<'_, '_, L, N, K> {
     ghost use Rattle.trie_model.specs.Keys.{Entry, InList};
     ghost use Rattle.zone_model.specs.Keys.{Leads};
-    ghost use Rattle.qp_multi.specs.Drafts.{Works, Operates, IsFull, IsSame, Between, working_set};
+    ghost use Rattle.qp_multi.specs.WorkingVersions.{Works, Operates, IsFull, IsSame, Between, working_set};
     ghost use Rattle.trie_read.specs.Readings.{Fetched};
     ghost use Rattle.qp_multi.specs.Fulls.{CausedFrom};
     ghost use Rattle.qp_multi.specs.Keepings.{versions_in};
@@ -401,33 +409,33 @@ impl<L: Law, N: Named, K> Transaction<'_, '_, L, N, K> {
     /// Reads the item of a key of the working set into the beginning of `out`, and gives its length; `None` where the key is not
     /// there.
     pub fn fetch(&mut self, key: &Key, out: &mut [u8]) -> Option<usize>
-        requires works { IsSomeAnd self.old.locked.now.draft Works }
+        requires works { IsSomeAnd self.old.locked.now.working Works }
         requires room { most_item_octets ≤ length out.old }
         ensures same_reference { (self.new.home.ghost_name ≡ self.old.home.ghost_name) × (self.new.locked.ghost_name ≡ self.old.locked.ghost_name) }
         ensures place { self.new.locked.now.place ≡ self.old.locked.now.place }
-        ensures same { Between IsSame self.old.locked.now.draft self.new.locked.now.draft }
-        ensures item { IfSome self.old.locked.now.draft (λ d. Fetched key.now (working_set d) out.old out.new result) }
+        ensures same { Between IsSame self.old.locked.now.working self.new.locked.now.working }
+        ensures item { IfSome self.old.locked.now.working (λ d. Fetched key.now (working_set d) out.old out.new result) }
     {
         self.locked.fetch(key, out)
     }
 
     /// Puts a name in. The item begins with the name's wire form. After a refusal the working set is as before.
     pub fn insert(&mut self, key: &Key, item: &[u8]) -> Result<(), InsertRefusal>
-        requires works { IsSomeAnd self.old.locked.now.draft Works }
+        requires works { IsSomeAnd self.old.locked.now.working Works }
         requires leads { Leads key.now item.now }
         ensures same_reference { (self.new.home.ghost_name ≡ self.old.home.ghost_name) × (self.new.locked.ghost_name ≡ self.old.locked.ghost_name) }
         ensures place { self.new.locked.now.place ≡ self.old.locked.now.place }
         ensures inserts { Between (λ d e. Operates (operation.Insert (record { key = key.now; item = item.now }))
             (λ es. (x : Entry) × InList x es × (x.key ≡ key.now)) d e (IsOk result) (result ≡ Err InsertRefusal.Exists))
-            self.old.locked.now.draft self.new.locked.now.draft }
-        ensures spares { Between SparesReserve self.old.locked.now.draft self.new.locked.now.draft }
-        ensures full { (f : _) → result ≡ Err (InsertRefusal.Full f) → IsSomeAnd self.new.locked.now.draft (λ d. IsFull d f) }
+            self.old.locked.now.working self.new.locked.now.working }
+        ensures spares { Between SparesReserve self.old.locked.now.working self.new.locked.now.working }
+        ensures full { (f : _) → result ≡ Err (InsertRefusal.Full f) → IsSomeAnd self.new.locked.now.working (λ d. IsFull d f) }
         ensures cause { (f : _) → result ≡ Err (InsertRefusal.Full f)
-            → Between (λ d e. CausedFrom d e key.now (3 + cells_in item.now) (insert_asks item.now) f) self.old.locked.now.draft self.new.locked.now.draft }
+            → Between (λ d e. CausedFrom d e key.now (3 + cells_in item.now) (insert_asks item.now) f) self.old.locked.now.working self.new.locked.now.working }
         // Nor does it come where the table has room for what was published and done.
-        ensures cramped { (f : _) → result ≡ Err (InsertRefusal.Full f) → IsSomeAnd self.old.locked.now.draft IsCramped }
+        ensures cramped { (f : _) → result ≡ Err (InsertRefusal.Full f) → IsSomeAnd self.old.locked.now.working IsCramped }
         ensures crowded { (f : _) → result ≡ Err (InsertRefusal.Full f)
-            → IsSomeAnd self.new.locked.now.draft (λ d. IsCrowded d key.now (3 + cells_in item.now) (length (versions_in f.kept))) }
+            → IsSomeAnd self.new.locked.now.working (λ d. IsCrowded d key.now (3 + cells_in item.now) (length (versions_in f.kept))) }
     {
         match self.locked.change(&TrieChange::Insert(key, item)) {
             Ok(()) => Ok(()),
@@ -438,21 +446,22 @@ impl<L: Law, N: Named, K> Transaction<'_, '_, L, N, K> {
 
     /// Exchanges a name's item. The item begins with the name's wire form. After a refusal the working set is as before.
     pub fn replace(&mut self, key: &Key, item: &[u8]) -> Result<(), ChangeRefusal>
-        requires works { IsSomeAnd self.old.locked.now.draft Works }
+        requires works { IsSomeAnd self.old.locked.now.working Works }
         requires leads { Leads key.now item.now }
         ensures same_reference { (self.new.home.ghost_name ≡ self.old.home.ghost_name) × (self.new.locked.ghost_name ≡ self.old.locked.ghost_name) }
         ensures place { self.new.locked.now.place ≡ self.old.locked.now.place }
         ensures replaces { Between (λ d e. Operates (operation.Replace (record { key = key.now; item = item.now }))
             (λ es. (x : Entry) → InList x es → x.key ≡ key.now → ⊥) d e (IsOk result) (result ≡ Err ChangeRefusal.NotFound))
-            self.old.locked.now.draft self.new.locked.now.draft }
-        ensures spares { Between SparesReserve self.old.locked.now.draft self.new.locked.now.draft }
-        ensures full { (f : _) → result ≡ Err (ChangeRefusal.Full f) → IsSomeAnd self.new.locked.now.draft (λ d. IsFull d f) }
+            self.old.locked.now.working self.new.locked.now.working }
+        ensures spares { Between SparesReserve self.old.locked.now.working self.new.locked.now.working }
+        ensures full { (f : _) → result ≡ Err (ChangeRefusal.Full f) → IsSomeAnd self.new.locked.now.working (λ d. IsFull d f) }
         ensures cause { (f : _) → result ≡ Err (ChangeRefusal.Full f)
-            → Between (λ d e. CausedFrom d e key.now (3 + cells_in item.now) (replace_asks item.now) f) self.old.locked.now.draft self.new.locked.now.draft }
+            → Between (λ d e. CausedFrom d e key.now (3 + cells_in item.now) (replace_asks item.now) f) self.old.locked.now.working
+            self.new.locked.now.working }
         // Nor does it come where the table has room for what was published and done.
-        ensures cramped { (f : _) → result ≡ Err (ChangeRefusal.Full f) → IsSomeAnd self.old.locked.now.draft IsCramped }
+        ensures cramped { (f : _) → result ≡ Err (ChangeRefusal.Full f) → IsSomeAnd self.old.locked.now.working IsCramped }
         ensures crowded { (f : _) → result ≡ Err (ChangeRefusal.Full f)
-            → IsSomeAnd self.new.locked.now.draft (λ d. IsCrowded d key.now (3 + cells_in item.now) (length (versions_in f.kept))) }
+            → IsSomeAnd self.new.locked.now.working (λ d. IsCrowded d key.now (3 + cells_in item.now) (length (versions_in f.kept))) }
     {
         match self.locked.change(&TrieChange::Replace(key, item)) {
             Ok(()) => Ok(()),
@@ -463,19 +472,19 @@ impl<L: Law, N: Named, K> Transaction<'_, '_, L, N, K> {
 
     /// Takes a name out. After a refusal the working set is as before.
     pub fn delete(&mut self, key: &Key) -> Result<(), ChangeRefusal>
-        requires { IsSomeAnd self.old.locked.now.draft Works }
+        requires { IsSomeAnd self.old.locked.now.working Works }
         ensures same_reference { (self.new.home.ghost_name ≡ self.old.home.ghost_name) × (self.new.locked.ghost_name ≡ self.old.locked.ghost_name) }
         ensures place { self.new.locked.now.place ≡ self.old.locked.now.place }
         ensures deletes { Between (λ d e. Operates (operation.Delete key.now) (λ es. (x : Entry) → InList x es → x.key ≡ key.now → ⊥)
-            d e (IsOk result) (result ≡ Err ChangeRefusal.NotFound)) self.old.locked.now.draft self.new.locked.now.draft }
-        ensures spares { Between SparesReserve self.old.locked.now.draft self.new.locked.now.draft }
-        ensures full { (f : _) → result ≡ Err (ChangeRefusal.Full f) → IsSomeAnd self.new.locked.now.draft (λ d. IsFull d f) }
+            d e (IsOk result) (result ≡ Err ChangeRefusal.NotFound)) self.old.locked.now.working self.new.locked.now.working }
+        ensures spares { Between SparesReserve self.old.locked.now.working self.new.locked.now.working }
+        ensures full { (f : _) → result ≡ Err (ChangeRefusal.Full f) → IsSomeAnd self.new.locked.now.working (λ d. IsFull d f) }
         ensures cause { (f : _) → result ≡ Err (ChangeRefusal.Full f)
-            → Between (λ d e. CausedFrom d e key.now 1 delete_asks f) self.old.locked.now.draft self.new.locked.now.draft }
+            → Between (λ d e. CausedFrom d e key.now 1 delete_asks f) self.old.locked.now.working self.new.locked.now.working }
         // Nor does it come where the table has room for what was published and done.
-        ensures cramped { (f : _) → result ≡ Err (ChangeRefusal.Full f) → IsSomeAnd self.old.locked.now.draft IsCramped }
+        ensures cramped { (f : _) → result ≡ Err (ChangeRefusal.Full f) → IsSomeAnd self.old.locked.now.working IsCramped }
         ensures crowded { (f : _) → result ≡ Err (ChangeRefusal.Full f)
-            → IsSomeAnd self.new.locked.now.draft (λ d. IsCrowded d key.now 1 (length (versions_in f.kept))) }
+            → IsSomeAnd self.new.locked.now.working (λ d. IsCrowded d key.now 1 (length (versions_in f.kept))) }
     {
         match self.locked.change(&TrieChange::Delete(key)) {
             Ok(()) => Ok(()),
@@ -486,7 +495,7 @@ impl<L: Law, N: Named, K> Transaction<'_, '_, L, N, K> {
 }
 
 impl<L: Law, N: Named, K: Kind> Transaction<'_, '_, L, N, K> {
-    ghost use Rattle.qp_multi.specs.Drafts.{Works, Commits, IsBack, working_set};
+    ghost use Rattle.qp_multi.specs.WorkingVersions.{Works, Commits, IsBack, working_set};
     ghost use Rattle.qp_multi.specs.Receipts.{Recycles};
     ghost use Rattle.qp_multi.specs.Operations.{AreWithin};
     ghost use Rattle.qp_multi.specs.Passes.{first_version};
@@ -494,42 +503,42 @@ impl<L: Law, N: Named, K: Kind> Transaction<'_, '_, L, N, K> {
     /// Makes the working set the next version; where there is none, the base stays. What the working set has in sparse chunks is moved
     /// first: by a heavy transaction always, by a light one where more than 8 chunks are sparse.
     pub fn commit(self) -> Result<Receipt, Spent>
-        requires works { IsSomeAnd self.locked.now.draft Works }
-        requires lawful { IsSomeAnd self.locked.now.draft (λ d. L.lawful (first_version d.seat.place.me.0.seen) (working_set d)) }
-        requires few_operations { ForSome self.locked.now.draft (λ d. AreWithin L.most_operations d.log.operations) }
+        requires works { IsSomeAnd self.locked.now.working Works }
+        requires lawful { IsSomeAnd self.locked.now.working (λ d. L.lawful (first_version d.seat.place.me.0.seen) (working_set d)) }
+        requires few_operations { ForSome self.locked.now.working (λ d. AreWithin L.most_operations d.log.operations) }
         ensures here { IsSome self.exit.0.now.seat }
         ensures place { self.exit.0.now.place ≡ self.entry.locked.now.place }
-        ensures commits { IfOk result (λ _. IfSome self.entry.locked.now.draft
+        ensures commits { IfOk result (λ _. IfSome self.entry.locked.now.working
             (λ d. Commits d.seat.place.me.0 d.log.operations (known_at self.exit.0.now.seat))) }
-        ensures version { IfOk result (λ r. IfSome self.entry.locked.now.draft (λ d. r.version ≡ d.seat.version + 1)) }
-        ensures back { IfErr result (λ _. IfSome self.entry.locked.now.draft (λ d. IsBack d.seat.place.me.0 self.exit.0.now.seat)) }
-        ensures spent { IfSome self.entry.locked.now.draft (λ d. IsErr result ↔ (d.seat.version ≡ LAST_VERSION)) }
-        ensures last { IfErr result (λ s. IfSome self.entry.locked.now.draft (λ d. s.version ≡ d.seat.version)) }
-        ensures receipt { IfOk result (λ r. IfSome self.entry.locked.now.draft (λ d. Recycles K.MOST_SPARSE d (known_at self.exit.0.now.seat) r)) }
+        ensures version { IfOk result (λ r. IfSome self.entry.locked.now.working (λ d. r.version ≡ d.seat.version + 1)) }
+        ensures back { IfErr result (λ _. IfSome self.entry.locked.now.working (λ d. IsBack d.seat.place.me.0 self.exit.0.now.seat)) }
+        ensures spent { IfSome self.entry.locked.now.working (λ d. IsErr result ↔ (d.seat.version ≡ LAST_VERSION)) }
+        ensures last { IfErr result (λ s. IfSome self.entry.locked.now.working (λ d. s.version ≡ d.seat.version)) }
+        ensures receipt { IfOk result (λ r. IfSome self.entry.locked.now.working (λ d. Recycles K.MOST_SPARSE d (known_at self.exit.0.now.seat) r)) }
     {
         let Self {
             home,
             locked,
             kind: _,
         } = self;
-        let Some((lock, draft)) = locked.take() else {
-            // A transaction's draft is there between two calls.
+        let Some((lock, working)) = locked.take() else {
+            // A transaction's working version is there between two calls.
             unreachable!()
         };
-        let (desk, seat, outcome) = draft.commit(locked.shared, K::MOST_SPARSE);
-        leave(lock, locked.place, desk);
+        let (writer, seat, outcome) = working.commit(locked.shared, K::MOST_SPARSE);
+        leave(lock, locked.place, writer);
         *home = locked.pass_of(seat);
         outcome
     }
 }
 
 impl<L: Law, N: Named> Transaction<'_, '_, L, N, Heavy> {
-    ghost use Rattle.qp_multi.specs.Drafts.{IsBack};
+    ghost use Rattle.qp_multi.specs.WorkingVersions.{IsBack};
 
     /// Goes back to the base. No version is made.
     pub fn rollback(self)
-        ensures back { IfSome self.entry.locked.now.draft (λ d. IsBack d.seat.place.me.0 self.exit.0.now.seat) }
-        ensures place { IfSome self.entry.locked.now.draft (λ _. self.exit.0.now.place ≡ self.entry.locked.now.place) }
+        ensures back { IfSome self.entry.locked.now.working (λ d. IsBack d.seat.place.me.0 self.exit.0.now.seat) }
+        ensures place { IfSome self.entry.locked.now.working (λ _. self.exit.0.now.place ≡ self.entry.locked.now.place) }
     {
         drop(self);
     }

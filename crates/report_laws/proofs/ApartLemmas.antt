@@ -14,7 +14,7 @@ use Rattle.job_model.specs.declared.Ending.TheVariants.{Commit, Rollback}
 use Rattle.job_model.specs.Sizes.{node_count}
 use Rattle.job_model.specs.Commands.{Command, Job, Ask, Hold, AskHeld, Release, Block, Compact}
 use Rattle.job_model.specs.Jobs.{job_of}
-use Rattle.job_model.specs.Outcomes.{Ended, Shown, Committed, RolledBack, Refused, Pair, is_committed, is_refused, made, asked_by, asked_at, times_made, version_at, Setting, setting_of, BlockEnds, Sight, at_first, sight_after, Shows, EndsLawfully, Along, all_pairs, AllAlong, Lawful, passes_for}
+use Rattle.job_model.specs.Outcomes.{Ended, Shown, Committed, RolledBack, Refused, Pair, is_committed, is_refused, made, asked_by, asked_at, times_made, version_at, JudgedBy, judged_by, BlockEnds, WorkerProgress, at_first, progress_after, Shows, EndsLawfully, Along, all_pairs, AllAlong, Lawful, passes_for}
 use Rattle.job_model.specs.Reports.{head_text, ended_text}
 use Rattle.job_model.specs.Summaries.{ended_count, refused_text, all_refused_text, counts_text, sized_end_text, summary}
 use Rattle.report_laws.specs.Octets.{AllOctets}
@@ -54,29 +54,29 @@ makes (Block _ asked ending) = is_commit ending
 makes Compact = true
 
 -- what is so of each outcome by itself
-record IsMade (s : Setting) (pair : Pair) : Type 0 where
+record IsMade (s : JudgedBy) (pair : Pair) : Type 0 where
   above : is_committed pair.1.ended ≡ true → 0 < pair.1.version
   accepted : is_committed pair.1.ended ≡ true → IsOk (whole s.origin (asked_by pair.0) (s.set (pair.1.version - 1)))
   as_asked : is_refused pair.1.ended ≡ false → is_committed pair.1.ended ≡ makes pair.0
 
 -- and of what its worker has come to
-record GoesOn (s : Setting) (sight : Sight) (command : Command) (v : ℕ) (ended : Ended) : Type 0 where
-  later : sight.seen ≤ (sight_after sight command v).seen
-  above : is_committed ended ≡ true → sight.seen < v
-  there : is_committed ended ≡ true → v ≤ (sight_after sight command v).seen
+record GoesOn (s : JudgedBy) (progress : WorkerProgress) (command : Command) (v : ℕ) (ended : Ended) : Type 0 where
+  later : progress.seen ≤ (progress_after progress command v).seen
+  above : is_committed ended ≡ true → progress.seen < v
+  there : is_committed ended ≡ true → v ≤ (progress_after progress command v).seen
   accepted : is_committed ended ≡ true → IsOk (whole s.origin (asked_by command) (s.set (v - 1)))
   as_asked : is_refused ended ≡ false → is_committed ended ≡ makes command
 
-question_goes : (s : Setting) (sight : Sight) (command : Command) (v : ℕ) (May : Type 0) (ended : Ended) → makes command ≡ false → (May → sight.seen ≤ (sight_after sight command v).seen) → Shows May ended → GoesOn s sight command v ended
-question_goes s sight command v May Shown quiet le h = record { later = le h; above = λ c. absurd cc; there = λ c. absurd cc; accepted = λ c. absurd cc; as_asked = λ r. sym quiet }
-question_goes s sight command v May Committed quiet le h = absurd h
-question_goes s sight command v May RolledBack quiet le h = absurd h
-question_goes s sight command v May (Refused cause) quiet le h = absurd h
+question_goes : (s : JudgedBy) (progress : WorkerProgress) (command : Command) (v : ℕ) (May : Type 0) (ended : Ended) → makes command ≡ false → (May → progress.seen ≤ (progress_after progress command v).seen) → Shows May ended → GoesOn s progress command v ended
+question_goes s progress command v May Shown quiet le h = record { later = le h; above = λ c. absurd cc; there = λ c. absurd cc; accepted = λ c. absurd cc; as_asked = λ r. sym quiet }
+question_goes s progress command v May Committed quiet le h = absurd h
+question_goes s progress command v May RolledBack quiet le h = absurd h
+question_goes s progress command v May (Refused cause) quiet le h = absurd h
 
-block_goes : (s : Setting) (sight : Sight) (command : Command) (asked : Transaction) (ending : Ending) (v : ℕ) (ended : Ended) → asked_by command ≡ asked → makes command ≡ is_commit ending → (sight_after sight command v).seen ≡ v → BlockEnds s sight.seen asked ending v ended
-    → GoesOn s sight command v ended
-block_goes s sight command asked ending v Shown is how there h = absurd h
-block_goes s sight command asked ending v Committed is how there h =
+block_goes : (s : JudgedBy) (progress : WorkerProgress) (command : Command) (asked : Transaction) (ending : Ending) (v : ℕ) (ended : Ended) → asked_by command ≡ asked → makes command ≡ is_commit ending → (progress_after progress command v).seen ≡ v → BlockEnds s progress.seen asked ending v ended
+    → GoesOn s progress command v ended
+block_goes s progress command asked ending v Shown is how there h = absurd h
+block_goes s progress command asked ending v Committed is how there h =
     record {
       later = (let l = h.1 in omega (arith, l, there));
       above = λ c. h.1;
@@ -84,26 +84,26 @@ block_goes s sight command asked ending v Committed is how there h =
       accepted = λ c. subst (λ (t : Transaction). IsOk (whole s.origin t (s.set (v - 1)))) (sym is) h.2;
       as_asked = λ r. sym (how ∙ ap is_commit h.0);
     }
-block_goes s sight command asked ending v RolledBack is how there h =
+block_goes s progress command asked ending v RolledBack is how there h =
     record { later = (let l = h.1 in omega (arith, l, there)); above = λ c. absurd cc; there = λ c. absurd cc; accepted = λ c. absurd cc; as_asked = λ r. sym (how ∙ ap is_commit h.0) }
-block_goes s sight command asked ending v (Refused cause) is how there h =
+block_goes s progress command asked ending v (Refused cause) is how there h =
     record { later = (let l = h.0 in omega (arith, l, there)); above = λ c. absurd cc; there = λ c. absurd cc; accepted = λ c. absurd cc; as_asked = λ r. absurd cc }
 
-goes : (s : Setting) (sight : Sight) (command : Command) (v : ℕ) (ended : Ended) → EndsLawfully s sight command v ended → GoesOn s sight command v ended
-goes s sight (Ask question) v ended h = question_goes s sight (Ask question) v (sight.seen ≤ v) ended refl (λ l. l) h
-goes s sight Hold v ended h = question_goes s sight Hold v (sight.seen ≤ v) ended refl (λ l. l) h
-goes s sight (AskHeld question) v ended h = question_goes s sight (AskHeld question) v _ ended refl (λ l. omega arith) h
-goes s sight Release v ended h = question_goes s sight Release v _ ended refl (λ l. omega arith) h
-goes s sight (Block weight asked ending) v ended h = block_goes s sight (Block weight asked ending) asked ending v ended refl refl refl h
-goes s sight Compact v ended h = block_goes s sight Compact no_changes Commit v ended refl refl refl h
+goes : (s : JudgedBy) (progress : WorkerProgress) (command : Command) (v : ℕ) (ended : Ended) → EndsLawfully s progress command v ended → GoesOn s progress command v ended
+goes s progress (Ask question) v ended h = question_goes s progress (Ask question) v (progress.seen ≤ v) ended refl (λ l. l) h
+goes s progress Hold v ended h = question_goes s progress Hold v (progress.seen ≤ v) ended refl (λ l. l) h
+goes s progress (AskHeld question) v ended h = question_goes s progress (AskHeld question) v _ ended refl (λ l. omega arith) h
+goes s progress Release v ended h = question_goes s progress Release v _ ended refl (λ l. omega arith) h
+goes s progress (Block weight asked ending) v ended h = block_goes s progress (Block weight asked ending) asked ending v ended refl refl refl h
+goes s progress Compact v ended h = block_goes s progress Compact no_changes Commit v ended refl refl refl h
 
-along_made : (s : Setting) (sight : Sight) (pairs : List Pair) → Along s sight pairs → AllByRecursion (IsMade s) pairs
-along_made s sight [] a = tt
-along_made s sight (pair ∷ rest) a =
-    let g = goes s sight pair.0 pair.1.version pair.1.ended a.0 in
-    (record { above = λ c. (let l = g.above c in omega (arith, l)); accepted = g.accepted; as_asked = g.as_asked }, along_made s (sight_after sight pair.0 pair.1.version) rest a.1)
+along_made : (s : JudgedBy) (progress : WorkerProgress) (pairs : List Pair) → Along s progress pairs → AllByRecursion (IsMade s) pairs
+along_made s progress [] a = tt
+along_made s progress (pair ∷ rest) a =
+    let g = goes s progress pair.0 pair.1.version pair.1.ended a.0 in
+    (record { above = λ c. (let l = g.above c in omega (arith, l)); accepted = g.accepted; as_asked = g.as_asked }, along_made s (progress_after progress pair.0 pair.1.version) rest a.1)
 
-all_made_so : (s : Setting) (ws : List (List Pair)) → AllAlong s ws → AllByRecursion (IsMade s) (all_pairs ws)
+all_made_so : (s : JudgedBy) (ws : List (List Pair)) → AllAlong s ws → AllByRecursion (IsMade s) (all_pairs ws)
 all_made_so s [] a = tt
 all_made_so s (w ∷ ws) a = all_append (IsMade s) w (all_pairs ws) (along_made s at_first w a.0) (all_made_so s ws a.1)
 
@@ -128,12 +128,12 @@ quiet_from name (pair ∷ rest) h = let p = both_false (changes name pair.0) (ch
 quiet_pair : (name : Name) (pair : Pair) → changes name pair.0 ≡ false → changing name pair ≡ false
 quiet_pair name pair h = ap (λ (b : Bool). is_committed pair.1.ended && b) h ∙ and-false (is_committed pair.1.ended)
 
-along_rises : (name : Name) (s : Setting) (sight : Sight) (low : ℕ) (pairs : List Pair) → low ≤ sight.seen → Along s sight pairs → Rises name low pairs
-along_rises name s sight low [] le a = tt
-along_rises name s sight low (pair ∷ rest) le a =
-    by_test (goes s sight pair.0 pair.1.version pair.1.ended a.0) (λ low below. along_rises name s (sight_after sight pair.0 pair.1.version) low rest below a.1) (changing name pair) refl
+along_rises : (name : Name) (s : JudgedBy) (progress : WorkerProgress) (low : ℕ) (pairs : List Pair) → low ≤ progress.seen → Along s progress pairs → Rises name low pairs
+along_rises name s progress low [] le a = tt
+along_rises name s progress low (pair ∷ rest) le a =
+    by_test (goes s progress pair.0 pair.1.version pair.1.ended a.0) (λ low below. along_rises name s (progress_after progress pair.0 pair.1.version) low rest below a.1) (changing name pair) refl
   where
-    by_test : GoesOn s sight pair.0 pair.1.version pair.1.ended → ((low : ℕ) → low ≤ (sight_after sight pair.0 pair.1.version).seen → Rises name low rest) → (b : Bool) → changing name pair ≡ b → (b ≡ true → low < pair.1.version) × Rises name (cond b pair.1.version low) rest
+    by_test : GoesOn s progress pair.0 pair.1.version pair.1.ended → ((low : ℕ) → low ≤ (progress_after progress pair.0 pair.1.version).seen → Rises name low rest) → (b : Bool) → changing name pair ≡ b → (b ≡ true → low < pair.1.version) × Rises name (cond b pair.1.version low) rest
     by_test g more true e =
         let c = both_true (is_committed pair.1.ended) (changes name pair.0) e in
         (λ t. (let l = g.above c.0 in omega (arith, l, le)), more pair.1.version (g.there c.0))
@@ -163,7 +163,7 @@ others_quiet : (name : Name) (commands : List Command) (ws : List (List Pair)) �
 others_quiet name commands [] h apart = tt
 others_quiet name commands (w ∷ ws) h apart = all_append (λ (pair : Pair). changes name pair.0 ≡ false) w (all_pairs ws) (quiet_from name w (apart.0 name h)) (others_quiet name commands ws h apart.1)
 
-all_rise : (name : Name) (s : Setting) (ws : List (List Pair)) → AllAlong s ws → AreApart (map (map command_in) ws) → Rises name 0 (all_pairs ws)
+all_rise : (name : Name) (s : JudgedBy) (ws : List (List Pair)) → AllAlong s ws → AreApart (map (map command_in) ws) → Rises name 0 (all_pairs ws)
 all_rise name s [] a apart = tt
 all_rise name s (w ∷ ws) a apart = by_test (all_rise name s ws a.1 apart.1) (changed_by name (map command_in w)) refl
   where
@@ -286,7 +286,7 @@ module _ (origin name : Name) where
 
 -- ---- the versions of lawful outcomes
 
-asked_ok : (s : Setting) (j : ℕ) (pairs : List Pair) → AllByRecursion (IsMade s) pairs → IsOk (whole s.origin (asked_at (suc j) pairs) (s.set j))
+asked_ok : (s : JudgedBy) (j : ℕ) (pairs : List Pair) → AllByRecursion (IsMade s) pairs → IsOk (whole s.origin (asked_at (suc j) pairs) (s.set j))
 asked_ok s j [] h = refl
 asked_ok s j (pair ∷ rest) h = by_made (asked_ok s j rest h.1) (made (suc j) pair) refl
   where
@@ -303,25 +303,25 @@ record IsUpTo (origin name : Name) (zone : Version) (pairs : List Pair) (j : ℕ
   sorted : Sorted (version_at origin zone pairs j)
 
 module _ (chunks passes : ℕ) (origin : Name) (zone : Version) (ws : List (List Pair)) (last : ℕ) (lawful : Lawful chunks passes origin zone ws last) (apart : AreApart (map (map command_in) ws)) where
-  setting : Setting
-  setting = setting_of chunks passes origin zone ws
+  judged : JudgedBy
+  judged = judged_by chunks passes origin zone ws
 
-  each : AllByRecursion (IsMade (setting_of chunks passes origin zone ws)) (all_pairs ws)
-  each = all_made_so (setting_of chunks passes origin zone ws) ws lawful.along
+  each : AllByRecursion (IsMade (judged_by chunks passes origin zone ws)) (all_pairs ws)
+  each = all_made_so (judged_by chunks passes origin zone ws) ws lawful.along
 
   reached : (name : Name) → Sorted zone → (j : ℕ) → j ≤ last → IsUpTo origin name zone (all_pairs ws) j
-  reached name h zero le = record { owns = sym (up_to_none origin name 0 0 (all_pairs ws) (owned name zone) (all_rise name (setting_of chunks passes origin zone ws) ws lawful.along apart) (omega arith)); sorted = h }
+  reached name h zero le = record { owns = sym (up_to_none origin name 0 0 (all_pairs ws) (owned name zone) (all_rise name (judged_by chunks passes origin zone ws) ws lawful.along apart) (omega arith)); sorted = h }
   reached name h (suc j) le =
       let i = reached name h j (omega (arith, le)) in
       let once = lawful.once (suc j) (omega arith) le in
-      let a = after_owned origin name (asked_at (suc j) (all_pairs ws)) (version_at origin zone (all_pairs ws) j) i.sorted (asked_ok (setting_of chunks passes origin zone ws) j (all_pairs ws) each) in
+      let a = after_owned origin name (asked_at (suc j) (all_pairs ws)) (version_at origin zone (all_pairs ws) j) i.sorted (asked_ok (judged_by chunks passes origin zone ws) j (all_pairs ws) each) in
       record {
         owns = a.owns ∙ ap (entry_behind origin name (asked_at (suc j) (all_pairs ws)).operations) i.owns
-            ∙ sym (one_more origin name j 0 (all_pairs ws) (owned name zone) (all_rise name (setting_of chunks passes origin zone ws) ws lawful.along apart) (omega (arith, once)));
+            ∙ sym (one_more origin name j 0 (all_pairs ws) (owned name zone) (all_rise name (judged_by chunks passes origin zone ws) ws lawful.along apart) (omega (arith, once)));
         sorted = a.sorted;
       }
 
-  all_as : (pairs : List Pair) → AllByRecursion (IsMade (setting_of chunks passes origin zone ws)) pairs → list_any (λ (pair : Pair). is_refused pair.1.ended) pairs ≡ false → AllByRecursion (λ (pair : Pair). is_committed pair.1.ended ≡ makes pair.0) pairs
+  all_as : (pairs : List Pair) → AllByRecursion (IsMade (judged_by chunks passes origin zone ws)) pairs → list_any (λ (pair : Pair). is_refused pair.1.ended) pairs ≡ false → AllByRecursion (λ (pair : Pair). is_committed pair.1.ended ≡ makes pair.0) pairs
   all_as [] h none = tt
   all_as (pair ∷ rest) h none = let n = both_false (is_refused pair.1.ended) (list_any (λ (pair : Pair). is_refused pair.1.ended) rest) none in (h.0.as_asked n.0, all_as rest h.1 n.1)
 
@@ -366,7 +366,7 @@ once_full (suc n) pair le above = by_made (once_full n pair) (made (suc n) pair)
             omega (arith, is_one)
         by_committed false is n_made = (let none = never_once n pair is in let zero_is : 0 + once_to n pair ≡ 0 = omega (arith, none) in zero_is ∙ sym (ap (λ (c : Bool). cond c 1 0) is))
 
-counted : (s : Setting) (last : ℕ) (pairs : List Pair) → AllByRecursion (IsMade s) pairs → AllByRecursion (λ (pair : Pair). pair.1.version ≤ last) pairs → made_to last pairs ≡ ended_count is_committed pairs
+counted : (s : JudgedBy) (last : ℕ) (pairs : List Pair) → AllByRecursion (IsMade s) pairs → AllByRecursion (λ (pair : Pair). pair.1.version ≤ last) pairs → made_to last pairs ≡ ended_count is_committed pairs
 counted s last [] h low = nothing_made last
 counted s last (pair ∷ rest) h low =
     let first = made_first last pair rest in
@@ -438,14 +438,14 @@ module _ (job : Job) (chunks : ℕ) (ws : List (List Pair)) (last : ℕ) (done :
   named : map command_in (all_pairs ws) ≡ all_in job.workers
   named = commands_are ws ∙ ap all_in done.same
 
-  made_each : AllByRecursion (IsMade (setting_of chunks (passes_for (length job.workers)) job.origin job.zone ws)) (all_pairs ws)
+  made_each : AllByRecursion (IsMade (judged_by chunks (passes_for (length job.workers)) job.origin job.zone ws)) (all_pairs ws)
   made_each = each chunks (passes_for (length job.workers)) job.origin job.zone ws last done.lawful here
 
   count_is : ended_count is_committed (all_pairs ws) ≡ made_by (all_in job.workers)
   count_is = count_by (all_pairs ws) (all_as chunks (passes_for (length job.workers)) job.origin job.zone ws last done.lawful here (all_pairs ws) made_each done.none_refused) ∙ ap made_by named
 
   last_is : last ≡ made_by (all_in job.workers)
-  last_is = sym (all_made last (all_pairs ws) done.lawful.once) ∙ counted (setting_of chunks (passes_for (length job.workers)) job.origin job.zone ws) last (all_pairs ws) made_each done.lawful.none_above ∙ count_is
+  last_is = sym (all_made last (all_pairs ws) done.lawful.once) ∙ counted (judged_by chunks (passes_for (length job.workers)) job.origin job.zone ws) last (all_pairs ws) made_each done.lawful.none_above ∙ count_is
 
   owned_is : (name : Name) → Sorted job.zone → owned name (version_at job.origin job.zone (all_pairs ws) last) ≡ by_commands job.origin name (all_in job.workers) (owned name job.zone)
   owned_is name h = owned_last chunks (passes_for (length job.workers)) job.origin job.zone ws last done.lawful here name h done.none_refused ∙ ap (λ (cs : List Command). by_commands job.origin name cs (owned name job.zone)) named

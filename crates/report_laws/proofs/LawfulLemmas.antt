@@ -11,7 +11,7 @@ use Rattle.zone_model.specs.Transactions.{Transaction, no_changes}
 use Rattle.job_model.specs.declared.Ending.{Ending}
 use Rattle.job_model.specs.declared.Ending.TheVariants.{Commit, Rollback}
 use Rattle.job_model.specs.Commands.{Command, Ask, Hold, AskHeld, Release, Block, Compact}
-use Rattle.job_model.specs.Outcomes.{Cause, Rule, Full, Spent, Ended, Shown, Committed, RolledBack, Refused, Outcome, Pair, is_committed, made, times_made, Setting, setting_of, FullCause, Causes, BlockEnds, Sight, at_first, sight_after, Shows, EndsLawfully, Along, all_pairs, AllAlong, Lawful}
+use Rattle.job_model.specs.Outcomes.{Cause, Rule, Full, Spent, Ended, Shown, Committed, RolledBack, Refused, Outcome, Pair, is_committed, made, times_made, JudgedBy, judged_by, WhyFull, Causes, BlockEnds, WorkerProgress, at_first, progress_after, Shows, EndsLawfully, Along, all_pairs, AllAlong, Lawful}
 use Rattle.job_model.specs.Reports.{head_text, command_text, worker_text, workers_text}
 use Rattle.report_laws.proofs.EndLemmas.{SmallCause, SmallEnded, EndsCompaction}
 use Rattle.report_laws.proofs.RunLemmas.{OfKind, IsPlain, command_in, AllPlain}
@@ -117,7 +117,7 @@ kept_small n base (v ∷ older) small sorted =
     let below : v < base = less_from v base (last_of (λ (y : ℕ). nat_cmp v y ≡ Less) older base sorted.0) in
     (omega (arith, below, small), kept_small n base older small sorted.1)
 
-full_small : (s : Setting) (asked : Transaction) (base operation : ℕ) (kept : List ℕ) → base < 2 ^ 64 → length asked.operations < 2 ^ 64 → FullCause s asked base operation kept → SmallCause (Full operation kept)
+full_small : (s : JudgedBy) (asked : Transaction) (base operation : ℕ) (kept : List ℕ) → base < 2 ^ 64 → length asked.operations < 2 ^ 64 → WhyFull s asked base operation kept → SmallCause (Full operation kept)
 full_small s asked base operation kept small short full =
     let all = ap (λ (l : List Operation). length l) full.all in
     let number = full.number in (
@@ -125,7 +125,7 @@ full_small s asked base operation kept small short full =
       subst (λ (l : List ℕ). AllByRecursion (λ v. v < 2 ^ 64) l) (sym full.base_last) (kept_small (2 ^ 64) base full.older small (subst (λ (l : List ℕ). IsStrictlySortedBy nat_cmp l) full.base_last full.rising)),
     )
 
-cause_small : (s : Setting) (asked : Transaction) (ending : Ending) (base : ℕ) (cause : Cause) → base < 2 ^ 64 → length asked.operations < 2 ^ 64 → Causes s asked ending base cause → SmallCause cause
+cause_small : (s : JudgedBy) (asked : Transaction) (ending : Ending) (base : ℕ) (cause : Cause) → base < 2 ^ 64 → length asked.operations < 2 ^ 64 → Causes s asked ending base cause → SmallCause cause
 cause_small s asked ending base (Rule refusal) small short causes = tt
 cause_small s asked ending base (Full operation kept) small short causes = full_small s asked base operation kept small short causes
 cause_small s asked ending base Spent small short causes = tt
@@ -141,42 +141,42 @@ shown_plain command May o kind small shows =
     let is = shown_from May o.ended shows in
     record { version = small; kind = kind o.ended is; small = subst SmallEnded (sym is) tt }
 
-block_plain : (s : Setting) (seen : ℕ) (asked : Transaction) (ending : Ending) (v : ℕ) (ended : Ended) → v < 2 ^ 64 → length asked.operations < 2 ^ 64 → BlockEnds s seen asked ending v ended → (ended ≡ Shown → ⊥) × SmallEnded ended
+block_plain : (s : JudgedBy) (seen : ℕ) (asked : Transaction) (ending : Ending) (v : ℕ) (ended : Ended) → v < 2 ^ 64 → length asked.operations < 2 ^ 64 → BlockEnds s seen asked ending v ended → (ended ≡ Shown → ⊥) × SmallEnded ended
 block_plain s seen asked ending v Shown small short ends = absurd ends
 block_plain s seen asked ending v Committed small short ends = (λ (e : Committed ≡ Shown). cc, tt)
 block_plain s seen asked ending v RolledBack small short ends = (λ (e : RolledBack ≡ Shown). cc, tt)
 block_plain s seen asked ending v (Refused cause) small short ends = (λ (e : Refused cause ≡ Shown). cc, cause_small s asked ending v cause small short ends.1)
 
-compaction_plain : (s : Setting) (seen v : ℕ) (ended : Ended) → v < 2 ^ 64 → BlockEnds s seen no_changes Commit v ended → EndsCompaction ended × SmallEnded ended
+compaction_plain : (s : JudgedBy) (seen v : ℕ) (ended : Ended) → v < 2 ^ 64 → BlockEnds s seen no_changes Commit v ended → EndsCompaction ended × SmallEnded ended
 compaction_plain s seen v Shown small ends = absurd ends
 compaction_plain s seen v Committed small ends = (tt, tt)
 compaction_plain s seen v RolledBack small ends = let never : Commit ≡ Rollback = ends.0 in absurd cc
 compaction_plain s seen v (Refused cause) small ends = (tt, cause_small s no_changes Commit v cause small (omega arith) ends.1)
 
-plain : (s : Setting) (sight : Sight) (command : Command) (o : Outcome) → o.version < 2 ^ 64 → IsShort command → EndsLawfully s sight command o.version o.ended → IsPlain command o
-plain s sight (Ask question) o small short ends = shown_plain (Ask question) (sight.seen ≤ o.version) o (λ (ended : Ended) (e : ended ≡ Shown). e) small ends
-plain s sight Hold o small short ends = shown_plain Hold (sight.seen ≤ o.version) o (λ (ended : Ended) (e : ended ≡ Shown). e) small ends
-plain s sight (AskHeld question) o small short ends = shown_plain (AskHeld question) (sight.held ≡ Some o.version) o (λ (ended : Ended) (e : ended ≡ Shown). e) small ends
-plain s sight Release o small short ends = shown_plain Release (sight.held ≡ Some o.version) o (λ (ended : Ended) (e : ended ≡ Shown). e) small ends
-plain s sight (Block _ asked ending) o small short ends =
-    let told = block_plain s sight.seen asked ending o.version o.ended small (omega (arith, short)) ends in
+plain : (s : JudgedBy) (progress : WorkerProgress) (command : Command) (o : Outcome) → o.version < 2 ^ 64 → IsShort command → EndsLawfully s progress command o.version o.ended → IsPlain command o
+plain s progress (Ask question) o small short ends = shown_plain (Ask question) (progress.seen ≤ o.version) o (λ (ended : Ended) (e : ended ≡ Shown). e) small ends
+plain s progress Hold o small short ends = shown_plain Hold (progress.seen ≤ o.version) o (λ (ended : Ended) (e : ended ≡ Shown). e) small ends
+plain s progress (AskHeld question) o small short ends = shown_plain (AskHeld question) (progress.held ≡ Some o.version) o (λ (ended : Ended) (e : ended ≡ Shown). e) small ends
+plain s progress Release o small short ends = shown_plain Release (progress.held ≡ Some o.version) o (λ (ended : Ended) (e : ended ≡ Shown). e) small ends
+plain s progress (Block _ asked ending) o small short ends =
+    let told = block_plain s progress.seen asked ending o.version o.ended small (omega (arith, short)) ends in
     record { version = small; kind = told.0; small = told.1 }
-plain s sight Compact o small short ends = let told = compaction_plain s sight.seen o.version o.ended small ends in record { version = small; kind = told.0; small = told.1 }
+plain s progress Compact o small short ends = let told = compaction_plain s progress.seen o.version o.ended small ends in record { version = small; kind = told.0; small = told.1 }
 
 -- ---- all commands
 
-along_plain : (s : Setting) (sight : Sight) (last : ℕ) (pairs : List Pair) → last < 2 ^ 64 → AllByRecursion (λ pair. pair.1.version ≤ last) pairs → AllByRecursion IsShort (map command_in pairs) → Along s sight pairs → AllPlain pairs
-along_plain s sight last [] small below short along = tt
-along_plain s sight last (pair ∷ pairs) small below short along = (
-  plain s sight pair.0 pair.1 (let l = below.0 in omega (arith, l, small)) short.0 along.0,
-  along_plain s (sight_after sight pair.0 pair.1.version) last pairs small below.1 short.1 along.1,
+along_plain : (s : JudgedBy) (progress : WorkerProgress) (last : ℕ) (pairs : List Pair) → last < 2 ^ 64 → AllByRecursion (λ pair. pair.1.version ≤ last) pairs → AllByRecursion IsShort (map command_in pairs) → Along s progress pairs → AllPlain pairs
+along_plain s progress last [] small below short along = tt
+along_plain s progress last (pair ∷ pairs) small below short along = (
+  plain s progress pair.0 pair.1 (let l = below.0 in omega (arith, l, small)) short.0 along.0,
+  along_plain s (progress_after progress pair.0 pair.1.version) last pairs small below.1 short.1 along.1,
 )
 
 both_of : (P : Pair → Type 0) (xs ys : List Pair) → AllByRecursion P (xs ++ ys) → AllByRecursion P xs × AllByRecursion P ys
 both_of P [] ys all = (tt, all)
 both_of P (x ∷ xs) ys all = let parts = both_of P xs ys all.1 in ((all.0, parts.0), parts.1)
 
-all_along_plain : (s : Setting) (last : ℕ) (ws : List (List Pair)) → last < 2 ^ 64 → AllByRecursion (λ pair. pair.1.version ≤ last) (all_pairs ws) → AllShort (map (map command_in) ws) → AllAlong s ws → AllByRecursion AllPlain ws
+all_along_plain : (s : JudgedBy) (last : ℕ) (ws : List (List Pair)) → last < 2 ^ 64 → AllByRecursion (λ pair. pair.1.version ≤ last) (all_pairs ws) → AllShort (map (map command_in) ws) → AllAlong s ws → AllByRecursion AllPlain ws
 all_along_plain s last [] small below short along = tt
 all_along_plain s last (pairs ∷ ws) small below short along =
     let parts = both_of (λ (pair : Pair). pair.1.version ≤ last) pairs (all_pairs ws) below in
@@ -184,4 +184,4 @@ all_along_plain s last (pairs ∷ ws) small below short along =
 
 -- lawful outcomes of short blocks
 pub lawful_plain : (chunks passes : ℕ) (origin : Name) (zone : Version) (ws : List (List Pair)) (last : ℕ) → last < 2 ^ 64 → AllShort (map (map command_in) ws) → Lawful chunks passes origin zone ws last → AllByRecursion AllPlain ws
-lawful_plain chunks passes origin zone ws last small short lawful = all_along_plain (setting_of chunks passes origin zone ws) last ws small lawful.none_above short lawful.along
+lawful_plain chunks passes origin zone ws last small short lawful = all_along_plain (judged_by chunks passes origin zone ws) last ws small lawful.none_above short lawful.along

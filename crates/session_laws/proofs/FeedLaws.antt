@@ -4,7 +4,7 @@ use Rattle.std.specs.List.{AllByRecursion}
 use Rattle.zone_model.specs.Names.{Name}
 use Rattle.zone_model.specs.Versions.{Version}
 use Rattle.job_model.specs.Commands.{Command, FedJob}
-use Rattle.job_model.specs.Outcomes.{Lawful, Pair, Sight, all_pairs, at_first, is_refused, sight_after, version_at}
+use Rattle.job_model.specs.Outcomes.{Lawful, Pair, WorkerProgress, all_pairs, at_first, is_refused, progress_after, version_at}
 use Rattle.job_model.specs.Feeds.{Fed, FedPair, all_numbers, by_worker, fed_commands, fed_report, fed_text, pairs_by, passes_fed, some_fed_refused}
 use Rattle.job_model.specs.Reports.{command_text, end_text, head_text}
 use Rattle.job_model.specs.Sessions.{Ended, Reply, Ran, RefusedLine, GivenUp, Said, Runs, pairs_in, ready_text, refuses_some, replies_text, said_of}
@@ -73,10 +73,10 @@ refused-fed (pair ∷ pairs) = first (is_refused pair.1.ended) _ _ (refused-fed 
     first true x y e = refl
     first false x y e = e
 
-text-fed : (origin : Name) (set : ℕ → Version) (n : ℕ) (sight : Sight) (pairs : List Pair) → replies_text origin set n sight (map Ran pairs) ≡ fed_text origin set n (fed_of pairs)
-text-fed origin set n sight [] = refl
-text-fed origin set n sight (pair ∷ pairs) =
-    ap (λ (l : List ℕ). head_text 1 n pair.1.version ++ command_text origin set pair.0 pair.1 ++ l) (text-fed origin set (n + 1) (sight_after sight pair.0 pair.1.version) pairs)
+text-fed : (origin : Name) (set : ℕ → Version) (n : ℕ) (progress : WorkerProgress) (pairs : List Pair) → replies_text origin set n progress (map Ran pairs) ≡ fed_text origin set n (fed_of pairs)
+text-fed origin set n progress [] = refl
+text-fed origin set n progress (pair ∷ pairs) =
+    ap (λ (l : List ℕ). head_text 1 n pair.1.version ++ command_text origin set pair.0 pair.1 ++ l) (text-fed origin set (n + 1) (progress_after progress pair.0 pair.1.version) pairs)
 
 all_among : (pairs : List Pair) → AllByRecursion (IsAmong 1) (fed_of pairs)
 all_among [] = tt

@@ -12,9 +12,9 @@ use Rattle.job_model.specs.declared.Ending.{Ending}
 use Rattle.job_model.specs.declared.Ending.TheVariants.{Commit}
 use Rattle.job_model.specs.Commands.{Command, Ask, Hold, AskHeld, Release, Block, Compact}
 use Rattle.job_model.specs.Sizes.{cell_count}
-use Rattle.job_model.specs.Outcomes.{Along, BlockEnds, BoundsSets, BoundsVersions, Cause, Rule, Full, Spent, Causes, Ended, Shown, Committed, RolledBack, Refused, EndsLawfully, FullCause, Lawful, Pair, Setting, Sight, asked_at, at_first, cells_kept, shown_in, sight_after, times_made, version_at}
+use Rattle.job_model.specs.Outcomes.{Along, BlockEnds, BoundsSets, BoundsVersions, Cause, Rule, Full, Spent, Causes, Ended, Shown, Committed, RolledBack, Refused, EndsLawfully, WhyFull, Lawful, Pair, JudgedBy, WorkerProgress, asked_at, at_first, cells_kept, shown_in, progress_after, times_made, version_at}
 use Rattle.session_laws.proofs.FrontLaws.{asked-same, version-same}
-use Rattle.session_laws.proofs.SightLaws.{HeldBelow, NoneAbove, end_few, end_sight, held_shown, later_shown, none_made, rises, shown-append, split, times-append}
+use Rattle.session_laws.proofs.ProgressLaws.{HeldBelow, NoneAbove, end_few, end_progress, held_shown, later_shown, none_made, rises, shown-append, split, times-append}
 
 -- ---- kept versions are below the base
 
@@ -30,14 +30,14 @@ unfolding IsStrictlySortedBy
 older_below base [] sorted = tt
 older_below base (v ∷ older) sorted = (less_from v base (last_of (λ (y : ℕ). nat_cmp v y ≡ Less) older base sorted.0), older_below base older sorted.1)
 
--- ---- two settings that are the same up to a version
+-- ---- judged by the same up to a version
 
 module _ (chunks passes : ℕ) (origin : Name) (set set' : ℕ → Version) (made made' : ℕ → Transaction) (shown shown' : List ℕ) (k : ℕ)
     (sets : (v : ℕ) → v ≤ k → set v ≡ set' v) (mades : (j : ℕ) → 0 < j → j ≤ k → made j ≡ made' j) (older_shown : (w : ℕ) → w < k → Contains shown w → Contains shown' w) where
-  abbrev from : Setting
+  abbrev from : JudgedBy
   from = record { chunks = chunks; passes = passes; origin = origin; set = set; made_by = made; shown = shown }
 
-  abbrev to : Setting
+  abbrev to : JudgedBy
   to = record { chunks = chunks; passes = passes; origin = origin; set = set'; made_by = made'; shown = shown' }
 
   kept_same : (base : ℕ) (older : List ℕ) → base ≤ k → AllByRecursion (λ w. w < base) older → cells_kept set (older ++ base ∷ []) ≡ cells_kept set' (older ++ base ∷ [])
@@ -66,7 +66,7 @@ module _ (chunks passes : ℕ) (origin : Name) (set set' : ℕ → Version) (mad
     sets = λ begun rest all working made_of. b.sets begun rest all working (subst (λ (x : Version). all_applied origin begun x ≡ Ok working) (sets base few) made_of);
   }
 
-  full_same : (asked : Transaction) (base operation : ℕ) (kept : List ℕ) → base ≤ k → FullCause from asked base operation kept → FullCause to asked base operation kept
+  full_same : (asked : Transaction) (base operation : ℕ) (kept : List ℕ) → base ≤ k → WhyFull from asked base operation kept → WhyFull to asked base operation kept
   full_same asked base operation kept few h =
       let below = older_below base h.older (subst (IsStrictlySortedBy nat_cmp) h.base_last h.rising) in
       record {
@@ -102,22 +102,22 @@ module _ (chunks passes : ℕ) (origin : Name) (set set' : ℕ → Version) (mad
   block_same seen asked ending v RolledBack few h = (h.0, h.1, subst (λ (x : Version). IsOk (whole origin asked x)) (sets v few) h.2)
   block_same seen asked ending v (Refused cause) few h = (h.0, causes_same asked ending v cause few h.1)
 
-  ends_same : (sight : Sight) (command : Command) (v : ℕ) (ended : Ended) → v ≤ k → EndsLawfully from sight command v ended → EndsLawfully to sight command v ended
-  ends_same sight (Ask question) v ended few h = h
-  ends_same sight Hold v ended few h = h
-  ends_same sight (AskHeld question) v ended few h = h
-  ends_same sight Release v ended few h = h
-  ends_same sight (Block _ asked ending) v ended few h = block_same sight.seen asked ending v ended few h
-  ends_same sight Compact v ended few h = block_same sight.seen no_changes Commit v ended few h
+  ends_same : (progress : WorkerProgress) (command : Command) (v : ℕ) (ended : Ended) → v ≤ k → EndsLawfully from progress command v ended → EndsLawfully to progress command v ended
+  ends_same progress (Ask question) v ended few h = h
+  ends_same progress Hold v ended few h = h
+  ends_same progress (AskHeld question) v ended few h = h
+  ends_same progress Release v ended few h = h
+  ends_same progress (Block _ asked ending) v ended few h = block_same progress.seen asked ending v ended few h
+  ends_same progress Compact v ended few h = block_same progress.seen no_changes Commit v ended few h
 
-  pub along_same : (sight : Sight) (pairs : List Pair) → NoneAbove k pairs → Along from sight pairs → Along to sight pairs
-  along_same sight [] below along = tt
-  along_same sight (pair ∷ pairs) below along = (ends_same sight pair.0 pair.1.version pair.1.ended below.0 along.0, along_same (sight_after sight pair.0 pair.1.version) pairs below.1 along.1)
+  pub along_same : (progress : WorkerProgress) (pairs : List Pair) → NoneAbove k pairs → Along from progress pairs → Along to progress pairs
+  along_same progress [] below along = tt
+  along_same progress (pair ∷ pairs) below along = (ends_same progress pair.0 pair.1.version pair.1.ended below.0 along.0, along_same (progress_after progress pair.0 pair.1.version) pairs below.1 along.1)
 
 -- ---- the first commands
 
--- the setting of one worker's commands
-abbrev alone : ℕ → ℕ → Name → Version → List Pair → Setting
+-- what one worker's commands are judged by
+abbrev alone : ℕ → ℕ → Name → Version → List Pair → JudgedBy
 alone chunks passes origin zone pairs = record { chunks = chunks; passes = passes; origin = origin; set = version_at origin zone pairs; made_by = λ j. asked_at j pairs; shown = shown_in pairs }
 
 -- what is lawful of one worker
@@ -148,16 +148,16 @@ nothing_held : HeldBelow at_first
 nothing_held w e = absurd (let no : None ≡ Some w = e in cc)
 
 first_alone : (chunks passes : ℕ) (origin : Name) (zone : Version) (pairs more : List Pair) (last : ℕ) → IsAlone chunks passes origin zone (pairs ++ more) last
-    → IsAlone chunks passes origin zone pairs (end_sight at_first pairs).seen
+    → IsAlone chunks passes origin zone pairs (end_progress at_first pairs).seen
 first_alone chunks passes origin zone pairs more last h =
-    let all : Setting = alone chunks passes origin zone (pairs ++ more) in
-    let k : ℕ = (end_sight at_first pairs).seen in
+    let all : JudgedBy = alone chunks passes origin zone (pairs ++ more) in
+    let k : ℕ = (end_progress at_first pairs).seen in
     let parts = split all at_first pairs more h.along in
     let r = rises all at_first pairs nothing_held parts.0 in
     let few : k ≤ last = end_few last at_first pairs (omega arith) (both_of last pairs more h.below) in
     let once : (j : ℕ) → 0 < j → j ≤ k → times_made j pairs ≡ 1 = λ j p l.
     let total = h.once j p (omega (arith, l, few)) in
-    let none = none_made all (end_sight at_first pairs) more j r.held parts.1 l in
+    let none = none_made all (end_progress at_first pairs) more j r.held parts.1 l in
     omega (arith, total, none, times-append j pairs more) in
     let shown : (w : ℕ) → w < k → Contains (shown_in (pairs ++ more)) w → Contains (shown_in pairs) w = λ w l there.
     ⊎_elim (λ now. now) (λ later. shown_before all pairs more w l r.held parts.1 later) (Contains-append_cases (shown_in pairs) (shown_in more) w (subst (λ (x : List ℕ). Contains x w) (shown-append pairs more) there)) in
@@ -172,12 +172,12 @@ first_alone chunks passes origin zone pairs more last h =
     both_of last [] ys all = tt
     both_of last (x ∷ xs) ys all = (all.0, both_of last xs ys all.1)
 
-    shown_before : (s : Setting) (xs ys : List Pair) (w : ℕ) → w < (end_sight at_first xs).seen → HeldBelow (end_sight at_first xs) → Along s (end_sight at_first xs) ys → Contains (shown_in ys) w → Contains (shown_in xs) w
+    shown_before : (s : JudgedBy) (xs ys : List Pair) (w : ℕ) → w < (end_progress at_first xs).seen → HeldBelow (end_progress at_first xs) → Along s (end_progress at_first xs) ys → Contains (shown_in ys) w → Contains (shown_in xs) w
     shown_before s xs ys w l below along there =
         ⊎_elim (λ late. absurd (omega (arith, late, l))) (λ held. ⊎_elim (λ before. absurd (let no : None ≡ Some w = before in cc)) (λ now. now) (held_shown at_first xs w held))
-        (later_shown s (end_sight at_first xs) ys w below along there)
+        (later_shown s (end_progress at_first xs) ys w below along there)
 
 pub first_lawful : (chunks passes : ℕ) (origin : Name) (zone : Version) (pairs more : List Pair) (last : ℕ) → Lawful chunks passes origin zone ((pairs ++ more) ∷ []) last
     → (first : ℕ) × Lawful chunks passes origin zone (pairs ∷ []) first
 first_lawful chunks passes origin zone pairs more last h =
-    ((end_sight at_first pairs).seen, lawful_of chunks passes origin zone pairs _ (first_alone chunks passes origin zone pairs more last (alone_of chunks passes origin zone (pairs ++ more) last h)))
+    ((end_progress at_first pairs).seen, lawful_of chunks passes origin zone pairs _ (first_alone chunks passes origin zone pairs more last (alone_of chunks passes origin zone (pairs ++ more) last h)))

@@ -5,7 +5,7 @@ use Rattle.zone_model.specs.Names.{Name}
 use Rattle.zone_model.specs.Versions.{Version}
 use Rattle.zone_model.specs.Transactions.{Transaction}
 use Rattle.job_model.specs.Commands.{Command, Ask, Hold, AskHeld, Release, Block, Compact}
-use Rattle.job_model.specs.Outcomes.{Outcome, Pair, Sight, after, all_pairs, asked_at, asked_by, at_first, made, sight_after, times_made, version_at}
+use Rattle.job_model.specs.Outcomes.{Outcome, Pair, WorkerProgress, after, all_pairs, asked_at, asked_by, at_first, made, progress_after, times_made, version_at}
 use Rattle.job_model.specs.Reports.{command_text, head_text}
 use Rattle.job_model.specs.Sessions.{Reply, Ran, RefusedLine, GivenUp, Replied, Said, given_up_text, pairs_in, ready_text, refused_line_text, replies_text, session_text, versions_in}
 
@@ -61,16 +61,16 @@ behind before all front h = (h.0, ap (λ (l : List ℕ). before ++ l) h.1 ∙ sy
 reply-begins : (head command other all front : List ℕ) → other ≡ command → Begins all front → Begins (head ++ other ++ all) (head ++ command ++ front)
 reply-begins head command other all front e h = subst (λ (text : List ℕ). Begins (head ++ text ++ all) (head ++ command ++ front)) (sym e) (behind (head ++ command) all front h)
 
-text-begins : (origin : Name) (set other : ℕ → Version) (last c : ℕ) (sight : Sight) (replies more : List Reply) → Agree last set other → NoneAbove last (pairs_in replies)
-    → Begins (replies_text origin other c sight (replies ++ more)) (replies_text origin set c sight replies)
-text-begins origin set other last c sight [] more agree below = (replies_text origin other c sight more, refl)
-text-begins origin set other last c sight (Ran pair ∷ replies) more agree below =
+text-begins : (origin : Name) (set other : ℕ → Version) (last c : ℕ) (progress : WorkerProgress) (replies more : List Reply) → Agree last set other → NoneAbove last (pairs_in replies)
+    → Begins (replies_text origin other c progress (replies ++ more)) (replies_text origin set c progress replies)
+text-begins origin set other last c progress [] more agree below = (replies_text origin other c progress more, refl)
+text-begins origin set other last c progress (Ran pair ∷ replies) more agree below =
     reply-begins (head_text 1 c pair.1.version) _ _ _ _ (command-same origin set other last pair.0 pair.1 agree below.0)
-    (text-begins origin set other last (c + 1) (sight_after sight pair.0 pair.1.version) replies more agree below.1)
-text-begins origin set other last c sight (RefusedLine line kind ∷ replies) more agree below =
-    behind (refused_line_text line kind) _ _ (text-begins origin set other last c sight replies more agree below)
-text-begins origin set other last c sight (GivenUp ∷ replies) more agree below =
-    behind (given_up_text c sight.seen) _ _ (text-begins origin set other last (c + 1) sight replies more agree below)
+    (text-begins origin set other last (c + 1) (progress_after progress pair.0 pair.1.version) replies more agree below.1)
+text-begins origin set other last c progress (RefusedLine line kind ∷ replies) more agree below =
+    behind (refused_line_text line kind) _ _ (text-begins origin set other last c progress replies more agree below)
+text-begins origin set other last c progress (GivenUp ∷ replies) more agree below =
+    behind (given_up_text c progress.seen) _ _ (text-begins origin set other last (c + 1) progress replies more agree below)
 
 -- ---- sessions
 

@@ -3,6 +3,6 @@ mod ArgumentLaws
 mod ListLaws
 mod FeedLaws
 mod FrontLaws
-mod SightLaws
+mod ProgressLaws
 mod FirstLaws
 mod LineLaws

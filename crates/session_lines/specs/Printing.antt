@@ -1,7 +1,7 @@
 -- What is printed while a session goes on.
 use Rattle.std.specs.Prelude.{ℕ, ◌+◌, Bool, true, List, ◌++◌, if◌then◌else◌}
 use Rattle.job_model.specs.Commands.{Command}
-use Rattle.job_model.specs.Outcomes.{Sight, at_first, is_refused, sight_after}
+use Rattle.job_model.specs.Outcomes.{WorkerProgress, at_first, is_refused, progress_after}
 use Rattle.job_model.specs.Sessions.{given_up_text, refused_line_text}
 use Rattle.job_model.specs.declared.ScriptKind.{ScriptKind}
 use Rattle.job_report.specs.Outcomes.{ended_view, outcome_text}
@@ -24,7 +24,7 @@ with_text p text = record p { text = p.text ++ text }
 
 -- the version that was seen or made last, behind a command
 abbrev pub seen_after : ℕ → Command → ℕ → ℕ
-seen_after seen command version = (sight_after (record at_first { seen = seen }) command version).seen
+seen_after seen command version = (progress_after (record at_first { seen = seen }) command version).seen
 
 -- a command came to an outcome
 abbrev pub with_ran : Printing → Command → Outcome → Printing

@@ -3,7 +3,7 @@ use Rattle.std.proofs.Common.{◌≡◌, ◌∙◌, ℕ, ◌+◌, Bool, true, fa
 use Rattle.zone_model.specs.Names.{Name}
 use Rattle.zone_model.specs.Versions.{Version}
 use Rattle.job_model.specs.Commands.{Command, Ask, Hold, AskHeld, Release, Block, Compact}
-use Rattle.job_model.specs.Outcomes.{Pair, Sight, all_pairs, at_first, is_refused, sight_after, version_at}
+use Rattle.job_model.specs.Outcomes.{Pair, WorkerProgress, all_pairs, at_first, is_refused, progress_after, version_at}
 use Rattle.job_model.specs.Reports.{end_text, head_text}
 use Rattle.job_model.specs.Sessions.{Answered, Ended, Replied, Said, Runs, Refuses, GivesUp, given_up_text, pairs_in, refused_line_text, refuses_some, replies_text, said_of, session_text, versions_in}
 use Rattle.job_report.specs.Outcomes.{EachTells, ended_view, outcome_view, outcome_text, pairs_of}
@@ -25,30 +25,30 @@ said-of (Came command outcome ∷ entries) = ap (λ (l : List Said). Runs comman
 said-of (Refused line kind ∷ entries) = ap (λ (l : List Said). Refuses line kind ∷ l) (said-of entries)
 said-of (Gave ∷ entries) = ap (λ (l : List Said). GivesUp ∷ l) (said-of entries)
 
-seen-is : (sight : Sight) (command : Command) (v seen : ℕ) → sight.seen ≡ seen → (sight_after sight command v).seen ≡ seen_after seen command v
-seen-is sight (Ask question) v seen e = refl
-seen-is sight Hold v seen e = refl
-seen-is sight (AskHeld question) v seen e = e
-seen-is sight Release v seen e = e
-seen-is sight (Block _ asked ending) v seen e = refl
-seen-is sight Compact v seen e = refl
+seen-is : (progress : WorkerProgress) (command : Command) (v seen : ℕ) → progress.seen ≡ seen → (progress_after progress command v).seen ≡ seen_after seen command v
+seen-is progress (Ask question) v seen e = refl
+seen-is progress Hold v seen e = refl
+seen-is progress (AskHeld question) v seen e = e
+seen-is progress Release v seen e = e
+seen-is progress (Block _ asked ending) v seen e = refl
+seen-is progress Compact v seen e = refl
 
 -- a text behind one that is longer by a part
 longer : (text part rest : List ℕ) (all : List ℕ) → all ≡ (text ++ part) ++ rest → all ≡ text ++ (part ++ rest)
 longer text part rest all e = e ∙ append_assoc text part rest
 
-text-from : (origin : Name) (set : ℕ → Version) (sight : Sight) (p : Printing) (entries : List Entry) → sight.seen ≡ p.seen → EachTells origin set (commands_in entries) (outcomes_in entries)
-    → (with_entries p entries).text ≡ p.text ++ replies_text origin set p.next sight (replies_in entries)
-text-from origin set sight p [] e t = sym (append-nil p.text)
-text-from origin set sight p (Came command outcome ∷ entries) e t =
-    let rest = text-from origin set (sight_after sight command outcome.version) (with_ran p command outcome) entries (seen-is sight command outcome.version p.seen e) t.1 in
+text-from : (origin : Name) (set : ℕ → Version) (progress : WorkerProgress) (p : Printing) (entries : List Entry) → progress.seen ≡ p.seen → EachTells origin set (commands_in entries) (outcomes_in entries)
+    → (with_entries p entries).text ≡ p.text ++ replies_text origin set p.next progress (replies_in entries)
+text-from origin set progress p [] e t = sym (append-nil p.text)
+text-from origin set progress p (Came command outcome ∷ entries) e t =
+    let rest = text-from origin set (progress_after progress command outcome.version) (with_ran p command outcome) entries (seen-is progress command outcome.version p.seen e) t.1 in
     rest ∙ append_assoc p.text (outcome_text 1 p.next outcome) _
-    ∙ ap (λ (x : List ℕ). p.text ++ (head_text 1 p.next outcome.version ++ x ++ replies_text origin set (p.next + 1) (sight_after sight command outcome.version) (replies_in entries))) (sym (command_told origin set command outcome t.0))
-text-from origin set sight p (Refused line kind ∷ entries) e t =
-    text-from origin set sight (with_refused p line kind) entries e t ∙ append_assoc p.text (refused_line_text line kind) _
-text-from origin set sight p (Gave ∷ entries) e t =
-    text-from origin set sight (with_given_up p) entries e t ∙ append_assoc p.text (given_up_text p.next p.seen) _
-    ∙ ap (λ (v : ℕ). p.text ++ (given_up_text p.next v ++ replies_text origin set (p.next + 1) sight (replies_in entries))) (sym e)
+    ∙ ap (λ (x : List ℕ). p.text ++ (head_text 1 p.next outcome.version ++ x ++ replies_text origin set (p.next + 1) (progress_after progress command outcome.version) (replies_in entries))) (sym (command_told origin set command outcome t.0))
+text-from origin set progress p (Refused line kind ∷ entries) e t =
+    text-from origin set progress (with_refused p line kind) entries e t ∙ append_assoc p.text (refused_line_text line kind) _
+text-from origin set progress p (Gave ∷ entries) e t =
+    text-from origin set progress (with_given_up p) entries e t ∙ append_assoc p.text (given_up_text p.next p.seen) _
+    ∙ ap (λ (v : ℕ). p.text ++ (given_up_text p.next v ++ replies_text origin set (p.next + 1) progress (replies_in entries))) (sym e)
 
 -- whether anything was refused
 refused-from : (p : Printing) (entries : List Entry) → (with_entries p entries).refused ≡ cond (refuses_some (replies_in entries)) true p.refused

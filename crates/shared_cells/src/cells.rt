@@ -1,7 +1,7 @@
 //! The cells of the table, as the trie's crates know cells.
 ghost use Rattle.std.specs.Prelude.{◌≡◌};
 
-use crate::law::Law;
+use crate::law::HistoryLaw;
 use crate::pinned::PinnedSeat;
 use crate::shared::Shared;
 use chunk_cells::CellRead;
@@ -11,13 +11,13 @@ use pin_core::words::place_of_half;
 
 /// The cells of the version that a pass has pinned.
 #[derive(Drop)]
-pub struct PinnedCells<'a, O, E, L: Law<O, E>> {
+pub struct PinnedCells<'a, O, E, L: HistoryLaw<O, E>> {
     shared: &'a Shared<O, E, L>,
     seat: &'a mut PinnedSeat<O, E>,
     ghost here: { seat.now.place.table_id ≡ shared.now.table.shared.table_id },
 }
 
-impl<'a, O, E, L: Law<O, E>> PinnedCells<'a, O, E, L> {
+impl<'a, O, E, L: HistoryLaw<O, E>> PinnedCells<'a, O, E, L> {
     pub fn new(
         shared: &'a Shared<O, E, L>,
         seat: &'a mut PinnedSeat<O, E>,
@@ -31,7 +31,7 @@ impl<'a, O, E, L: Law<O, E>> PinnedCells<'a, O, E, L> {
 }
 
 /// A cell is two loads. Nobody waits, and nothing is taken twice: no cell of a pinned version is ever written.
-impl<O, E, L: Law<O, E>> CellRead for PinnedCells<'_, O, E, L> {
+impl<O, E, L: HistoryLaw<O, E>> CellRead for PinnedCells<'_, O, E, L> {
     ghost use Rattle.std.specs.Prelude.{Contains};
     ghost use Rattle.shared_cells.specs.Views.{pinned_image};
 

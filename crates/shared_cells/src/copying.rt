@@ -4,14 +4,14 @@
 ghost use Rattle.std.specs.Prelude.{◌≡◌, ◌+◌, ◌*◌, ◌^◌, ◌≤◌, true};
 ghost use Rattle.shared_cells.specs.Prelude.{has_turn, kept_in, stored_view, IsBlankWord, MayCopy, HasCopied};
 
-use crate::law::Law;
+use crate::law::HistoryLaw;
 use crate::plays::{Recall, Store};
 use crate::shared::Shared;
 use crate::view::Place;
 
 /// Stores a word of a cell that no kept version has.
 #[inline]
-fn store_word<O, E, L: Law<O, E>>(
+fn store_word<O, E, L: HistoryLaw<O, E>>(
     shared: &Shared<O, E, L>,
     place: &mut Place<O, E>,
     word: usize,
@@ -28,7 +28,7 @@ fn store_word<O, E, L: Law<O, E>>(
 
 /// Copies a word.
 #[inline]
-fn copy_word<O, E, L: Law<O, E>>(
+fn copy_word<O, E, L: HistoryLaw<O, E>>(
     shared: &Shared<O, E, L>,
     place: &mut Place<O, E>,
     from: usize,
@@ -45,7 +45,7 @@ fn copy_word<O, E, L: Law<O, E>>(
 
 /// Copies the two words of a cell.
 #[inline]
-fn copy_two<O, E, L: Law<O, E>>(
+fn copy_two<O, E, L: HistoryLaw<O, E>>(
     shared: &Shared<O, E, L>,
     place: &mut Place<O, E>,
     from: usize,
@@ -63,7 +63,7 @@ fn copy_two<O, E, L: Law<O, E>>(
 
 /// Copies the words of two cells.
 #[inline]
-fn copy_four<O, E, L: Law<O, E>>(
+fn copy_four<O, E, L: HistoryLaw<O, E>>(
     shared: &Shared<O, E, L>,
     place: &mut Place<O, E>,
     from: usize,
@@ -81,7 +81,7 @@ fn copy_four<O, E, L: Law<O, E>>(
 
 /// Copies the words of four cells. Within a loop a word would take six instructions in place of four.
 #[inline(never)]
-fn copy_eight<O, E, L: Law<O, E>>(
+fn copy_eight<O, E, L: HistoryLaw<O, E>>(
     shared: &Shared<O, E, L>,
     place: &mut Place<O, E>,
     from: usize,
@@ -99,7 +99,7 @@ fn copy_eight<O, E, L: Law<O, E>>(
 
 /// Copies the words of three cells or fewer.
 #[inline]
-fn copy_few<O, E, L: Law<O, E>>(
+fn copy_few<O, E, L: HistoryLaw<O, E>>(
     shared: &Shared<O, E, L>,
     place: &mut Place<O, E>,
     from: usize,
@@ -124,7 +124,7 @@ fn copy_few<O, E, L: Law<O, E>>(
 }
 
 /// Copies the words of so many cells, four cells at a time.
-pub(crate) fn copy_words<O, E, L: Law<O, E>>(
+pub(crate) fn copy_words<O, E, L: HistoryLaw<O, E>>(
     shared: &Shared<O, E, L>,
     place: &mut Place<O, E>,
     from: usize,

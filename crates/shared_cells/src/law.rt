@@ -4,7 +4,7 @@ use std::marker::Brand;
 /// What an index's versions are. O is a version, E what one entry of the history does to it.
 ///
 /// The table knows no names and no records: the crate above says by this trait what its versions mean.
-pub trait Law<O, E> {
+pub trait HistoryLaw<O, E> {
     ghost use Rattle.std.specs.Prelude.{List, Option, ℕ};
     ghost use Rattle.pin_core.specs.declared.kept.CellAt.{CellAt};
 

@@ -7,7 +7,7 @@ ghost use Rattle.shared_cells.specs.Prelude.{half_at, status_at, words_for, is_k
 ghost use Rattle.shared_cells.specs.Prelude.{words_of, kept_in, stored_view, cells_of, with_words, IsNewTurn, IsJoined};
 
 use crate::copying::copy_words;
-use crate::law::Law;
+use crate::law::HistoryLaw;
 use crate::plays::{Recall, Store};
 use crate::shared::Shared;
 use crate::turn::{JoinedSeat, NewTurnSeat};
@@ -43,7 +43,7 @@ impl<O, E> Lent<O, E> for Brand {
 ///
 /// They are lent by a seat, and given back as the seat that it was, with the words that were written.
 #[derive(Drop)]
-pub struct TurnCells<'a, O, E, L: Law<O, E>, B: Lent<O, E>> {
+pub struct TurnCells<'a, O, E, L: HistoryLaw<O, E>, B: Lent<O, E>> {
     shared: &'a Shared<O, E, L>,
     place: Place<O, E>,
     /// The current version.
@@ -55,7 +55,7 @@ pub struct TurnCells<'a, O, E, L: Law<O, E>, B: Lent<O, E>> {
     lent: PhantomData<B>,
 }
 
-impl<'a, O, E, L: Law<O, E>, B: Lent<O, E>> Model for TurnCells<'a, O, E, L, B> {
+impl<'a, O, E, L: HistoryLaw<O, E>, B: Lent<O, E>> Model for TurnCells<'a, O, E, L, B> {
     ghost use Rattle.std.specs.Prelude.{◌≡◌};
     ghost use Rattle.shared_cells.specs.Cells.{Cells};
 
@@ -68,7 +68,7 @@ impl<'a, O, E, L: Law<O, E>, B: Lent<O, E>> Model for TurnCells<'a, O, E, L, B> 
     ghost invariant = { λ s. IsLent B.table B.view s.place.table_id s.place.me s.version s.number s.passes × (s.shared.now.table.shared.table_id ≡ B.table) };
 }
 
-impl<O, E, L: Law<O, E>, B: Lent<O, E>> CellRead for TurnCells<'_, O, E, L, B> {
+impl<O, E, L: HistoryLaw<O, E>, B: Lent<O, E>> CellRead for TurnCells<'_, O, E, L, B> {
     ghost use Rattle.shared_cells.specs.Cells.{HasCell};
 
     ghost has = { HasCell };
@@ -83,7 +83,7 @@ impl<O, E, L: Law<O, E>, B: Lent<O, E>> CellRead for TurnCells<'_, O, E, L, B> {
     }
 }
 
-impl<O, E, L: Law<O, E>, B: Lent<O, E>> CellWrite for TurnCells<'_, O, E, L, B> {
+impl<O, E, L: HistoryLaw<O, E>, B: Lent<O, E>> CellWrite for TurnCells<'_, O, E, L, B> {
     ghost use Rattle.shared_cells.specs.Cells.{given_chunks, kept_references};
 
     ghost given = { given_chunks };
@@ -116,7 +116,7 @@ impl<O, E, L: Law<O, E>, B: Lent<O, E>> CellWrite for TurnCells<'_, O, E, L, B> 
 
 impl<O, E> NewTurnSeat<O, E> {
     /// Lends the cells, so that version 0 can be written before it is opened.
-    pub fn lend<L: Law<O, E>, B: Lent<O, E>>(
+    pub fn lend<L: HistoryLaw<O, E>, B: Lent<O, E>>(
         self,
         shared: &Shared<O, E, L>,
     ) -> TurnCells<'_, O, E, L, B>
@@ -139,7 +139,7 @@ impl<O, E> NewTurnSeat<O, E> {
 
 impl<O, E> JoinedSeat<O, E> {
     /// Lends the cells.
-    pub fn lend<L: Law<O, E>, B: Lent<O, E>>(
+    pub fn lend<L: HistoryLaw<O, E>, B: Lent<O, E>>(
         self,
         shared: &Shared<O, E, L>,
     ) -> TurnCells<'_, O, E, L, B>
@@ -165,7 +165,7 @@ impl<O, E> JoinedSeat<O, E> {
     }
 }
 
-impl<O, E, L: Law<O, E>, B: Lent<O, E>> TurnCells<'_, O, E, L, B> {
+impl<O, E, L: HistoryLaw<O, E>, B: Lent<O, E>> TurnCells<'_, O, E, L, B> {
     /// The seat that lent the cells.
     pub fn into_new(self) -> NewTurnSeat<O, E>
         requires { IsNewTurn B.view }
@@ -211,7 +211,11 @@ impl<O, E, L: Law<O, E>, B: Lent<O, E>> TurnCells<'_, O, E, L, B> {
 }
 
 /// A word past the pins, which is as the turn knows it.
-fn recall<O, E, L: Law<O, E>>(shared: &Shared<O, E, L>, place: &mut Place<O, E>, word: usize) -> u64
+fn recall<O, E, L: HistoryLaw<O, E>>(
+    shared: &Shared<O, E, L>,
+    place: &mut Place<O, E>,
+    word: usize,
+) -> u64
     requires table { place.old.table_id ≡ shared.now.table.shared.table_id }
     requires turn { has_turn place.old.me.0.turn ≡ true }
     requires inside { (64 < word) × (word < shared.now.table.shared.table_id.words) }
@@ -222,7 +226,7 @@ fn recall<O, E, L: Law<O, E>>(shared: &Shared<O, E, L>, place: &mut Place<O, E>,
 }
 
 /// Writes a word of a cell that is in no kept image.
-fn write_half<O, E, L: Law<O, E>>(
+fn write_half<O, E, L: HistoryLaw<O, E>>(
     shared: &Shared<O, E, L>,
     place: &mut Place<O, E>,
     at: Ref,
@@ -241,7 +245,11 @@ fn write_half<O, E, L: Law<O, E>>(
 }
 
 /// Stores that a chunk is given.
-fn mark_given<O, E, L: Law<O, E>>(shared: &Shared<O, E, L>, place: &mut Place<O, E>, chunk: u32)
+fn mark_given<O, E, L: HistoryLaw<O, E>>(
+    shared: &Shared<O, E, L>,
+    place: &mut Place<O, E>,
+    chunk: u32,
+)
     requires table { place.old.table_id ≡ shared.now.table.shared.table_id }
     requires turn { has_turn place.old.me.0.turn ≡ true }
     requires inside { chunk < shared.now.table.shared.key.chunks }
@@ -253,7 +261,11 @@ fn mark_given<O, E, L: Law<O, E>>(shared: &Shared<O, E, L>, place: &mut Place<O,
 }
 
 /// Stores that a chunk is free, which no kept image meets.
-fn mark_free<O, E, L: Law<O, E>>(shared: &Shared<O, E, L>, place: &mut Place<O, E>, chunk: u32)
+fn mark_free<O, E, L: HistoryLaw<O, E>>(
+    shared: &Shared<O, E, L>,
+    place: &mut Place<O, E>,
+    chunk: u32,
+)
     requires table { place.old.table_id ≡ shared.now.table.shared.table_id }
     requires turn { has_turn place.old.me.0.turn ≡ true }
     requires inside { chunk < shared.now.table.shared.key.chunks }

@@ -18,7 +18,7 @@ mod turn;
 mod view;
 
 pub use cells::PinnedCells;
-pub use law::{Counted, Law, Opening, Payload};
+pub use law::{Counted, HistoryLaw, Opening, Payload};
 pub use lent::{Lent, TurnCells};
 pub use pass::{NewPassSeat, PassSeat, SeatNote};
 pub use pinned::PinnedSeat;

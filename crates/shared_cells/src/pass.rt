@@ -2,7 +2,7 @@
 ghost use Rattle.std.specs.Prelude.{◌≡◌, ℕ, ◌+◌, ◌*◌, ◌<◌, ◌≤◌, length, true, false, []};
 ghost use Rattle.shared_cells.specs.Prelude.{words_for, number_of, has_turn, is_told, is_idle, chunks_of, with_note, note_of, Learns, Accounts};
 
-use crate::law::{Counted, Law};
+use crate::law::{Counted, HistoryLaw};
 use crate::plays::{Account, Hear, Learn, Tell};
 use crate::shared::Shared;
 use crate::view::Place;
@@ -47,7 +47,7 @@ pub struct PassSeat<O, E> {
 
 impl<O, E> NewPassSeat<O, E> {
     /// Learns of the opening, and all else that the note tells.
-    pub fn learn<L: Law<O, E>>(
+    pub fn learn<L: HistoryLaw<O, E>>(
         self,
         shared: &Shared<O, E, L>,
         note: SeatNote<O, E>,
@@ -65,7 +65,7 @@ impl<O, E> NewPassSeat<O, E> {
 
 impl<O, E> PassSeat<O, E> {
     /// A note of what this pass has seen.
-    pub fn note<L: Law<O, E>>(&mut self, shared: &Shared<O, E, L>) -> SeatNote<O, E>
+    pub fn note<L: HistoryLaw<O, E>>(&mut self, shared: &Shared<O, E, L>) -> SeatNote<O, E>
         requires { self.old.place.table_id ≡ shared.now.table.shared.table_id }
         ensures table { (self.new.place.table_id ≡ self.old.place.table_id) × (result.place.table_id ≡ self.old.place.table_id) }
         ensures same { (self.new.place.me.0 ≡ self.old.place.me.0) × (self.new.number ≡ self.old.number) }
@@ -76,7 +76,7 @@ impl<O, E> PassSeat<O, E> {
     }
 
     /// Learns what the note tells. From then on the pass sees no less.
-    pub fn learn<L: Law<O, E>>(&mut self, shared: &Shared<O, E, L>, note: SeatNote<O, E>)
+    pub fn learn<L: HistoryLaw<O, E>>(&mut self, shared: &Shared<O, E, L>, note: SeatNote<O, E>)
         requires { (self.old.place.table_id ≡ shared.now.table.shared.table_id) × (note.place.table_id ≡ shared.now.table.shared.table_id) }
         ensures table { self.new.place.table_id ≡ self.old.place.table_id }
         ensures number { self.new.number ≡ self.old.number }
@@ -86,7 +86,7 @@ impl<O, E> PassSeat<O, E> {
     }
 
     /// Looks at the current version's word, which tells what the rule knows of this pass.
-    pub fn look<L: Law<O, E>, M: Counted>(&mut self, shared: &Shared<O, E, L>)
+    pub fn look<L: HistoryLaw<O, E>, M: Counted>(&mut self, shared: &Shared<O, E, L>)
         requires table { self.old.place.table_id ≡ shared.now.table.shared.table_id }
         requires passes { M.passes ≡ shared.now.table.shared.key.passes }
         ensures table { self.new.place.table_id ≡ self.old.place.table_id }
@@ -97,7 +97,7 @@ impl<O, E> PassSeat<O, E> {
     }
 
     /// The same beside what the note tells, which isn't learnt.
-    pub fn look_beside<L: Law<O, E>, M: Counted>(
+    pub fn look_beside<L: HistoryLaw<O, E>, M: Counted>(
         &mut self,
         shared: &Shared<O, E, L>,
         note: SeatNote<O, E>,
@@ -116,7 +116,11 @@ impl<O, E> PassSeat<O, E> {
 }
 
 /// Joins the note to the pass, and looks, which tells that what both have seen are beginnings of one history.
-fn hear<O, E, L: Law<O, E>>(shared: &Shared<O, E, L>, place: &mut Place<O, E>, note: SeatNote<O, E>)
+fn hear<O, E, L: HistoryLaw<O, E>>(
+    shared: &Shared<O, E, L>,
+    place: &mut Place<O, E>,
+    note: SeatNote<O, E>,
+)
     requires table { (place.old.table_id ≡ shared.now.table.shared.table_id) × (note.place.table_id ≡ shared.now.table.shared.table_id) }
     requires pass { (number : ℕ) × (number_of place.old.me.0.pass ≡ number + 1) }
     requires idle { (has_turn place.old.me.0.turn ≡ false) × (is_idle place.old.me.0.progress ≡ true) }

@@ -5,7 +5,7 @@ ghost use Rattle.shared_cells.specs.Prelude.{words_for, IsPartOf, number_of, has
 ghost use Rattle.shared_cells.specs.Prelude.{pinned_root, pinned_image, chunks_of, root_of, with_note, with_progress, note_of, Accounts, IsWordOf, Pins, Settles};
 ghost use Rattle.shared_cells.specs.declared.view.Progress.TheVariants as progress;
 
-use crate::law::{Counted, Law};
+use crate::law::{Counted, HistoryLaw};
 use crate::pass::{PassSeat, SeatNote};
 use crate::plays::{Account, Enter, Glance, Hear, Leave, Read, Settle, Tell};
 use crate::shared::Shared;
@@ -40,7 +40,7 @@ pub struct PinnedSeat<O, E> {
 impl<O, E> PassSeat<O, E> {
     /// Pins a version that is current at some moment of the call, in three steps, whatever the turn does meanwhile: the
     /// pass enters, looks and settles.
-    pub fn pin<L: Law<O, E>>(self, shared: &Shared<O, E, L>) -> PinnedSeat<O, E>
+    pub fn pin<L: HistoryLaw<O, E>>(self, shared: &Shared<O, E, L>) -> PinnedSeat<O, E>
         requires { self.place.table_id ≡ shared.now.table.shared.table_id }
         ensures table { result.place.table_id ≡ self.place.table_id }
         ensures number { result.number ≡ self.number }
@@ -62,7 +62,7 @@ impl<O, E> PassSeat<O, E> {
 
 impl<O, E> PinnedSeat<O, E> {
     /// The pass is idle again. What it has seen and pinned stays known.
-    pub fn unpin<L: Law<O, E>>(self, shared: &Shared<O, E, L>) -> PassSeat<O, E>
+    pub fn unpin<L: HistoryLaw<O, E>>(self, shared: &Shared<O, E, L>) -> PassSeat<O, E>
         requires { self.place.table_id ≡ shared.now.table.shared.table_id }
         ensures table { result.place.table_id ≡ self.place.table_id }
         ensures number { result.number ≡ self.number }
@@ -79,7 +79,7 @@ impl<O, E> PinnedSeat<O, E> {
     }
 
     /// A word of the table. If it is one of a cell of the pinned version, it is as it was published.
-    pub fn read<L: Law<O, E>>(&mut self, shared: &Shared<O, E, L>, word: usize) -> u64
+    pub fn read<L: HistoryLaw<O, E>>(&mut self, shared: &Shared<O, E, L>, word: usize) -> u64
         requires table { self.old.place.table_id ≡ shared.now.table.shared.table_id }
         requires inside { word < shared.now.table.shared.table_id.words }
         ensures same { self.new ≡ self.old }
@@ -89,7 +89,7 @@ impl<O, E> PinnedSeat<O, E> {
     }
 
     /// A note of what this pass has seen, its version among it.
-    pub fn note<L: Law<O, E>>(&mut self, shared: &Shared<O, E, L>) -> SeatNote<O, E>
+    pub fn note<L: HistoryLaw<O, E>>(&mut self, shared: &Shared<O, E, L>) -> SeatNote<O, E>
         requires { self.old.place.table_id ≡ shared.now.table.shared.table_id }
         ensures table { (self.new.place.table_id ≡ self.old.place.table_id) × (result.place.table_id ≡ self.old.place.table_id) }
         ensures same { (self.new.place.me.0 ≡ self.old.place.me.0) × (self.new.number ≡ self.old.number) }
@@ -101,7 +101,7 @@ impl<O, E> PinnedSeat<O, E> {
 
     /// Looks at the current version's word, which tells what the rule knows of this pass, beside what the note tells. That isn't learnt:
     /// the pass is still pinned at its version, and has seen no more.
-    pub fn look_beside<L: Law<O, E>, M: Counted>(
+    pub fn look_beside<L: HistoryLaw<O, E>, M: Counted>(
         &mut self,
         shared: &Shared<O, E, L>,
         note: SeatNote<O, E>,
@@ -123,7 +123,7 @@ impl<O, E> PinnedSeat<O, E> {
 ///
 /// The pass says that it enters before it loads the current version, and who publishes stores that before it looks at passes: so one of both
 /// sees the other. Were the version loaded first, it could be dropped before the pin stands.
-fn take_pin<O, E, L: Law<O, E>>(
+fn take_pin<O, E, L: HistoryLaw<O, E>>(
     shared: &Shared<O, E, L>,
     place: &mut Place<O, E>,
     number: u32,
@@ -148,7 +148,7 @@ fn take_pin<O, E, L: Law<O, E>>(
 }
 
 /// A pinned pass is idle again.
-fn leave<O, E, L: Law<O, E>>(shared: &Shared<O, E, L>, place: &mut Place<O, E>, number: u32)
+fn leave<O, E, L: HistoryLaw<O, E>>(shared: &Shared<O, E, L>, place: &mut Place<O, E>, number: u32)
     requires table { place.old.table_id ≡ shared.now.table.shared.table_id }
     requires few { number < 64 }
     requires pass { number_of place.old.me.0.pass ≡ number + 1 }

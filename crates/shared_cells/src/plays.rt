@@ -2,7 +2,7 @@
 ghost use Rattle.shared_cells.specs.Views.{with_new_pass, new_pass_of, note_of, pass_of, without_pass, with_pass, with_note, spent_view};
 ghost use Rattle.shared_cells.specs.Steps.{looked, learnt, opened, published, accounted, entered, glanced, settled, left, read, stored, recalled, scanned, assigned};
 
-use crate::law::{Counted, Law, Opening, Payload};
+use crate::law::{Counted, HistoryLaw, Opening, Payload};
 use crate::view::View;
 use atomic_table::{Join, Play, Split};
 use std::marker::PhantomData;
@@ -30,7 +30,7 @@ pub(crate) struct Look<L> {
     law: PhantomData<L>,
 }
 
-impl<O, E, L: Law<O, E>> Play<(), View<O, E>> for Look<L> {
+impl<O, E, L: HistoryLaw<O, E>> Play<(), View<O, E>> for Look<L> {
     ghost then = { looked L.applied L.lawful L.permitted L.stands };
 }
 
@@ -69,7 +69,7 @@ pub(crate) struct Settle<L> {
     law: PhantomData<L>,
 }
 
-impl<O, E, L: Law<O, E>> Play<(), View<O, E>> for Settle<L> {
+impl<O, E, L: HistoryLaw<O, E>> Play<(), View<O, E>> for Settle<L> {
     ghost then = { settled L.applied L.lawful L.permitted L.stands };
 }
 

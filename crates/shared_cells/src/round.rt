@@ -4,7 +4,7 @@ ghost use Rattle.pin_core.specs.declared.kept.Mark.TheVariants as mark;
 ghost use Rattle.shared_cells.specs.Prelude.{mark_of, is_settled, has_turn, is_told, kept_in};
 ghost use Rattle.shared_cells.specs.Prelude.{marks_of, Marks, IsCurrent, IsNamed, Rounded, Confirmed};
 
-use crate::law::Law;
+use crate::law::HistoryLaw;
 use crate::plays::{Assign, Look, Scan};
 use crate::shared::Shared;
 use crate::turn::{JoinedSeat, TurnSeat};
@@ -75,7 +75,7 @@ impl KeptVersions {
 impl<O, E> TurnSeat<O, E> {
     /// Looks at each pass's pin once, and helps the passes that are about to look. Kept are then the current version and
     /// those that the pins named, and no others. What the list had is lost.
-    pub fn round<L: Law<O, E>>(&mut self, shared: &Shared<O, E, L>, kept: &mut KeptVersions)
+    pub fn round<L: HistoryLaw<O, E>>(&mut self, shared: &Shared<O, E, L>, kept: &mut KeptVersions)
         requires { self.old.place.table_id ≡ shared.now.table.shared.table_id }
         ensures table { self.new.place.table_id ≡ self.old.place.table_id }
         ensures numbers { (self.new.version ≡ self.old.version) × (self.new.passes ≡ self.old.passes) }
@@ -92,7 +92,7 @@ impl<O, E> TurnSeat<O, E> {
 impl<O, E> JoinedSeat<O, E> {
     /// Looks at each pass's pin once, and helps the passes that are about to look. Kept are then the current version and
     /// those that the pins named, and no others. What the list had is lost.
-    pub fn round<L: Law<O, E>>(&mut self, shared: &Shared<O, E, L>, kept: &mut KeptVersions)
+    pub fn round<L: HistoryLaw<O, E>>(&mut self, shared: &Shared<O, E, L>, kept: &mut KeptVersions)
         requires { self.old.place.table_id ≡ shared.now.table.shared.table_id }
         ensures table { self.new.place.table_id ≡ self.old.place.table_id }
         ensures numbers { (self.new.version ≡ self.old.version) × (self.new.passes ≡ self.old.passes) × (self.new.number ≡ self.old.number) }
@@ -107,7 +107,7 @@ impl<O, E> JoinedSeat<O, E> {
 }
 
 /// A round of the turn: it ends with the last pass's mark.
-fn make_round<O, E, L: Law<O, E>>(
+fn make_round<O, E, L: HistoryLaw<O, E>>(
     shared: &Shared<O, E, L>,
     place: &mut Place<O, E>,
     passes: u32,
@@ -140,7 +140,7 @@ fn make_round<O, E, L: Law<O, E>>(
 ///
 /// A round doesn't wait for a pass that has entered, which may have lost its processor. It pins it at the current version, which is kept anyway;
 /// the pass's own exchange fails then, and it reads that one.
-fn mark_pass<O, E, L: Law<O, E>>(
+fn mark_pass<O, E, L: HistoryLaw<O, E>>(
     shared: &Shared<O, E, L>,
     place: &mut Place<O, E>,
     pass: u32,

@@ -2,7 +2,7 @@
 ghost use Rattle.std.specs.Prelude.{◌≡◌, ◌+◌, ◌*◌, ◌≤◌, IfOk, All, map, []};
 ghost use Rattle.shared_cells.specs.Prelude.{range_with_len, words_for, started, core_size, unopened_view, pass_view};
 
-use crate::law::Law;
+use crate::law::HistoryLaw;
 use crate::pass::NewPassSeat;
 use crate::plays::NewPass;
 use crate::turn::NewTurnSeat;
@@ -13,7 +13,7 @@ use std::alloc::{AllocError, Global};
 
 /// The words that the threads of one index share. Each step on them is by a seat of this table.
 #[derive(Drop)]
-pub struct Shared<O, E, L: Law<O, E>> {
+pub struct Shared<O, E, L: HistoryLaw<O, E>> {
     pub table: IndexTable<O, E, L>,
     ghost few: { (table.shared.key.passes ≤ 64) × (table.shared.key.chunks ≤ 4096) },
     ghost wide: { words_for table.shared.key.chunks ≡ table.shared.table_id.words },
@@ -22,7 +22,7 @@ pub struct Shared<O, E, L: Law<O, E>> {
 /// A table with its seats: one for each pass, and the turn's.
 type Seats<O, E, L> = (Shared<O, E, L>, Vec<NewPassSeat<O, E>>, NewTurnSeat<O, E>);
 
-impl<O, E, L: Law<O, E>> Shared<O, E, L> {
+impl<O, E, L: HistoryLaw<O, E>> Shared<O, E, L> {
     /// A table that isn't open, with a seat for each pass and the turn's. No later call takes memory.
     pub fn new(alloc: Global, chunks: u32, passes: u32) -> Result<Seats<O, E, L>, AllocError>
         requires passes { (1 ≤ passes) × (passes ≤ 64) }
@@ -53,7 +53,7 @@ fn first_words(alloc: Global, size: TableSize) -> Result<Vec<u64>, AllocError>
 }
 
 /// A seat for each pass.
-fn pass_seats<O, E, L: Law<O, E>>(
+fn pass_seats<O, E, L: HistoryLaw<O, E>>(
     alloc: Global,
     shared: &Shared<O, E, L>,
     place: &mut Place<O, E>,

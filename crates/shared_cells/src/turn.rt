@@ -4,7 +4,7 @@ ghost use Rattle.shared_cells.specs.Prelude.{words_for, number_of, marks_of, wor
 ghost use Rattle.shared_cells.specs.Prelude.{pass_of, without_pass, with_pass, CanOpen, Opened, CanPublish, Published, Confirmed};
 ghost use Rattle.pin_core.specs.declared.kept.Mark.TheVariants as mark;
 
-use crate::law::{Law, Opening, Payload};
+use crate::law::{HistoryLaw, Opening, Payload};
 use crate::pass::{PassSeat, SeatNote};
 use crate::plays::{Dismiss, Enlist, Look, Open, Publish, Tell};
 use crate::shared::Shared;
@@ -69,7 +69,7 @@ pub struct JoinedSeat<O, E> {
 
 impl<O, E> NewTurnSeat<O, E> {
     /// Opens the index with its version 0.
-    pub fn open<L: Law<O, E>, M: Opening<O>>(
+    pub fn open<L: HistoryLaw<O, E>, M: Opening<O>>(
         self,
         shared: &Shared<O, E, L>,
         root: Option<u32>,
@@ -93,7 +93,7 @@ impl<O, E> NewTurnSeat<O, E> {
 
 impl<O, E> TurnSeat<O, E> {
     /// A note of all that was published.
-    pub fn note<L: Law<O, E>>(&mut self, shared: &Shared<O, E, L>) -> SeatNote<O, E>
+    pub fn note<L: HistoryLaw<O, E>>(&mut self, shared: &Shared<O, E, L>) -> SeatNote<O, E>
         requires { self.old.place.table_id ≡ shared.now.table.shared.table_id }
         ensures table { (self.new.place.table_id ≡ self.old.place.table_id) × (result.place.table_id ≡ self.old.place.table_id) }
         ensures same { (self.new.place.me.0 ≡ self.old.place.me.0) × (self.new.version ≡ self.old.version) × (self.new.passes ≡ self.old.passes) }
@@ -104,7 +104,7 @@ impl<O, E> TurnSeat<O, E> {
     }
 
     /// Joins a pass for a transaction. What the pass had seen is told by the next look.
-    pub fn join<L: Law<O, E>>(
+    pub fn join<L: HistoryLaw<O, E>>(
         self,
         shared: &Shared<O, E, L>,
         pass: PassSeat<O, E>,
@@ -135,7 +135,7 @@ impl<O, E> TurnSeat<O, E> {
 
 impl<O, E> JoinedSeat<O, E> {
     /// Looks at the current version's word, which tells all that the rule knows of this seat.
-    pub fn look<L: Law<O, E>>(&mut self, shared: &Shared<O, E, L>) -> u64
+    pub fn look<L: HistoryLaw<O, E>>(&mut self, shared: &Shared<O, E, L>) -> u64
         requires { self.old.place.table_id ≡ shared.now.table.shared.table_id }
         ensures table { self.new.place.table_id ≡ self.old.place.table_id }
         ensures same { (self.new.place.me.0 ≡ self.old.place.me.0) × (self.new.version ≡ self.old.version) × (self.new.number ≡ self.old.number)
@@ -146,7 +146,7 @@ impl<O, E> JoinedSeat<O, E> {
     }
 
     /// Publishes the next version, as the joined pass's own step. Answers its number.
-    pub fn publish<L: Law<O, E>, M: Payload<E>>(
+    pub fn publish<L: HistoryLaw<O, E>, M: Payload<E>>(
         &mut self,
         shared: &Shared<O, E, L>,
         root: Option<u32>,
@@ -169,7 +169,10 @@ impl<O, E> JoinedSeat<O, E> {
     }
 
     /// The pass is given back. It has seen all that was published.
-    pub fn split<L: Law<O, E>>(self, shared: &Shared<O, E, L>) -> (TurnSeat<O, E>, PassSeat<O, E>)
+    pub fn split<L: HistoryLaw<O, E>>(
+        self,
+        shared: &Shared<O, E, L>,
+    ) -> (TurnSeat<O, E>, PassSeat<O, E>)
         requires { self.place.table_id ≡ shared.now.table.shared.table_id }
         ensures tables { (result.0.place.table_id ≡ self.place.table_id) × (result.1.place.table_id ≡ self.place.table_id) }
         ensures turn { (result.0.place.me.0 ≡ without_pass self.place.me.0) × (result.0.version ≡ self.version) × (result.0.passes ≡ self.passes) }

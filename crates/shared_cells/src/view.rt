@@ -1,7 +1,7 @@
 //! What each seat knows, and the rule of the table.
 //!
 //! No value of a view is made: views stand in contracts and proofs alone.
-use crate::law::Law;
+use crate::law::HistoryLaw;
 use atomic_table::{Seat, Table, TableRule};
 use pin_core::{Kept, Mark};
 use std::alloc::Global;
@@ -80,7 +80,7 @@ pub struct IndexRule<L> {
     law: PhantomData<L>,
 }
 
-impl<O, E, L: Law<O, E>> TableRule<(), View<O, E>, TableSize> for IndexRule<L> {
+impl<O, E, L: HistoryLaw<O, E>> TableRule<(), View<O, E>, TableSize> for IndexRule<L> {
     ghost use Rattle.shared_cells.specs.Rule.{IsSoundTable};
     ghost use Rattle.shared_cells.specs.Views.{first_view};
 

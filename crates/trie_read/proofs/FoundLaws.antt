@@ -11,7 +11,7 @@ use Rattle.trie_model.proofs.KeyLaws.{in_right, in_both}
 use Rattle.trie_model.proofs.OrderLaws.{rises_tree}
 use Rattle.trie_read.specs.declared.ancestors.Ancestor.{Ancestor}
 use Rattle.trie_read.specs.declared.iter.Iter.{Iter}
-use Rattle.trie_read.specs.declared.iter.Place.{Place}
+use Rattle.trie_read.specs.declared.iter.Cursor.{Cursor}
 use Rattle.trie_read.specs.Reads.{EachTells, FindsLeaf}
 use Rattle.trie_read.specs.Readings.{AtSplit}
 use Rattle.trie_read.specs.Finds.{IsKind, kind_of}
@@ -22,7 +22,7 @@ use Rattle.trie_read.proofs.AboveLaws.{ancestors_many}
 use Rattle.trie_read.proofs.IterLaws.{WithLast, with_last}
 
 pub stands_at_start : (has : ℕ → Cell → Type 0) (root : Option ℕ) (iter : Iter) (version : List Entry) → IsStart root iter → Stands has root version → EachTells Leads version → StandsBetween has root iter [] version
-stands_at_start has root iter version s stands told = record { root_is = s.root_is; stands = stands; told = told; place = subst (λ (p : Place). IsAt has root iter.path p [] version) (sym s.place) (s.depth, refl) }
+stands_at_start has root iter version s stands told = record { root_is = s.root_is; stands = stands; told = told; place = subst (λ (p : Cursor). IsAt has root iter.path p [] version) (sym s.place) (s.depth, refl) }
 
 pub stands_rises : (has : ℕ → Cell → Type 0) (root : Option ℕ) (version : List Entry) → Stands has root version → Rises version
 stands_rises has None version s = subst Rises (sym s) tt

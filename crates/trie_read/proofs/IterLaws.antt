@@ -10,8 +10,8 @@ use Rattle.trie_model.specs.Memory.{IsTrieAt, Stands}
 use Rattle.trie_model.proofs.KeyLaws.{in_left, in_right}
 use Rattle.trie_read.specs.declared.path.Step.{Step}
 use Rattle.trie_read.specs.declared.path.Path.{Path}
-use Rattle.trie_read.specs.declared.iter.Place.{Place}
-use Rattle.trie_read.specs.declared.iter.Place.TheVariants.{Facing, Past}
+use Rattle.trie_read.specs.declared.iter.Cursor.{Cursor}
+use Rattle.trie_read.specs.declared.iter.Cursor.TheVariants.{Facing, Past}
 use Rattle.trie_read.specs.declared.iter.Iter.{Iter}
 use Rattle.trie_read.specs.Reads.{EachTells, IsNamed}
 use Rattle.trie_read.specs.Walks.{HangsBy, AnyStep, LeadsTo, LeadsToFirst, LeadsToLast, OnLeaf, Faces, HasPassed, IsAt, StandsBetween, TurnedNext, TurnedBack}
@@ -91,10 +91,10 @@ passed_from_facing has r root mine path turned new l previous before after e f p
 
 -- the same place, told by another leaf
 pub stands_facing : (has : ℕ → Cell → Type 0) (root : Option ℕ) (old new : Iter) (before after : List Entry) (l : Leaf) → StandsBetween has root old before after → new.root ≡ old.root → new.place ≡ Facing l → Faces has root new.path l before after → StandsBetween has root new before after
-stands_facing has root old new before after l s r p f = record { root_is = r ∙ s.root_is; stands = s.stands; told = s.told; place = subst (λ (x : Place). IsAt has root new.path x before after) (sym p) f }
+stands_facing has root old new before after l s r p f = record { root_is = r ∙ s.root_is; stands = s.stands; told = s.told; place = subst (λ (x : Cursor). IsAt has root new.path x before after) (sym p) f }
 
 pub stands_past : (has : ℕ → Cell → Type 0) (root : Option ℕ) (old new : Iter) (before after : List Entry) (l : Leaf) → StandsBetween has root old before after → new.root ≡ old.root → new.place ≡ Past l → HasPassed has root new.path l before after → StandsBetween has root new before after
-stands_past has root old new before after l s r p f = record { root_is = r ∙ s.root_is; stands = s.stands; told = s.told; place = subst (λ (x : Place). IsAt has root new.path x before after) (sym p) f }
+stands_past has root old new before after l s r p f = record { root_is = r ∙ s.root_is; stands = s.stands; told = s.told; place = subst (λ (x : Cursor). IsAt has root new.path x before after) (sym p) f }
 
 -- ---- a name passed
 same_head : (a b : Entry) (x y : List Entry) → a ∷ x ≡ b ∷ y → a ≡ b
@@ -143,7 +143,7 @@ stepped_over has root old new before after e l s r p on =
       root_is = r ∙ s.root_is;
       stands = subst (Stands has root) all s.stands;
       told = subst (EachTells Leads) all s.told;
-      place = subst (λ (x : Place). IsAt has root new.path x (before ++ (e ∷ [])) after) (sym p) (record { entry = e; rest = before; is = refl; on = on });
+      place = subst (λ (x : Cursor). IsAt has root new.path x (before ++ (e ∷ [])) after) (sym p) (record { entry = e; rest = before; is = refl; on = on });
     }
 
 pub stepped_back : (has : ℕ → Cell → Type 0) (root : Option ℕ) (old new : Iter) (before after : List Entry) (e : Entry) (l : Leaf) → StandsBetween has root old (before ++ (e ∷ [])) after → new.root ≡ old.root → new.place ≡ Facing l → OnLeaf has root new.path l before e after → StandsBetween has root new before (e ∷ after)
@@ -153,7 +153,7 @@ stepped_back has root old new before after e l s r p on =
       root_is = r ∙ s.root_is;
       stands = subst (Stands has root) all s.stands;
       told = subst (EachTells Leads) all s.told;
-      place = subst (λ (x : Place). IsAt has root new.path x before (e ∷ after)) (sym p) (record { entry = e; rest = after; is = refl; on = on });
+      place = subst (λ (x : Cursor). IsAt has root new.path x before (e ∷ after)) (sym p) (record { entry = e; rest = after; is = refl; on = on });
     }
 
 pub entry_told : (before after : List Entry) (e : Entry) (rest : List Entry) → after ≡ e ∷ rest → EachTells Leads (before ++ after) → Leads e.key e.item

@@ -14,8 +14,8 @@ use Rattle.trie_model.proofs.KeyLaws.{in_right}
 use Rattle.trie_model.proofs.OrderLaws.{rises_tree}
 use Rattle.trie_read.specs.declared.path.Step.{Step}
 use Rattle.trie_read.specs.declared.path.Path.{Path}
-use Rattle.trie_read.specs.declared.iter.Place.{Place}
-use Rattle.trie_read.specs.declared.iter.Place.TheVariants.{Facing, Past}
+use Rattle.trie_read.specs.declared.iter.Cursor.{Cursor}
+use Rattle.trie_read.specs.declared.iter.Cursor.TheVariants.{Facing, Past}
 use Rattle.trie_read.specs.declared.iter.Iter.{Iter}
 use Rattle.trie_read.specs.declared.iter.Met.{Met}
 use Rattle.trie_read.specs.Reads.{EachTells}
@@ -108,7 +108,7 @@ stands_here has k r met version new m e root place =
         root_is = root;
         stands = s.0;
         told = s.1;
-        place = subst (λ (p : Place). IsAt has (Some r) new.path p before (m.entry ∷ after)) (sym place) (record { entry = m.entry; rest = after; is = refl; on = on });
+        place = subst (λ (p : Cursor). IsAt has (Some r) new.path p before (m.entry ∷ after)) (sym place) (record { entry = m.entry; rest = after; is = refl; on = on });
       };
     }
 
@@ -133,7 +133,7 @@ stands_past has k r path met version d m e new l less root placed passed =
       before = c.before ++ entries_of c.tree;
       after = c.after;
       split = split;
-      standing = record { root_is = root; stands = s.0; told = s.1; place = subst (λ (p : Place). IsAt has (Some r) new.path p (c.before ++ entries_of c.tree) c.after) (sym placed) (passed c) };
+      standing = record { root_is = root; stands = s.0; told = s.1; place = subst (λ (p : Cursor). IsAt has (Some r) new.path p (c.before ++ entries_of c.tree) c.after) (sym placed) (passed c) };
     }
 
 pub stands_facing : (has : ℕ → Cell → Type 0) (k : List ℕ) (r : ℕ) (path : Path) (met : Met) (version : List Entry) (d : Difference) (m : Meets has k r path met version) (e : met.difference ≡ Some d) (new : Iter) (l : Leaf) → (d.position < at k d.place → ⊥) → new.root ≡ Some r → new.place ≡ Facing l →
@@ -152,5 +152,5 @@ stands_facing has k r path met version d m e new l never root placed faces =
       before = c.before;
       after = entries_of c.tree ++ c.after;
       split = split;
-      standing = record { root_is = root; stands = s.0; told = s.1; place = subst (λ (p : Place). IsAt has (Some r) new.path p c.before (entries_of c.tree ++ c.after)) (sym placed) (faces c) };
+      standing = record { root_is = root; stands = s.0; told = s.1; place = subst (λ (p : Cursor). IsAt has (Some r) new.path p c.before (entries_of c.tree ++ c.after)) (sym placed) (faces c) };
     }

@@ -18,4 +18,4 @@ pub use Rattle.trie_read.specs.Reads.{EachTells, FindsLeaf, Gives, IsLeafOf, IsN
 pub use Rattle.trie_read.specs.Walks.{AnyStep, Approached, CutAt, Faces, Guided, HangsAtLevel, HangsBy, HasNode, HasPassed, IsPath, IsStart, LeadsTo}
 pub use Rattle.trie_read.specs.Walks.{LeadsToCell, LeadsToFirst, LeadsToLast, Meets, StandsBetween, StandsSomewhere, TurnsBack, TurnsNext, step_of}
 pub use Rattle.trie_read.specs.declared.ancestors.Ancestor.{Ancestor}
-pub use Rattle.trie_read.specs.declared.iter.Place.TheVariants.{Facing, Past}
+pub use Rattle.trie_read.specs.declared.iter.Cursor.TheVariants.{Facing, Past}

@@ -15,8 +15,8 @@ use Rattle.trie_model.specs.Memory.{top_cell, Beneath, IsTrieAt, Stands}
 use Rattle.trie_read.specs.Reads.{IsLeafOf, EachTells}
 use Rattle.trie_read.specs.declared.path.Step.{Step}
 use Rattle.trie_read.specs.declared.path.Path.{Path}
-use Rattle.trie_read.specs.declared.iter.Place.{Place}
-use Rattle.trie_read.specs.declared.iter.Place.TheVariants.{Start, Facing, Past}
+use Rattle.trie_read.specs.declared.iter.Cursor.{Cursor}
+use Rattle.trie_read.specs.declared.iter.Cursor.TheVariants.{Start, Facing, Past}
 use Rattle.trie_read.specs.declared.iter.Iter.{Iter}
 use Rattle.trie_read.specs.declared.iter.Met.{Met}
 
@@ -172,7 +172,7 @@ pub record HasPassed (has : ℕ → Cell → Type 0) (root : Option ℕ) (path :
   pub is : before ≡ rest ++ (entry ∷ [])
   pub on : OnLeaf has root path l rest entry after
 
-abbrev pub IsAt : (ℕ → Cell → Type 0) → Option ℕ → Path → Place → List Entry → List Entry → Type 0
+abbrev pub IsAt : (ℕ → Cell → Type 0) → Option ℕ → Path → Cursor → List Entry → List Entry → Type 0
 IsAt has root path Start before after = (path.depth ≡ 0) × (before ≡ [])
 IsAt has root path (Facing l) before after = Faces has root path l before after
 IsAt has root path (Past l) before after = HasPassed has root path l before after

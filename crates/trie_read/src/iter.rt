@@ -16,7 +16,7 @@ use shift_key::{Difference, Key};
 
 /// Where an iterator stands.
 #[derive(Clone, Copy)]
-pub enum Place {
+pub enum Cursor {
     /// Before the first name.
     Start,
     /// Right before the name of the leaf that its path leads to.
@@ -31,7 +31,7 @@ pub enum Place {
 pub struct Iter {
     root: Root,
     path: Path,
-    place: Place,
+    place: Cursor,
 }
 
 impl Iter {
@@ -42,7 +42,7 @@ impl Iter {
         Iter {
             root,
             path: Path::new(),
-            place: Place::Start,
+            place: Cursor::Start,
         }
     }
 
@@ -52,7 +52,7 @@ impl Iter {
     {
         self.root = root;
         self.path.depth = 0;
-        self.place = Place::Start;
+        self.place = Cursor::Start;
     }
 
     /// The next name's key; the place is then after it. `None` exactly at the end, and the place stays.
@@ -86,7 +86,7 @@ impl Iter {
             → StandsBetween (C.has cells.old) root self.new before [] }
     {
         let leaf = self.ahead(cells)?;
-        self.place = Place::Past(leaf);
+        self.place = Cursor::Past(leaf);
         Some(leaf)
     }
 
@@ -102,9 +102,9 @@ impl Iter {
         match self.root {
             None => None,
             Some(root) => match self.place {
-                Place::Start => Some(self.face_first(cells, root)),
-                Place::Facing(leaf) => Some(leaf),
-                Place::Past(_) => {
+                Cursor::Start => Some(self.face_first(cells, root)),
+                Cursor::Facing(leaf) => Some(leaf),
+                Cursor::Past(_) => {
                     if self.path.turn_next() {
                         Some(self.face_first(cells, root))
                     } else {
@@ -127,7 +127,7 @@ impl Iter {
     {
         let cell = self.path.node(cells, root, self.path.depth);
         let leaf = self.path.enter_first(cells, cell);
-        self.place = Place::Facing(leaf);
+        self.place = Cursor::Facing(leaf);
         leaf
     }
 
@@ -162,7 +162,7 @@ impl Iter {
             → StandsBetween (C.has cells.old) root self.new [] after }
     {
         let leaf = self.behind(cells)?;
-        self.place = Place::Facing(leaf);
+        self.place = Cursor::Facing(leaf);
         Some(leaf)
     }
 
@@ -178,9 +178,9 @@ impl Iter {
         match self.root {
             None => None,
             Some(root) => match self.place {
-                Place::Start => None,
-                Place::Past(leaf) => Some(leaf),
-                Place::Facing(_) => {
+                Cursor::Start => None,
+                Cursor::Past(leaf) => Some(leaf),
+                Cursor::Facing(_) => {
                     if self.path.turn_back() {
                         Some(self.pass_last(cells, root))
                     } else {
@@ -203,7 +203,7 @@ impl Iter {
     {
         let cell = self.path.node(cells, root, self.path.depth);
         let leaf = self.path.enter_last(cells, cell);
-        self.place = Place::Past(leaf);
+        self.place = Cursor::Past(leaf);
         leaf
     }
 
@@ -338,7 +338,7 @@ impl Iter {
             → AtSplit (StandsBetween (C.has cells.old) (Some root) self.new) key.now version }
     {
         match met.difference {
-            None => self.place = Place::Facing(met.leaf),
+            None => self.place = Cursor::Facing(met.leaf),
             Some(first) => {
                 if first.position < key.at(first.place) {
                     self.pass_last(cells, root);

@@ -8,7 +8,7 @@ use crate::thinned::{
 };
 use crate::tries::{Change, holds};
 use chunk_usage::Usage;
-use evacuate::Done;
+use evacuate::EvacuationEnd;
 use std::process::Abort;
 use std::test::Fail;
 
@@ -20,7 +20,7 @@ fn check_ten(rt: &impl Abort, usage: &Usage, outcome: Outcome) {
     assert!(rt; outcome.sparse >= 10);
     assert_eq!(rt;
         (outcome.done, outcome.names, outcome.walks),
-        (Done::Whole, 10, 1)
+        (EvacuationEnd::Whole, 10, 1)
     );
     assert_eq!(rt;
         live_cells(usage),
@@ -60,7 +60,7 @@ fn a_name_that_no_listed_path_leads_to_is_found_nearby(rt: HostRuntime) -> Resul
     let (root, outcome) = evacuated(&mut memory, &mut usage, root);
     assert_eq!(rt;
         (outcome.done, outcome.names, outcome.walks),
-        (Done::Whole, 32, 0)
+        (EvacuationEnd::Whole, 32, 0)
     );
     let mut out = buffer(rt.alloc())?;
     assert!(rt; holds(&mut memory, &usage, root, &items[130], &mut out));
@@ -78,7 +78,7 @@ fn a_name_that_no_listed_path_leads_near_is_found_by_a_walk(rt: HostRuntime) -> 
     let (root, outcome) = evacuated(&mut memory, &mut usage, root);
     assert_eq!(rt;
         (outcome.done, outcome.names, outcome.walks),
-        (Done::Whole, 32, 1)
+        (EvacuationEnd::Whole, 32, 1)
     );
     let mut out = buffer(rt.alloc())?;
     assert!(rt; holds(&mut memory, &usage, root, &items[130], &mut out));
@@ -95,7 +95,7 @@ fn an_evacuation_stops_where_no_chunk_is_free(rt: HostRuntime) -> Result<(), Fai
     let (_root, outcome) = evacuated(&mut memory, &mut usage, root);
     assert_eq!(rt;
         (outcome.sparse, outcome.done, outcome.names),
-        (1, Done::Stopped, 3)
+        (1, EvacuationEnd::Stopped, 3)
     );
     assert_eq!(rt;
         live_cells(&usage),
@@ -119,7 +119,7 @@ fn the_seventeenth_extent_is_moved_out_of_a_sparse_chunk(rt: HostRuntime) -> Res
     assert_eq!(rt; items.len(), 11);
     let root = thinned(&mut memory, &mut usage, &items, 10).ok_or("no room")?;
     let (root, outcome) = evacuated(&mut memory, &mut usage, root);
-    assert_eq!(rt; outcome.done, Done::Whole);
+    assert_eq!(rt; outcome.done, EvacuationEnd::Whole);
     assert_eq!(rt; usage.live(0), 0);
     let cells = outcome.nodes.saturating_add(SHORT_CELLS + LONG_CELLS);
     assert_eq!(rt; live_cells(&usage), cells);

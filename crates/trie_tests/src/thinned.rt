@@ -6,7 +6,7 @@ ghost use Rattle.trie_tests.specs.Tries.{IsTrie};
 use crate::tries::{Change, built, changed, sizes};
 use chunk_cells::CellWrite;
 use chunk_usage::{Space, Usage};
-use evacuate::{Done, evacuate};
+use evacuate::{EvacuationEnd, evacuate};
 use packed_node::Ref;
 use trie_write::Item;
 
@@ -98,7 +98,7 @@ pub(crate) fn misled<C: CellWrite, U: Space>(
 pub(crate) struct Outcome {
     /// How many chunks were sparse before.
     pub(crate) sparse: u32,
-    pub(crate) done: Done,
+    pub(crate) done: EvacuationEnd,
     /// How many names and nodes there are afterwards.
     pub(crate) names: u64,
     pub(crate) nodes: u64,

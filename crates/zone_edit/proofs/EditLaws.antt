@@ -10,12 +10,12 @@ use Rattle.trie_model.specs.Keys as trie
 use Rattle.trie_model.specs.Keys.{InList}
 use Rattle.zone_answer.specs.Standing.{IsVersion, trie_entry}
 use Rattle.job_model.specs.Sizes.{cell_count, cells_asked, item_cells, trie_entries}
-use Rattle.qp_multi.specs.declared.desk.Draft.{Draft}
+use Rattle.qp_multi.specs.declared.writer.WorkingVersion.{WorkingVersion}
 use Rattle.qp_multi.specs.declared.refusal.OutOfSpace.{OutOfSpace}
 use Rattle.qp_multi.specs.declared.meaning.Operation.{Operation}
 use Rattle.qp_multi.specs.declared.meaning.Operation.TheVariants as operation
 use Rattle.qp_multi.specs.Operations.{operated, applied, with_entry, without}
-use Rattle.qp_multi.specs.Drafts.{Operates, IsFull, IsSame, Between, base_of, working_set}
+use Rattle.qp_multi.specs.WorkingVersions.{Operates, IsFull, IsSame, Between, base_of, working_set}
 use Rattle.qp_multi.specs.Bounds.{IsCramped, IsCrowded}
 use Rattle.qp_multi.specs.Capacity.{BoundsHistory}
 use Rattle.qp_multi.specs.Rooms.{SparesReserve}
@@ -38,20 +38,20 @@ use Rattle.zone_answer.specs.Parts.{IsRead}
 use Rattle.zone_edit.specs.Stores.{WorksOn, WorksOnSome, Owns, EditsOne, Edits, Reads, Stores, IsCrowdedBy, IsFullOn}
 use Rattle.zone_edit.proofs.SetLaws.{IsOwner, inserted, exchanged, deleted}
 
--- ---- drafts that are there
+-- ---- working versions that are there
 
-pub between_then : (R S T : Draft → Draft → Type 0) (a b c : Option Draft) → ((d e f : Draft) → R d e → S e f → T d f) → Between R a b → Between S b c → Between T a c
+pub between_then : (R S T : WorkingVersion → WorkingVersion → Type 0) (a b c : Option WorkingVersion) → ((d e f : WorkingVersion) → R d e → S e f → T d f) → Between R a b → Between S b c → Between T a c
 between_then R S T (Some d) (Some e) (Some f) h r s = h d e f r s
 between_then R S T (Some d) (Some e) None h r s = s
 between_then R S T (Some d) None (Some f) h r s = absurd r
 between_then R S T (Some d) None None h r s = r
 between_then R S T None b c h r s = absurd (nothing b r)
   where
-    nothing : (x : Option Draft) → Between R None x → ⊥
+    nothing : (x : Option WorkingVersion) → Between R None x → ⊥
     nothing (Some e) q = q
     nothing None q = q
 
-pub some_after : (P : Draft → Type 0) (R : Draft → Draft → Type 0) (old new : Option Draft) → ((d e : Draft) → R d e → P e) → Between R old new → IsSomeAnd new P
+pub some_after : (P : WorkingVersion → Type 0) (R : WorkingVersion → WorkingVersion → Type 0) (old new : Option WorkingVersion) → ((d e : WorkingVersion) → R d e → P e) → Between R old new → IsSomeAnd new P
 some_after P R (Some d) (Some e) f r = f d e r
 some_after P R (Some d) None f r = absurd r
 some_after P R None (Some e) f r = absurd r
@@ -60,21 +60,21 @@ some_after P R None None f r = absurd r
 -- ---- the working set after a call
 
 -- the operation was done
-done_set : (o : Operation) (denied : List trie.Entry → Type 0) (d e : Draft) (A B : Type 0) → Operates o denied d e A B → A → working_set e ≡ operated (working_set d) o
+done_set : (o : Operation) (denied : List trie.Entry → Type 0) (d e : WorkingVersion) (A B : Type 0) → Operates o denied d e A B → A → working_set e ≡ operated (working_set d) o
 done_set o denied d e A B op a =
     ap (applied (base_of e)) (op.done a)
     ∙ ap (λ (es : List trie.Entry). applied es (d.log.operations ++ o ∷ [])) (base_goes_on op.known)
     ∙ applied_more (base_of d) d.log.operations o
 
 -- or it wasn't
-pub same_set : (o : Operation) (denied : List trie.Entry → Type 0) (d e : Draft) (A B : Type 0) → Operates o denied d e A B → (A → ⊥) → working_set e ≡ working_set d
+pub same_set : (o : Operation) (denied : List trie.Entry → Type 0) (d e : WorkingVersion) (A B : Type 0) → Operates o denied d e A B → (A → ⊥) → working_set e ≡ working_set d
 same_set o denied d e A B op undone = ap (applied (base_of e)) (op.stays undone) ∙ ap (λ (es : List trie.Entry). applied es d.log.operations) (base_goes_on op.known)
 
-pub works_same : (o : Operation) (denied : List trie.Entry → Type 0) (d e : Draft) (A B : Type 0) (version : Version) → Operates o denied d e A B → (A → ⊥) → WorksOn d version → WorksOn e version
+pub works_same : (o : Operation) (denied : List trie.Entry → Type 0) (d e : WorkingVersion) (A B : Type 0) (version : Version) → Operates o denied d e A B → (A → ⊥) → WorksOn d version → WorksOn e version
 works_same o denied d e A B version op undone on = record { works = op.works; set = same_set o denied d e A B op undone ∙ on.set; valid = on.valid }
 
 -- an operation that gives a name an item was done
-put_item : (o : Operation) (name : Name) (key bytes : List ℕ) (entry : Entry) (denied : List trie.Entry → Type 0) (d e : Draft) (A B : Type 0) (version : Version) → ((es : List trie.Entry) → operated es o ≡ with_entry es (record_of key bytes)) → key ≡ key_of name → IsItem bytes name entry
+put_item : (o : Operation) (name : Name) (key bytes : List ℕ) (entry : Entry) (denied : List trie.Entry → Type 0) (d e : WorkingVersion) (A B : Type 0) (version : Version) → ((es : List trie.Entry) → operated es o ≡ with_entry es (record_of key bytes)) → key ≡ key_of name → IsItem bytes name entry
     → with_entry (trie_entries version) (trie_entry (name, entry)) ≡ trie_entries (insert_entry name_cmp version name entry) → Operates o denied d e A B → A → WorksOn d version → WorksOn e (put name entry version)
 put_item o name key bytes entry denied d e A B version puts k is made op a on =
     subst (WorksOn e) (sym (put_some name entry version is.some)) (record {
@@ -84,19 +84,19 @@ put_item o name key bytes entry denied d e A B version puts k is made op a on =
     })
 
 -- a name was put in
-pub put_new : (name : Name) (key bytes : List ℕ) (entry : Entry) (denied : List trie.Entry → Type 0) (d e : Draft) (A B : Type 0) (version : Version) → key ≡ key_of name → IsItem bytes name entry
+pub put_new : (name : Name) (key bytes : List ℕ) (entry : Entry) (denied : List trie.Entry → Type 0) (d e : WorkingVersion) (A B : Type 0) (version : Version) → key ≡ key_of name → IsItem bytes name entry
     → ((x : trie.Entry) → InList x (trie_entries version) → x.key ≡ key_of name → ⊥) → Operates (operation.Insert (record_of key bytes)) denied d e A B → A → WorksOn d version → WorksOn e (put name entry version)
 put_new name key bytes entry denied d e A B version k is none op a on =
     put_item (operation.Insert (record_of key bytes)) name key bytes entry denied d e A B version (λ es. refl) k is (inserted name entry version is.name on.valid none) op a on
 
 -- its item was exchanged
-pub put_over : (name : Name) (key bytes : List ℕ) (entry : Entry) (denied : List trie.Entry → Type 0) (d e : Draft) (A B : Type 0) (version : Version) → key ≡ key_of name → IsItem bytes name entry
+pub put_over : (name : Name) (key bytes : List ℕ) (entry : Entry) (denied : List trie.Entry → Type 0) (d e : WorkingVersion) (A B : Type 0) (version : Version) → key ≡ key_of name → IsItem bytes name entry
     → IsOwner name version → Operates (operation.Replace (record_of key bytes)) denied d e A B → A → WorksOn d version → WorksOn e (put name entry version)
 put_over name key bytes entry denied d e A B version k is there op a on =
     put_item (operation.Replace (record_of key bytes)) name key bytes entry denied d e A B version (λ es. refl) k is (exchanged name entry version is.name on.valid there) op a on
 
 -- it was taken out
-pub put_out : (name : Name) (key : List ℕ) (denied : List trie.Entry → Type 0) (d e : Draft) (A B : Type 0) (version : Version) → key ≡ key_of name → IsName name
+pub put_out : (name : Name) (key : List ℕ) (denied : List trie.Entry → Type 0) (d e : WorkingVersion) (A B : Type 0) (version : Version) → key ≡ key_of name → IsName name
     → IsOwner name version → Operates (operation.Delete key) denied d e A B → A → WorksOn d version → WorksOn e (put name [] version)
 put_out name key denied d e A B version k is there op a on = record {
   works = op.works;
@@ -106,19 +106,19 @@ put_out name key denied d e A B version k is there op a on = record {
 
 -- ---- two facts of one call
 
-between_both : (R S T : Draft → Draft → Type 0) (old new : Option Draft) → ((d e : Draft) → R d e → S d e → T d e) → Between R old new → Between S old new → Between T old new
+between_both : (R S T : WorkingVersion → WorkingVersion → Type 0) (old new : Option WorkingVersion) → ((d e : WorkingVersion) → R d e → S d e → T d e) → Between R old new → Between S old new → Between T old new
 between_both R S T (Some d) (Some e) f r s = f d e r s
 between_both R S T (Some d) None f r s = r
 between_both R S T None (Some e) f r s = r
 between_both R S T None None f r s = r
 
-between_and : (R : Draft → Draft → Type 0) (P : Draft → Type 0) (T : Draft → Draft → Type 0) (old new : Option Draft) → ((d e : Draft) → R d e → P e → T d e) → Between R old new → IsSomeAnd new P → Between T old new
+between_and : (R : WorkingVersion → WorkingVersion → Type 0) (P : WorkingVersion → Type 0) (T : WorkingVersion → WorkingVersion → Type 0) (old new : Option WorkingVersion) → ((d e : WorkingVersion) → R d e → P e → T d e) → Between R old new → IsSomeAnd new P → Between T old new
 between_and R P T (Some d) (Some e) f r p = f d e r p
 between_and R P T (Some d) None f r p = r
 between_and R P T None (Some e) f r p = r
 between_and R P T None None f r p = r
 
-between_from : (R S : Draft → Draft → Type 0) (P : Draft → Type 0) (T : Draft → Draft → Type 0) (old new : Option Draft) → ((d e : Draft) → R d e → S d e → P d → T d e) → Between R old new → Between S old new → IsSomeAnd old P → Between T old new
+between_from : (R S : WorkingVersion → WorkingVersion → Type 0) (P : WorkingVersion → Type 0) (T : WorkingVersion → WorkingVersion → Type 0) (old new : Option WorkingVersion) → ((d e : WorkingVersion) → R d e → S d e → P d → T d e) → Between R old new → Between S old new → IsSomeAnd old P → Between T old new
 between_from R S P T (Some d) (Some e) f r s p = f d e r s p
 between_from R S P T (Some d) None f r s p = r
 between_from R S P T None (Some e) f r s p = r
@@ -138,11 +138,11 @@ begins_itself xs = begins_as xs xs refl
 pub goes_same : (v : Known) → GoesOn v v
 goes_same v = record { pass = refl; opening = refl; history = refl; namings = ([], sym (append-nil v.seen.namings)) }
 
-pub edits_same : (most : ℕ) (P : Draft → Type 0) (told : Version → Draft → Type 0) (old : Option Draft) → IsSomeAnd old P → ((d : Draft) (version : Version) → WorksOn d version → told version d) → Edits most told old old
+pub edits_same : (most : ℕ) (P : WorkingVersion → Type 0) (told : Version → WorkingVersion → Type 0) (old : Option WorkingVersion) → IsSomeAnd old P → ((d : WorkingVersion) (version : Version) → WorksOn d version → told version d) → Edits most told old old
 edits_same most P told (Some d) p f = record { known = goes_same d.seat.place.me.0; passes = refl; log = begins_itself d.log.operations; few = omega arith; becomes = λ version on. f d version on }
 edits_same most P told None p f = absurd p
 
-pub edits_as : (m most : ℕ) (A B : Version → Draft → Type 0) (old new : Option Draft) → m ≤ most → ((version : Version) (e : Draft) → A version e → B version e) → Edits m A old new → Edits most B old new
+pub edits_as : (m most : ℕ) (A B : Version → WorkingVersion → Type 0) (old new : Option WorkingVersion) → m ≤ most → ((version : Version) (e : WorkingVersion) → A version e → B version e) → Edits m A old new → Edits most B old new
 edits_as m most A B old new le f = between_as (EditsOne m A) (EditsOne most B) old new (λ d e _ _ r. record {
   known = r.known;
   passes = r.passes;
@@ -152,7 +152,7 @@ edits_as m most A B old new le f = between_as (EditsOne m A) (EditsOne most B) o
 })
 
 -- what the first made is a version, on which the second went on
-pub edits_on : (m n most : ℕ) (A B C : Version → Draft → Type 0) (a b c : Option Draft) → m + n ≤ most → ((version : Version) (e f : Draft) → A version e → (now : Version) × WorksOn e now × (B now f → C version f)) → Edits m A a b → Edits n B b c → Edits most C a c
+pub edits_on : (m n most : ℕ) (A B C : Version → WorkingVersion → Type 0) (a b c : Option WorkingVersion) → m + n ≤ most → ((version : Version) (e f : WorkingVersion) → A version e → (now : Version) × WorksOn e now × (B now f → C version f)) → Edits m A a b → Edits n B b c → Edits most C a c
 edits_on m n most A B C a b c le h = between_then (EditsOne m A) (EditsOne n B) (EditsOne most C) a b c (λ d e f r s. record {
   known = goes_further r.known s.known;
   passes = s.passes ∙ r.passes;
@@ -162,14 +162,14 @@ edits_on m n most A B C a b c le h = between_then (EditsOne m A) (EditsOne n B) 
 })
 
 -- a working set is there still
-pub is_there : (most : ℕ) (A : Version → Draft → Type 0) (old new : Option Draft) → Edits most A old new → IsSome new
+pub is_there : (most : ℕ) (A : Version → WorkingVersion → Type 0) (old new : Option WorkingVersion) → Edits most A old new → IsSome new
 is_there most A (Some d) (Some e) r = refl
 is_there most A (Some d) None r = absurd r
 is_there most A None (Some e) r = absurd r
 is_there most A None None r = absurd r
 
 -- some version is worked on still
-pub edits_some : (most : ℕ) (A : Version → Draft → Type 0) (old new : Option Draft) → IsSomeAnd old WorksOnSome → ((version : Version) (e : Draft) → A version e → WorksOnSome e) → Edits most A old new → IsSomeAnd new WorksOnSome
+pub edits_some : (most : ℕ) (A : Version → WorkingVersion → Type 0) (old new : Option WorkingVersion) → IsSomeAnd old WorksOnSome → ((version : Version) (e : WorkingVersion) → A version e → WorksOnSome e) → Edits most A old new → IsSomeAnd new WorksOnSome
 edits_some most A (Some d) (Some e) p f r = f p.version e (r.becomes p.version p.on)
 edits_some most A (Some d) None p f r = absurd r
 edits_some most A None (Some e) p f r = absurd p
@@ -177,12 +177,12 @@ edits_some most A None None p f r = p
 
 -- ---- an entry stored
 
-some_both : (P Q : Draft → Type 0) (o : Option Draft) → IsSomeAnd o P → IsSomeAnd o Q → IsSomeAnd o (λ d. P d × Q d)
+some_both : (P Q : WorkingVersion → Type 0) (o : Option WorkingVersion) → IsSomeAnd o P → IsSomeAnd o Q → IsSomeAnd o (λ d. P d × Q d)
 some_both P Q (Some d) p q = (p, q)
 some_both P Q None p q = absurd p
 
 -- what the index was asked for is no more than what a version's operation asks for
-crowded_by : (e : Draft) (key : List ℕ) (written kept asked : ℕ) (version : Version) → WorksOn e version → written + cell_count version ≤ asked → IsCrowded e key written kept → IsCrowdedBy e asked kept
+crowded_by : (e : WorkingVersion) (key : List ℕ) (written kept asked : ℕ) (version : Version) → WorksOn e version → written + cell_count version ≤ asked → IsCrowded e key written kept → IsCrowdedBy e asked kept
 crowded_by e key written kept asked version on within c most small some bounds =
     let few = c.few_twigs in
     let path : c.path ≤ cell_count version = subst (λ (es : List trie.Entry). c.path ≤ cells es) on.set few in
@@ -191,7 +191,7 @@ crowded_by e key written kept asked version on within c most small some bounds =
     omega (arith, bound, less)
 
 -- of kept versions there are no more than passes and one
-few_kept : (d : Draft) (f : OutOfSpace) → IsFull d f → length (versions_in f.kept) ≤ d.seat.passes + 1
+few_kept : (d : WorkingVersion) (f : OutOfSpace) → IsFull d f → length (versions_in f.kept) ≤ d.seat.passes + 1
 few_kept d f full =
     let same = ap length full.kept in
     let numbers = length-map d.usage.rows (λ (r : Row). r.version) in
@@ -199,7 +199,7 @@ few_kept d f full =
     omega (arith, same, numbers, most)
 
 -- what was published and done is as much as before
-cramped_still : (o : Operation) (denied : List trie.Entry → Type 0) (d e : Draft) (A B : Type 0) → Operates o denied d e A B → (A → ⊥) → SparesReserve d e → IsCramped d → IsCramped e
+cramped_still : (o : Operation) (denied : List trie.Entry → Type 0) (d e : WorkingVersion) (A B : Type 0) → Operates o denied d e A B → (A → ⊥) → SparesReserve d e → IsCramped d → IsCramped e
 cramped_still o denied d e A B op undone spares cramped most_cells most_operations bounds roomy =
     cramped most_cells most_operations
     (record {
@@ -217,21 +217,21 @@ cramped_still o denied d e A B op undone spares cramped most_cells most_operatio
       commits = λ c inside. b.commits c (subst (λ (h : List (Commit' (List Operation))). Contains h c) (sym on.history) inside);
     }
 
-module _ (o : Operation) (denied : List trie.Entry → Type 0) (A B : Type 0) (name : Name) (before entry : Entry) (old new : Option Draft) where
-  abbrev Operated : Draft → Draft → Type 0
+module _ (o : Operation) (denied : List trie.Entry → Type 0) (A B : Type 0) (name : Name) (before entry : Entry) (old new : Option WorkingVersion) where
+  abbrev Operated : WorkingVersion → WorkingVersion → Type 0
   Operated d e = Operates o denied d e A B
 
   abbrev Called : Type 0
   Called = Between Operated old new
 
   -- and it found no room
-  abbrev Cramped : Draft → Draft → Type 0
+  abbrev Cramped : WorkingVersion → WorkingVersion → Type 0
   Cramped d e = Operates o denied d e A B × IsCramped e
 
-  abbrev Filled : OutOfSpace → List ℕ → ℕ → Draft → Draft → Type 0
+  abbrev Filled : OutOfSpace → List ℕ → ℕ → WorkingVersion → WorkingVersion → Type 0
   Filled f key written d e = Operates o denied d e A B × IsFull e f × IsCramped e × IsCrowded e key written (length (versions_in f.kept))
 
-  pub stored : A → ((version : Version) (d e : Draft) → Operates o denied d e A B → WorksOn d version → before ≡ owned name version → WorksOn e (put name entry version)) → Called → Edits 1 (Stores name before entry (Ok tt)) old new
+  pub stored : A → ((version : Version) (d e : WorkingVersion) → Operates o denied d e A B → WorksOn d version → before ≡ owned name version → WorksOn e (put name entry version)) → Called → Edits 1 (Stores name before entry (Ok tt)) old new
   stored a puts call = between_as Operated (EditsOne 1 (Stores name before entry (Ok tt))) old new (λ d e _ _ op. record {
     known = op.known;
     passes = op.passes;
@@ -274,12 +274,12 @@ module _ (o : Operation) (denied : List trie.Entry → Type 0) (A B : Type 0) (n
 
 -- ---- an item read
 
-pub some_weaker : (P Q : Draft → Type 0) (o : Option Draft) → ((d : Draft) → P d → Q d) → IsSomeAnd o P → IsSomeAnd o Q
+pub some_weaker : (P Q : WorkingVersion → Type 0) (o : Option WorkingVersion) → ((d : WorkingVersion) → P d → Q d) → IsSomeAnd o P → IsSomeAnd o Q
 some_weaker P Q (Some d) f p = f d p
 some_weaker P Q None f p = absurd p
 
 module _ (name : Name) (key before after : List ℕ) (found : Option ℕ) (len : ℕ) (reads : (version : Version) → IsVersion version → Fetched key (trie_entries version) before after found → IsRead name version after len) where
-  read_one : (d e : Draft) → IsSame d e → Fetched key (working_set d) before after found → EditsOne 0 (Reads name after len) d e
+  read_one : (d e : WorkingVersion) → IsSame d e → Fetched key (working_set d) before after found → EditsOne 0 (Reads name after len) d e
   read_one d e same item = record {
     passes = sym e.agrees.passes ∙ ap (λ (u : Ledger). u.passes) same.usage ∙ d.agrees.passes;
     known = subst (GoesOn d.seat.place.me.0) (sym same.known) (goes_same d.seat.place.me.0);
@@ -293,18 +293,18 @@ module _ (name : Name) (key before after : List ℕ) (found : Option ℕ) (len :
         };
   }
 
-  pub read_as : (old new : Option Draft) → Between IsSame old new → IfSome old (λ d. Fetched key (working_set d) before after found) → Edits 0 (Reads name after len) old new
+  pub read_as : (old new : Option WorkingVersion) → Between IsSame old new → IfSome old (λ d. Fetched key (working_set d) before after found) → Edits 0 (Reads name after len) old new
   read_as (Some d) (Some e) same item = read_one d e same item
   read_as (Some d) None same item = same
   read_as None (Some e) same item = same
   read_as None None same item = same
 
-  pub read_within : (old : Option Draft) → IsSomeAnd old WorksOnSome → IfSome old (λ d. Fetched key (working_set d) before after found) → len ≤ length after
+  pub read_within : (old : Option WorkingVersion) → IsSomeAnd old WorksOnSome → IfSome old (λ d. Fetched key (working_set d) before after found) → len ≤ length after
   read_within (Some d) p item = (reads p.version p.on.valid (subst (λ (es : List trie.Entry). Fetched key es before after found) p.on.set item)).within
   read_within None p item = absurd p
 
 -- what a name owns is what was read
-module _ (name : Name) (octets : List ℕ) (len : ℕ) (old new : Option Draft) (works : IsSomeAnd old WorksOnSome) (reads : Edits 0 (Reads name octets len) old new) where
+module _ (name : Name) (octets : List ℕ) (len : ℕ) (old new : Option WorkingVersion) (works : IsSomeAnd old WorksOnSome) (reads : Edits 0 (Reads name octets len) old new) where
   pub read_some : (version : Version) × IsVersion version × IsRead name version octets len
   read_some =
       let x = both WorksOnSome (EditsOne 0 (Reads name octets len)) old new works reads in
@@ -314,4 +314,4 @@ module _ (name : Name) (octets : List ℕ) (len : ℕ) (old new : Option Draft) 
   owns_after before is =
       let x = both WorksOnSome (EditsOne 0 (Reads name octets len)) old new works reads in
       let r = x.related.becomes x.met.version x.met.on in
-      subst (λ (o : Option Draft). IsSomeAnd o (Owns name before)) (sym x.new_is) (record { version = x.met.version; on = r.stays; owned_is = is x.met.version r.read })
+      subst (λ (o : Option WorkingVersion). IsSomeAnd o (Owns name before)) (sym x.new_is) (record { version = x.met.version; on = r.stays; owned_is = is x.met.version r.read })

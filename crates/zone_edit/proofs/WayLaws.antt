@@ -9,9 +9,9 @@ use Rattle.trie_model.specs.Keys as trie
 use Rattle.shared_cells.specs.History.{StartsWith}
 use Rattle.chunk_usage.specs.declared.space.Shortage.{Shortage}
 use Rattle.qp_multi.specs.declared.meaning.Operation.{Operation as Done}
-use Rattle.qp_multi.specs.declared.desk.Draft.{Draft}
+use Rattle.qp_multi.specs.declared.writer.WorkingVersion.{WorkingVersion}
 use Rattle.qp_multi.specs.Operations.{applied}
-use Rattle.qp_multi.specs.Drafts.{Between, base_of}
+use Rattle.qp_multi.specs.WorkingVersions.{Between, base_of}
 use Rattle.qp_multi.proofs.GoesLaws.{base_goes_on, goes_further}
 use Rattle.qp_multi.proofs.WorkLaws.{between_as}
 use Rattle.zone_edit.specs.Ways.{MadeOnTheWay}
@@ -36,7 +36,7 @@ wider origin done all version es more m = record {
 }
 
 -- the last one is the working set
-pub at_end : (origin : Name) (done : List Operation) (version next : Version) (d : Draft) (n : ℕ) → all_applied origin done version ≡ Ok next → WorksOn d next → length d.log.operations ≤ n → MadeOnTheWay origin done version (applied (base_of d) (take n d.log.operations))
+pub at_end : (origin : Name) (done : List Operation) (version next : Version) (d : WorkingVersion) (n : ℕ) → all_applied origin done version ≡ Ok next → WorksOn d next → length d.log.operations ≤ n → MadeOnTheWay origin done version (applied (base_of d) (take n d.log.operations))
 at_end origin done version next d n made on le = record {
   front = done;
   back = [];
@@ -47,7 +47,7 @@ at_end origin done version next d n made on le = record {
 }
 
 -- those that a call found on the way are there behind it
-still_there : (m : ℕ) (B : Version → Draft → Type 0) (e f : Draft) (n : ℕ) → EditsOne m B e f → n ≤ length e.log.operations → applied (base_of f) (take n f.log.operations) ≡ applied (base_of e) (take n e.log.operations)
+still_there : (m : ℕ) (B : Version → WorkingVersion → Type 0) (e f : WorkingVersion) (n : ℕ) → EditsOne m B e f → n ≤ length e.log.operations → applied (base_of f) (take n f.log.operations) ≡ applied (base_of e) (take n e.log.operations)
 still_there m B e f n s le =
     ap (λ (os : List Done). applied (base_of f) (take n os)) s.log.1 ∙ ap (applied (base_of f)) (take-append-le n e.log.operations s.log.0 le)
     ∙ ap (λ (es : List trie.Entry). applied es (take n e.log.operations)) (base_goes_on s.known)
@@ -57,7 +57,7 @@ nothing_left [] le = refl
 nothing_left (x ∷ xs) le = absurd (omega arith)
 
 -- a call that does nothing finds no others
-same_way : (B : Version → Draft → Type 0) (e f : Draft) (n : ℕ) → EditsOne 0 B e f → applied (base_of f) (take n f.log.operations) ≡ applied (base_of e) (take n e.log.operations)
+same_way : (B : Version → WorkingVersion → Type 0) (e f : WorkingVersion) (n : ℕ) → EditsOne 0 B e f → applied (base_of f) (take n f.log.operations) ≡ applied (base_of e) (take n e.log.operations)
 same_way B e f n s =
     ap (λ (os : List Done). applied (base_of f) (take n os)) same ∙ ap (λ (es : List trie.Entry). applied es (take n e.log.operations)) (base_goes_on s.known)
   where
@@ -70,7 +70,7 @@ same_way B e f n s =
 -- ---- operations in order
 
 -- none is done
-pub none_in_order : (origin : Name) (done : List Operation) (A told : Version → Draft → Type 0) (a b : Option Draft) → ((version : Version) (e : Draft) → A version e → WorksOn e version × told version e) → Edits 0 A a b → Between (EditsInOrder origin done told) a b
+pub none_in_order : (origin : Name) (done : List Operation) (A told : Version → WorkingVersion → Type 0) (a b : Option WorkingVersion) → ((version : Version) (e : WorkingVersion) → A version e → WorksOn e version × told version e) → Edits 0 A a b → Between (EditsInOrder origin done told) a b
 none_in_order origin done A told a b h = between_as (EditsOne 0 A) (EditsInOrder origin done told) a b (λ d e _ _ r. record {
   edits = record {
     known = r.known;
@@ -86,20 +86,20 @@ none_in_order origin done A told a b h = between_as (EditsOne 0 A) (EditsInOrder
 })
 
 -- one more is done
-pub more_in_order : (origin : Name) (done : List Operation) (operation : Operation) (a b c : Option Draft) → EditedInOrder origin done (Ok tt) a b → Edits 1 (Applies origin operation (Ok tt)) b c → EditedInOrder origin (done ++ operation ∷ []) (Ok tt) a c
+pub more_in_order : (origin : Name) (done : List Operation) (operation : Operation) (a b c : Option WorkingVersion) → EditedInOrder origin done (Ok tt) a b → Edits 1 (Applies origin operation (Ok tt)) b c → EditedInOrder origin (done ++ operation ∷ []) (Ok tt) a c
 more_in_order origin done operation a b c =
     between_then (EditsInOrder origin done (AppliesAll origin done (Ok tt))) (EditsOne 1 (Applies origin operation (Ok tt))) (EditsInOrder origin all (AppliesAll origin all (Ok tt))) a b c one_more
   where
     all : List Operation
     all = done ++ operation ∷ []
 
-    made_of : (version : Version) (d e f : Draft) → EditsInOrder origin done (AppliesAll origin done (Ok tt)) d e → EditsOne 1 (Applies origin operation (Ok tt)) e f → WorksOn d version → AppliesAll origin all (Ok tt) version f
+    made_of : (version : Version) (d e f : WorkingVersion) → EditsInOrder origin done (AppliesAll origin done (Ok tt)) d e → EditsOne 1 (Applies origin operation (Ok tt)) e f → WorksOn d version → AppliesAll origin all (Ok tt) version f
     made_of version d e f r s on =
         let was = r.edits.becomes version on in
         let now = s.becomes was.0 was.2 in
         (now.0, next_applied origin done operation version was.0 now.0 was.1 now.1, now.2)
 
-    one_more : (d e f : Draft) → EditsInOrder origin done (AppliesAll origin done (Ok tt)) d e → EditsOne 1 (Applies origin operation (Ok tt)) e f → EditsInOrder origin all (AppliesAll origin all (Ok tt)) d f
+    one_more : (d e f : WorkingVersion) → EditsInOrder origin done (AppliesAll origin done (Ok tt)) d e → EditsOne 1 (Applies origin operation (Ok tt)) e f → EditsInOrder origin all (AppliesAll origin all (Ok tt)) d f
     one_more d e f r s = record {
       edits = record {
         known = goes_further r.edits.known s.known;
@@ -120,7 +120,7 @@ more_in_order origin done operation a b c =
     }
 
 -- those are done that stand in front, and then none
-pub still_in_order : (origin : Name) (done all : List Operation) (A B C : Version → Draft → Type 0) (a b c : Option Draft) → StartsWith all done → ((version : Version) (e f : Draft) → A version e → (now : Version) × WorksOn e now × (B now f → C version f))
+pub still_in_order : (origin : Name) (done all : List Operation) (A B C : Version → WorkingVersion → Type 0) (a b c : Option WorkingVersion) → StartsWith all done → ((version : Version) (e f : WorkingVersion) → A version e → (now : Version) × WorksOn e now × (B now f → C version f))
     → Between (EditsInOrder origin done A) a b → Edits 0 B b c → Between (EditsInOrder origin all C) a c
 still_in_order origin done all A B C a b c more h = between_then (EditsInOrder origin done A) (EditsOne 0 B) (EditsInOrder origin all C) a b c (λ d e f r s. record {
   edits = record {
@@ -134,7 +134,7 @@ still_in_order origin done all A B C a b c more h = between_then (EditsInOrder o
 })
 
 -- those in front of one were done, and that one is refused
-pub refused_in_order : (origin : Name) (front back all : List Operation) (one : Operation) (number : ℕ) (refusal : EditRefusal) (a b c : Option Draft) → all ≡ front ++ one ∷ back → number ≡ length front + 1 → ((at : ℕ) (shortage : Shortage) → refusal ≡ refusals.Full at shortage → at ≡ number)
+pub refused_in_order : (origin : Name) (front back all : List Operation) (one : Operation) (number : ℕ) (refusal : EditRefusal) (a b c : Option WorkingVersion) → all ≡ front ++ one ∷ back → number ≡ length front + 1 → ((at : ℕ) (shortage : Shortage) → refusal ≡ refusals.Full at shortage → at ≡ number)
     → EditedInOrder origin front (Ok tt) a b → EditedOnce origin one (Err refusal) b c → EditedInOrder origin all (Err refusal) a c
 refused_in_order origin front back all one number refusals.Memory a b c is place told =
     still_in_order origin front all (AppliesAll origin front (Ok tt)) (Applies origin one (Err refusals.Memory)) (AppliesAll origin all (Err refusals.Memory)) a b c (one ∷ back, is)
@@ -167,7 +167,7 @@ refused_in_order origin front back all one number (refusals.Full at shortage) a 
     ))
 
 -- a version is looked at first
-pub looked_in_order : (origin : Name) (done : List Operation) (A B C : Version → Draft → Type 0) (a b c : Option Draft) → ((version : Version) (e f : Draft) → A version e → WorksOn e version × (B version f → C version f))
+pub looked_in_order : (origin : Name) (done : List Operation) (A B C : Version → WorkingVersion → Type 0) (a b c : Option WorkingVersion) → ((version : Version) (e f : WorkingVersion) → A version e → WorksOn e version × (B version f → C version f))
     → Edits 0 A a b → Between (EditsInOrder origin done B) b c → Between (EditsInOrder origin done C) a c
 looked_in_order origin done A B C a b c h = between_then (EditsOne 0 A) (EditsInOrder origin done B) (EditsInOrder origin done C) a b c (λ d e f s r. record {
   edits = record {
@@ -180,13 +180,13 @@ looked_in_order origin done A B C a b c h = between_then (EditsOne 0 A) (EditsIn
   ways = λ version on n le. (let m = h version e f (s.becomes version on) in let k = s.few in r.ways version m.0 n (omega (arith, le, k)));
 })
 
--- ---- a draft is there still, and works on some version
+-- ---- a working version is there still, and works on some version
 
-pub edits_all : (origin : Name) (done : List Operation) (told : Version → Draft → Type 0) (old new : Option Draft) → Between (EditsInOrder origin done told) old new → Edits (length done) told old new
+pub edits_all : (origin : Name) (done : List Operation) (told : Version → WorkingVersion → Type 0) (old new : Option WorkingVersion) → Between (EditsInOrder origin done told) old new → Edits (length done) told old new
 edits_all origin done told old new = between_as (EditsInOrder origin done told) (EditsOne (length done) told) old new (λ d e _ _ r. r.edits)
 
-pub some_in_order : (origin : Name) (done : List Operation) (told : Version → Draft → Type 0) (old new : Option Draft) → IsSomeAnd old WorksOnSome → ((version : Version) (e : Draft) → told version e → WorksOnSome e) → Between (EditsInOrder origin done told) old new → IsSomeAnd new WorksOnSome
+pub some_in_order : (origin : Name) (done : List Operation) (told : Version → WorkingVersion → Type 0) (old new : Option WorkingVersion) → IsSomeAnd old WorksOnSome → ((version : Version) (e : WorkingVersion) → told version e → WorksOnSome e) → Between (EditsInOrder origin done told) old new → IsSomeAnd new WorksOnSome
 some_in_order origin done told old new begun works r = edits_some (length done) told old new begun works (edits_all origin done told old new r)
 
-pub there_in_order : (origin : Name) (done : List Operation) (told : Version → Draft → Type 0) (old new : Option Draft) → Between (EditsInOrder origin done told) old new → IsSome new
+pub there_in_order : (origin : Name) (done : List Operation) (told : Version → WorkingVersion → Type 0) (old new : Option WorkingVersion) → Between (EditsInOrder origin done told) old new → IsSome new
 there_in_order origin done told old new r = is_there (length done) told old new (edits_all origin done told old new r)

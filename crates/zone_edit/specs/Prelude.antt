@@ -5,6 +5,6 @@ pub use Rattle.zone_model.specs.Versions.{owned}
 pub use Rattle.rr_data.specs.ItemViews.{SaysEntry}
 pub use Rattle.zone_change.specs.Counts.{candidate}
 pub use Rattle.zone_change.specs.Views.{operation_view, prerequisite_view}
-pub use Rattle.qp_multi.specs.Drafts.{Between, IsSame}
+pub use Rattle.qp_multi.specs.WorkingVersions.{Between, IsSame}
 pub use Rattle.zone_edit.specs.Blocks.{Edited, EditedInOrder, EditedOnce, Meets, MeetsAll}
 pub use Rattle.zone_edit.specs.Stores.{Edits, IsOfTheSame, Owns, Reads, Stores, WorksOnSome, done_by}

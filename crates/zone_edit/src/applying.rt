@@ -27,11 +27,11 @@ fn take_out<L: Law, N: Named, K>(
     before: &Entry,
 ) -> Result<(), Shortage>
     requires key { key.now ≡ key_of name.now }
-    requires owns { IsSomeAnd transaction.old.locked.now.draft (Owns name.now before.now) }
+    requires owns { IsSomeAnd transaction.old.locked.now.working (Owns name.now before.now) }
     requires some { 0 < length before.now }
     ensures same_reference { IsOfTheSame transaction.old transaction.new }
     ensures place { transaction.new.locked.now.place ≡ transaction.old.locked.now.place }
-    ensures stores { Edits (done_by result) (Stores name.now before.now [] result) transaction.old.locked.now.draft transaction.new.locked.now.draft }
+    ensures stores { Edits (done_by result) (Stores name.now before.now [] result) transaction.old.locked.now.working transaction.new.locked.now.working }
 {
     let _wire = name.wire(); // for the proof
     match transaction.delete(key) {
@@ -51,11 +51,11 @@ fn put_in<L: Law, N: Named, K>(
     item: &[u8],
 ) -> Result<(), Shortage>
     requires key { key.now ≡ key_of name.now }
-    requires owns { IsSomeAnd transaction.old.locked.now.draft (Owns name.now []) }
+    requires owns { IsSomeAnd transaction.old.locked.now.working (Owns name.now []) }
     requires item { IsItem item.now name.now entry.now }
     ensures same_reference { IsOfTheSame transaction.old transaction.new }
     ensures place { transaction.new.locked.now.place ≡ transaction.old.locked.now.place }
-    ensures stores { Edits (done_by result) (Stores name.now [] entry.now result) transaction.old.locked.now.draft transaction.new.locked.now.draft }
+    ensures stores { Edits (done_by result) (Stores name.now [] entry.now result) transaction.old.locked.now.working transaction.new.locked.now.working }
 {
     let _wire = name.wire(); // for the proof
     match transaction.insert(key, item) {
@@ -76,13 +76,14 @@ fn exchange<L: Law, N: Named, K>(
     item: &[u8],
 ) -> Result<(), Shortage>
     requires key { key.now ≡ key_of name.now }
-    requires owns { IsSomeAnd transaction.old.locked.now.draft (Owns name.now before.now) }
+    requires owns { IsSomeAnd transaction.old.locked.now.working (Owns name.now before.now) }
     requires some { 0 < length before.now }
     requires item { IsItem item.now name.now entry.now }
     requires other { entry.now ≡ before.now → ⊥ }
     ensures same_reference { IsOfTheSame transaction.old transaction.new }
     ensures place { transaction.new.locked.now.place ≡ transaction.old.locked.now.place }
-    ensures stores { Edits (done_by result) (Stores name.now before.now entry.now result) transaction.old.locked.now.draft transaction.new.locked.now.draft }
+    ensures stores { Edits (done_by result) (Stores name.now before.now entry.now result) transaction.old.locked.now.working
+        transaction.new.locked.now.working }
 {
     let _wire = name.wire(); // for the proof
     match transaction.replace(key, item) {
@@ -106,12 +107,13 @@ fn store<L: Law, N: Named, K>(
 ) -> Result<(), Shortage>
     requires key { key.now ≡ key_of name.now }
     requires says { SaysEntry name.now octets.now before.now }
-    requires owns { IsSomeAnd transaction.old.locked.now.draft (Owns name.now before.now) }
+    requires owns { IsSomeAnd transaction.old.locked.now.working (Owns name.now before.now) }
     requires short { 0 < length entry.now → length (item name.now entry.now) ≤ item_limit }
     requires room { item_limit ≤ length out.old }
     ensures same_reference { IsOfTheSame transaction.old transaction.new }
     ensures place { transaction.new.locked.now.place ≡ transaction.old.locked.now.place }
-    ensures stores { Edits (done_by result) (Stores name.now before.now entry.now result) transaction.old.locked.now.draft transaction.new.locked.now.draft }
+    ensures stores { Edits (done_by result) (Stores name.now before.now entry.now result) transaction.old.locked.now.working
+        transaction.new.locked.now.working }
 {
     if entry.is_empty() {
         if before.is_empty() {
@@ -159,14 +161,14 @@ fn apply<L: Law, N: Named, K>(
     item_before: &mut [u8],
     item_after: &mut [u8],
 ) -> Result<(), EditRefusal>
-    requires works { IsSomeAnd transaction.old.locked.now.draft WorksOnSome }
+    requires works { IsSomeAnd transaction.old.locked.now.working WorksOnSome }
     requires room { (item_limit ≤ length item_before.old) × (item_limit ≤ length item_after.old) }
     ensures same_reference { IsOfTheSame transaction.old transaction.new }
     ensures place { transaction.new.locked.now.place ≡ transaction.old.locked.now.place }
-    ensures applies { EditedOnce origin.now (operation_view operation.now) result transaction.old.locked.now.draft transaction.new.locked.now.draft }
+    ensures applies { EditedOnce origin.now (operation_view operation.now) result transaction.old.locked.now.working transaction.new.locked.now.working }
     ensures number { (at : _) (shortage : _) → result ≡ Err (EditRefusal.Full at shortage) → at ≡ number }
     // Memory is wanted for entries alone, before anything is tried.
-    ensures untried { result ≡ Err EditRefusal.Memory → Between IsSame transaction.old.locked.now.draft transaction.new.locked.now.draft }
+    ensures untried { result ≡ Err EditRefusal.Memory → Between IsSame transaction.old.locked.now.working transaction.new.locked.now.working }
 {
     let owner = operation.owner();
     let key = Key::of(owner);
@@ -203,10 +205,11 @@ fn apply_all<L: Law, N: Named, K>(
     operations: &[Operation],
     buffers: &mut ItemBuffers,
 ) -> Result<(), EditRefusal>
-    requires { IsSomeAnd transaction.old.locked.now.draft WorksOnSome }
+    requires { IsSomeAnd transaction.old.locked.now.working WorksOnSome }
     ensures same_reference { IsOfTheSame transaction.old transaction.new }
     ensures place { transaction.new.locked.now.place ≡ transaction.old.locked.now.place }
-    ensures applies { EditedInOrder origin.now (map operation_view operations.now) result transaction.old.locked.now.draft transaction.new.locked.now.draft }
+    ensures applies { EditedInOrder origin.now (map operation_view operations.now) result transaction.old.locked.now.working
+        transaction.new.locked.now.working }
 {
     for (index, operation) in operations.iter().enumerate() {
         let (before, after) = (&mut buffers.before, &mut buffers.after);
@@ -228,11 +231,11 @@ pub fn execute<L: Law, N: Named, K>(
     operations: &[Operation],
     buffers: &mut ItemBuffers,
 ) -> Result<(), EditRefusal>
-    requires { IsSomeAnd transaction.old.locked.now.draft WorksOnSome }
+    requires { IsSomeAnd transaction.old.locked.now.working WorksOnSome }
     ensures same_reference { IsOfTheSame transaction.old transaction.new }
     ensures place { transaction.new.locked.now.place ≡ transaction.old.locked.now.place }
     ensures executes { Edited origin.now (record { needs = map prerequisite_view prerequisites.now; operations = map operation_view operations.now }) result
-        transaction.old.locked.now.draft transaction.new.locked.now.draft }
+        transaction.old.locked.now.working transaction.new.locked.now.working }
 {
     if !meets_all(transaction, prerequisites, &mut buffers.before) {
         return Err(EditRefusal::Refused(Refusal::Prereq));

@@ -15,11 +15,11 @@ fn meets<L: Law, N: Named, K>(
     prerequisite: &Prerequisite,
     item: &mut [u8],
 ) -> bool
-    requires works { IsSomeAnd transaction.old.locked.now.draft WorksOnSome }
+    requires works { IsSomeAnd transaction.old.locked.now.working WorksOnSome }
     requires room { most_item_octets ≤ length item.old }
     ensures same_reference { IsOfTheSame transaction.old transaction.new }
     ensures place { transaction.new.locked.now.place ≡ transaction.old.locked.now.place }
-    ensures meets { Edits 0 (Meets (prerequisite_view prerequisite.now) result) transaction.old.locked.now.draft transaction.new.locked.now.draft }
+    ensures meets { Edits 0 (Meets (prerequisite_view prerequisite.now) result) transaction.old.locked.now.working transaction.new.locked.now.working }
 {
     let owner = &prerequisite.owner;
     let key = Key::of(owner);
@@ -34,11 +34,11 @@ pub(crate) fn meets_all<L: Law, N: Named, K>(
     prerequisites: &[Prerequisite],
     item: &mut [u8],
 ) -> bool
-    requires works { IsSomeAnd transaction.old.locked.now.draft WorksOnSome }
+    requires works { IsSomeAnd transaction.old.locked.now.working WorksOnSome }
     requires room { most_item_octets ≤ length item.old }
     ensures same_reference { IsOfTheSame transaction.old transaction.new }
     ensures place { transaction.new.locked.now.place ≡ transaction.old.locked.now.place }
-    ensures meets { Edits 0 (MeetsAll (map prerequisite_view prerequisites.now) result) transaction.old.locked.now.draft transaction.new.locked.now.draft }
+    ensures meets { Edits 0 (MeetsAll (map prerequisite_view prerequisites.now) result) transaction.old.locked.now.working transaction.new.locked.now.working }
 {
     for prerequisite in prerequisites {
         if !meets(transaction, prerequisite, item) {

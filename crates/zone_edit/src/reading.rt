@@ -14,14 +14,14 @@ pub(crate) fn read_owned<L: Law, N: Named, K>(
     key: &Key,
     item: &mut [u8],
 ) -> usize
-    requires works { IsSomeAnd transaction.old.locked.now.draft WorksOnSome }
+    requires works { IsSomeAnd transaction.old.locked.now.working WorksOnSome }
     requires key { key.now ≡ key_of name.now }
     requires room { most_item_octets ≤ length item.old }
     ensures same_reference { IsOfTheSame transaction.old transaction.new }
     ensures place { transaction.new.locked.now.place ≡ transaction.old.locked.now.place }
-    ensures same { Between IsSame transaction.old.locked.now.draft transaction.new.locked.now.draft }
+    ensures same { Between IsSame transaction.old.locked.now.working transaction.new.locked.now.working }
     ensures within { result ≤ length item.new }
-    ensures read { Edits 0 (Reads name.now item.new result) transaction.old.locked.now.draft transaction.new.locked.now.draft }
+    ensures read { Edits 0 (Reads name.now item.new result) transaction.old.locked.now.working transaction.new.locked.now.working }
 {
     let _wire = name.wire(); // for the proof
     match transaction.fetch(key, item) {

@@ -8,7 +8,7 @@ pub use Rattle.zone_diff.specs.Differences.{difference}
 pub use Rattle.zone_diff.specs.Sinks.{IsShort, change_view}
 pub use Rattle.zone_diff.specs.declared.Serial.TheVariants.{Keep}
 pub use Rattle.zone_dump.specs.Walks.{Faces, FacesSome, GivesNext}
-pub use Rattle.qp_multi.specs.Drafts.{Between}
+pub use Rattle.qp_multi.specs.WorkingVersions.{Between}
 pub use Rattle.zone_edit.specs.Stores.{IsOfTheSame, WorksOnSome}
 pub use Rattle.zone_reload.specs.Reloads.{Becomes, IsAccepted, Replaces}
 pub use Rattle.zone_reload.specs.Shown.{ShowsLeft, ShowsNames}

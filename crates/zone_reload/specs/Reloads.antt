@@ -3,7 +3,7 @@ use Rattle.std.specs.Prelude.{◌≡◌, ◌⊎◌, List, Option, Result, Err}
 use Rattle.zone_model.specs.Names.{Name}
 use Rattle.zone_model.specs.Versions.{Version, Operation}
 use Rattle.zone_model.specs.declared.Refusal.{Refusal}
-use Rattle.qp_multi.specs.declared.desk.Draft.{Draft}
+use Rattle.qp_multi.specs.declared.writer.WorkingVersion.{WorkingVersion}
 use Rattle.zone_diff.specs.Blocks.{changes}
 use Rattle.zone_edit.specs.Blocks.{Edited}
 use Rattle.zone_edit.specs.Stores.{WorksOn}
@@ -11,13 +11,13 @@ use Rattle.zone_edit.specs.declared.refusal.EditRefusal.{EditRefusal}
 use Rattle.zone_edit.specs.declared.refusal.EditRefusal.TheVariants as refusals
 
 -- the operations were done as one transaction's, or nothing was for want of memory
-abbrev pub Replaces : Name → List Operation → Result (Unit {0}) EditRefusal → Option Draft → Option Draft → Type 0
+abbrev pub Replaces : Name → List Operation → Result (Unit {0}) EditRefusal → Option WorkingVersion → Option WorkingVersion → Type 0
 Replaces origin operations result old new = ((result ≡ Err refusals.Memory) × (new ≡ old)) ⊎ Edited origin (changes operations) result old new
 
 -- a working set that was the version before is the version after
-abbrev pub Becomes : Version → Version → Draft → Draft → Type 0
+abbrev pub Becomes : Version → Version → WorkingVersion → WorkingVersion → Type 0
 Becomes before after old new = WorksOn old before → WorksOn new after
 
 -- no rule of zones refuses what is done to it
-abbrev pub IsAccepted : Version → Result (Unit {0}) EditRefusal → Draft → Draft → Type 0
+abbrev pub IsAccepted : Version → Result (Unit {0}) EditRefusal → WorkingVersion → WorkingVersion → Type 0
 IsAccepted before result old new = WorksOn old before → (refusal : Refusal) → result ≡ Err (refusals.Refused refusal) → ⊥

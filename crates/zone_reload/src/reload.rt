@@ -82,17 +82,17 @@ pub fn replace_all<L: Law, N: Named, K, V: Reading>(
     zone: Zone,
     buffers: &mut ItemBuffers,
 ) -> Result<(), EditRefusal>
-    requires works { IsSomeAnd transaction.old.locked.now.draft WorksOnSome }
+    requires works { IsSomeAnd transaction.old.locked.now.working WorksOnSome }
     requires shown { ShowsSome (V.holds version.old) }
     ensures same { version.new ≡ version.old }
     ensures same_reference { IsOfTheSame transaction.old transaction.new }
     ensures place { transaction.new.locked.now.place ≡ transaction.old.locked.now.place }
     ensures replaces { (before : Version) → Shows (V.holds version.old) before
-        → Replaces origin.now (difference Keep before zone.pairs) result transaction.old.locked.now.draft transaction.new.locked.now.draft }
+        → Replaces origin.now (difference Keep before zone.pairs) result transaction.old.locked.now.working transaction.new.locked.now.working }
     ensures accepted { (before : Version) → Shows (V.holds version.old) before → CanBeDumped origin.now before → CanBeDumped origin.now zone.pairs
-        → Between (IsAccepted before result) transaction.old.locked.now.draft transaction.new.locked.now.draft }
+        → Between (IsAccepted before result) transaction.old.locked.now.working transaction.new.locked.now.working }
     ensures made { (before : Version) → Shows (V.holds version.old) before → CanBeDumped origin.now before → CanBeDumped origin.now zone.pairs
-        → OnOk result (Between (Becomes before zone.pairs) transaction.old.locked.now.draft transaction.new.locked.now.draft) }
+        → OnOk result (Between (Becomes before zone.pairs) transaction.old.locked.now.working transaction.new.locked.now.working) }
 {
     let Ok(operations) = operations_between(alloc, Serial::Keep, version, zone) else {
         return Err(EditRefusal::Memory);

@@ -7,7 +7,7 @@ use Rattle.zone_table.specs.declared.note.ZonesNote.{ZonesNote}
 use Rattle.zone_table.specs.declared.pass.ZonesPass.{ZonesPass}
 use Rattle.zone_table.specs.declared.zones.Zones.{Zones}
 use Rattle.zone_table.specs.Notes as table
-use Rattle.zone_table.specs.Notes.{IsNoteOf, Sighting}
+use Rattle.zone_table.specs.Notes.{IsNoteOf, SeenHistory}
 use Rattle.zone_server.specs.Homes.{Served}
 use Rattle.zone_server.specs.Notes.{HasLearnt, IsNote, Tells, told_of}
 use Rattle.zone_server.specs.Servings.{IsServed, known_of}
@@ -22,7 +22,7 @@ module _ {X Y : Type 0} {N : Ghosts Y} (served : List Served) (zones : Zones X Y
 
 module _ {Y : Type 0} {N : Ghosts Y} where
   pub tells : (p : ZonesPass Y N) (r : Result (ZonesNote Y N) AllocError) → IfOk r (table.Tells p) → IfOk r (λ n. Tells (known_of p) (told_of n))
-  tells p (Ok n) told = ap (λ (s : Sighting). record { table = s; zones = (told_of n).zones }) told.table ∙ ap (λ (l : List Sighting). record { table = (known_of p).table.seen; zones = l }) told.zones
+  tells p (Ok n) told = ap (λ (s : SeenHistory). record { table = s; zones = (told_of n).zones }) told.table ∙ ap (λ (l : List SeenHistory). record { table = (known_of p).table.seen; zones = l }) told.zones
   tells p (Err e) told = told
 
   pub learns : (old new : ZonesPass Y N) (n : ZonesNote Y N) → table.HasLearnt old new n → HasLearnt (known_of old) (known_of new) (told_of n)

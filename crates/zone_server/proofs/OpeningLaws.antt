@@ -14,7 +14,7 @@ use Rattle.job_commands.proofs.ZoneLaws.{zone_lawful, zone_rises}
 use Rattle.zone_table.specs.declared.opening.ZoneItems.{ZoneItems}
 use Rattle.zone_table.specs.declared.pass.ZonesPass.{ZonesPass}
 use Rattle.zone_table.specs.declared.zones.Zones.{Zones}
-use Rattle.zone_table.specs.Dealings.{AreMade}
+use Rattle.zone_table.specs.Handings.{AreMade}
 use Rattle.zone_table.specs.Openings.{entries_in, origins_of}
 use Rattle.zone_table.specs.Passes.{IsPassOf}
 use Rattle.zone_table.proofs.Lists.{all_at, some_is}

@@ -24,11 +24,11 @@ use Rattle.pin_core.specs.declared.version.Spent.{Spent as NoNumber}
 use Rattle.chunk_usage.specs.declared.space.Shortage.{Shortage as Request}
 use Rattle.chunk_usage.specs.Keeping.{kept_versions}
 use Rattle.qp_multi.specs.declared.commit.Receipt.{Receipt}
-use Rattle.qp_multi.specs.declared.desk.Draft.{Draft}
+use Rattle.qp_multi.specs.declared.writer.WorkingVersion.{WorkingVersion}
 use Rattle.qp_multi.specs.declared.kept.Versions.{Versions}
 use Rattle.qp_multi.specs.declared.meaning.Operation.{Operation}
-use Rattle.qp_multi.specs.Drafts as drafts
-use Rattle.qp_multi.specs.Drafts.{Begins, IsBack, base_of, working_set}
+use Rattle.qp_multi.specs.WorkingVersions as working_versions
+use Rattle.qp_multi.specs.WorkingVersions.{Begins, IsBack, base_of, working_set}
 use Rattle.qp_multi.specs.Keepings.{GoesOn, versions_in}
 use Rattle.qp_multi.specs.Operations.{applied}
 use Rattle.qp_multi.specs.Passes.{Known, first_version, known_at, version_seen}
@@ -41,14 +41,14 @@ use Rattle.zone_edit.specs.Blocks.{Edited, EditsInOrder, Executes, done_of}
 use Rattle.zone_edit.specs.Stores.{WorksOn}
 use Rattle.zone_edit.specs.declared.refusal.EditRefusal.{EditRefusal}
 use Rattle.zone_edit.specs.declared.refusal.EditRefusal.TheVariants as edit
-use Rattle.job_commands.specs.Histories.{BeginsAt, Commit, Entries, IsLawful, IsZone, Setup, StandsAs}
-use Rattle.job_commands.specs.Commands.{BlockRan, IsSetup, OpensAt}
+use Rattle.job_commands.specs.Histories.{BeginsAt, Commit, Entries, IsLawful, IsZone, OpenedWith, StandsAs}
+use Rattle.job_commands.specs.Commands.{BlockRan, IsOpenedWith, OpensAt}
 use Rattle.job_commands.proofs.BlockLaws.{committed_ran, full_ran}
 use Rattle.job_commands.proofs.HistoryLaws.{begins_length, begins_same, opened_same, part_more, part_same}
 use Rattle.job_commands.proofs.TransactLaws.{back_grows, back_pass, back_version, commits_block}
 use Rattle.job_commands.proofs.ZoneLaws.{lawful_zone, opens_still}
 use Rattle.zone_server.specs.Changes.{HappensIn, Ran}
-use Rattle.zone_server.specs.Homes.{Served, setup_of}
+use Rattle.zone_server.specs.Homes.{Served, opened_as}
 use Rattle.zone_server.specs.Replies.{HasGrown, IsShown}
 use Rattle.zone_server.specs.Reloads.{MadeNone, MakesZone, NoRule, RanOn, Reloading, Reloads, StopsReload, Took, commit_told, exchange}
 use Rattle.zone_server.specs.Servings.{ServerKnown}
@@ -75,19 +75,19 @@ all_of all part s e =
 one_more : (all part : List Commit) (x : Commit) → all ≡ part ++ x ∷ [] → length all ≡ length part + 1
 one_more all part x e = ap length e ∙ length-append part (x ∷ [])
 
-there : (P : Draft → Type 0) (o : Option Draft) (d : Draft) → o ≡ Some d → IfSome o P → P d
-there P o d is h = subst (λ (x : Option Draft). IfSome x P) is h
+there : (P : WorkingVersion → Type 0) (o : Option WorkingVersion) (d : WorkingVersion) → o ≡ Some d → IfSome o P → P d
+there P o d is h = subst (λ (x : Option WorkingVersion). IfSome x P) is h
 
 -- ---- a transaction that has begun on the version that was seen last
 
-module _ (origin : Name) (asked : Transaction) (old : Known) (heard : is_told old.seen.opening ≡ true) (number : ℕ) (makes : MakesZone origin asked old number) (first : Option Draft) (begins : IsSomeAnd first (Begins IsLawful old)) (base : ℕ) (at : IfSome first (λ d. base ≡ length d.seat.place.me.0.seen.history)) where
+module _ (origin : Name) (asked : Transaction) (old : Known) (heard : is_told old.seen.opening ≡ true) (number : ℕ) (makes : MakesZone origin asked old number) (first : Option WorkingVersion) (begins : IsSomeAnd first (Begins IsLawful old)) (base : ℕ) (at : IfSome first (λ d. base ≡ length d.seat.place.me.0.seen.history)) where
   -- no other commit came between
-  base_history : (d : Draft) → first ≡ Some d → Begins IsLawful old d → base ≡ number → d.seat.place.me.0.seen.history ≡ old.seen.history
+  base_history : (d : WorkingVersion) → first ≡ Some d → Begins IsLawful old d → base ≡ number → d.seat.place.me.0.seen.history ≡ old.seen.history
   base_history d is b unmoved =
       let here = there (λ d. base ≡ length d.seat.place.me.0.seen.history) first d is at in
       all_of d.seat.place.me.0.seen.history old.seen.history b.joined.grows.history (sym here ∙ unmoved ∙ makes.number_is)
 
-  base_works : (d : Draft) → first ≡ Some d → Begins IsLawful old d → base ≡ number → WorksOn d makes.before
+  base_works : (d : WorkingVersion) → first ≡ Some d → Begins IsLawful old d → base ≡ number → WorksOn d makes.before
   base_works d is b unmoved = record {
     works = b.works;
     set =
@@ -96,8 +96,8 @@ module _ (origin : Name) (asked : Transaction) (old : Known) (heard : is_told ol
     valid = makes.stands.valid;
   }
 
-  module _ (second : Option Draft) (unmoved : base ≡ number) where
-    abbrev EditedBy : Result (Unit {0}) EditRefusal → Draft → Draft → Type 0
+  module _ (second : Option WorkingVersion) (unmoved : base ≡ number) where
+    abbrev EditedBy : Result (Unit {0}) EditRefusal → WorkingVersion → WorkingVersion → Type 0
     EditedBy r = EditsInOrder origin (done_of asked.operations r) (Executes origin asked r)
 
     -- no rule of zones refuses it
@@ -116,7 +116,7 @@ module _ (origin : Name) (asked : Transaction) (old : Known) (heard : is_told ol
         let made = x.related.edits.becomes makes.before (base_works x.before x.old_is x.met unmoved) in
         let same : made.0 ≡ makes.after = (let a = made.1 in let b = makes.makes in cc) in
         let works : WorksOn x.after makes.after = subst (WorksOn x.after) same made.2 in
-        subst (λ (o : Option Draft). IsSomeAnd o (λ d. IsLawful (first_version d.seat.place.me.0.seen) (working_set d))) (sym x.new_is) (record {
+        subst (λ (o : Option WorkingVersion). IsSomeAnd o (λ d. IsLawful (first_version d.seat.place.me.0.seen) (working_set d))) (sym x.new_is) (record {
           origin = origin;
           begins = subst (λ (o : Option Entries). BeginsAt origin (unwrap_or o [])) (sym x.related.edits.known.opening) (opens_still origin old x.before.seat.place.me.0 heard x.met.joined.grows opens);
           zone = record { version = makes.after; stands = record { valid = works.valid; entries = sym works.set }; zone = makes.zone };
@@ -124,9 +124,9 @@ module _ (origin : Name) (asked : Transaction) (old : Known) (heard : is_told ol
 
   -- ---- how it ended
 
-  module _ (s : Setup) (opening : first_version old.seen ≡ s.opening) (named : s.origin ≡ origin) (seat : Option Seat) where
+  module _ (s : OpenedWith) (opening : first_version old.seen ≡ s.opening) (named : s.origin ≡ origin) (seat : Option Seat) where
     -- the pass is back as it was, with what the turn has seen
-    none_made : (d e : Draft) → Begins IsLawful old d → GoesOn d.seat.place.me.0 e.seat.place.me.0 → IsBack e.seat.place.me.0 seat → MadeNone old (known_at seat)
+    none_made : (d e : WorkingVersion) → Begins IsLawful old d → GoesOn d.seat.place.me.0 e.seat.place.me.0 → IsBack e.seat.place.me.0 seat → MadeNone old (known_at seat)
     none_made d e b goes back = record {
       grows = back_grows s asked old d e b heard opening goes (known_at seat) back.1;
       pass = back_pass s asked old d e b heard opening goes (known_at seat) back.1;
@@ -134,11 +134,11 @@ module _ (origin : Name) (asked : Transaction) (old : Known) (heard : is_told ol
 
     -- it wasn't tried
     pub moved_on : base ≢ number → IfSome first (λ d. IsBack d.seat.place.me.0 seat) → RanOn s asked old (known_at seat) (Err refusal.Moved)
-    moved_on moved back = by_draft first refl begins
+    moved_on moved back = by_working first refl begins
       where
-        by_draft : (o : Option Draft) → first ≡ o → IsSomeAnd o (Begins IsLawful old) → RanOn s asked old (known_at seat) (Err refusal.Moved)
-        by_draft None is b = absurd b
-        by_draft (Some d) is b =
+        by_working : (o : Option WorkingVersion) → first ≡ o → IsSomeAnd o (Begins IsLawful old) → RanOn s asked old (known_at seat) (Err refusal.Moved)
+        by_working None is b = absurd b
+        by_working (Some d) is b =
             let here = there (λ d. IsBack d.seat.place.me.0 seat) first d is back in
             let goes : GoesOn d.seat.place.me.0 d.seat.place.me.0 = record { pass = refl; opening = refl; history = refl; namings = begins_same d.seat.place.me.0.seen.namings } in
             let base_is = there (λ d. base ≡ length d.seat.place.me.0.seen.history) first d is at in
@@ -147,7 +147,7 @@ module _ (origin : Name) (asked : Transaction) (old : Known) (heard : is_told ol
             let seen = makes.number_is in
             (none_made d d b goes here, omega (arith, last, base_is, long, seen, moved))
 
-    module _ (second : Option Draft) (unmoved : base ≡ number) where
+    module _ (second : Option WorkingVersion) (unmoved : base ≡ number) where
       abbrev Two : Result (Unit {0}) EditRefusal → Type 0
       Two r = Both (Begins IsLawful old) (EditsInOrder s.origin (done_of asked.operations r) (Executes s.origin asked r)) first second
 
@@ -164,12 +164,12 @@ module _ (origin : Name) (asked : Transaction) (old : Known) (heard : is_told ol
       ran_as ended version b = record { grows = b.grows; version_is = b.version; transacts = b.transacts }
 
       pub committed_on : (r : Result Receipt NoNumber) → Edited origin asked (Ok tt) first second
-          → IfOk r (λ _. IfSome second (λ d. drafts.Commits d.seat.place.me.0 d.log.operations (known_at seat))) → IfOk r (λ t. IfSome second (λ d. t.version ≡ d.seat.version + 1))
+          → IfOk r (λ _. IfSome second (λ d. working_versions.Commits d.seat.place.me.0 d.log.operations (known_at seat))) → IfOk r (λ t. IfSome second (λ d. t.version ≡ d.seat.version + 1))
           → IfErr r (λ _. IfSome second (λ d. IsBack d.seat.place.me.0 seat)) → IfSome second (λ d. IsErr r ↔ (d.seat.version ≡ last_version)) → IfErr r (λ t. IfSome second (λ d. t.version ≡ d.seat.version))
           → RanOn s asked old (known_at seat) (commit_told r)
       committed_on (Ok t) edits commits next back spent last =
           let x = two (Ok tt) edits in
-          let c = there (λ d. drafts.Commits d.seat.place.me.0 d.log.operations (known_at seat)) second x.after x.new_is commits in
+          let c = there (λ d. working_versions.Commits d.seat.place.me.0 d.log.operations (known_at seat)) second x.after x.new_is commits in
           let n = there (λ d. t.version ≡ d.seat.version + 1) second x.after x.new_is next in
           let own : old.pass ≡ Some c.own = sym x.met.joined.pass ∙ sym x.related.edits.known.pass ∙ c.joined in
           let block = commits_block s asked old x.before x.after x.met heard opening x.related.edits.known (known_at seat) x.related c c.own own in
@@ -222,7 +222,7 @@ module _ (origin : Name) (asked : Transaction) (old : Known) (heard : is_told ol
 pub ok_is : {T E : Type 0} (P : T → Type 0) (r : Result T E) (x : T) → r ≡ Ok x → IfOk r P → P x
 ok_is P r x is h = subst (λ (r : Result _ _). IfOk r P) is h
 
-pub ran_grows : (s : Setup) (asked : Transaction) (old new : Known) (r : Result ℕ ReloadRefusal) → RanOn s asked old new r → IsPartOf new.seen old.seen
+pub ran_grows : (s : OpenedWith) (asked : Transaction) (old new : Known) (r : Result ℕ ReloadRefusal) → RanOn s asked old new r → IsPartOf new.seen old.seen
 ran_grows s asked old new (Ok version) ran = ran.ran.grows
 ran_grows s asked old new (Err refusal.NoZone) ran = absurd ran
 ran_grows s asked old new (Err refusal.Moved) ran = ran.0.grows
@@ -260,7 +260,7 @@ module _ (origin : Name) (zone : Version) (can : CanBeDumped origin zone) (old l
   pub makes_by : (operations : List Said) → operations ≡ difference Keep before zone → MakesZone origin (changes operations) looked number
   makes_by operations is = subst (λ (l : List Said). MakesZone origin (changes l) looked number) (sym is) makes_zone
 
-  module _ (s : Setup) (named : s.origin ≡ origin) (opening : first_version old.seen ≡ s.opening) where
+  module _ (s : OpenedWith) (named : s.origin ≡ origin) (opening : first_version old.seen ≡ s.opening) where
     pub looked_opening : first_version looked.seen ≡ s.opening
     looked_opening = opened_same looked.seen old.seen heard shown.grows ∙ opening
 
@@ -292,11 +292,11 @@ module _ (origin : Name) (zone : Version) (can : CanBeDumped origin zone) (old l
     reloading_none heard_too = reloading looked (Err refusal.Memory) (record { grows = part_same looked.seen heard_too; pass = refl })
 
 -- the pass has seen no less
-pub reloading_grows : (s : Setup) (zone : Version) (old new : Known) (r : Result ℕ ReloadRefusal) → is_told old.seen.opening ≡ true → Reloading s zone old new r → HasGrown old new
+pub reloading_grows : (s : OpenedWith) (zone : Version) (old new : Known) (r : Result ℕ ReloadRefusal) → is_told old.seen.opening ≡ true → Reloading s zone old new r → HasGrown old new
 reloading_grows s zone old new r heard x =
     record { grows = part_more new.seen x.looked.seen old.seen heard (ran_grows s (exchange x.before zone) x.looked new r x.ran) x.took.grows }
 
-pub reloads_as : (served : List Served) (zone : Zone) (old new : ServerKnown) (r : Result ℕ ReloadRefusal) → HappensIn served zone.origin (λ s v w. Reloading (setup_of s) zone.pairs v w r) old new → Reloads served zone old new r
+pub reloads_as : (served : List Served) (zone : Zone) (old new : ServerKnown) (r : Result ℕ ReloadRefusal) → HappensIn served zone.origin (λ s v w. Reloading (opened_as s) zone.pairs v w r) old new → Reloads served zone old new r
 reloads_as served zone old new (Ok version) h = h
 reloads_as served zone old new (Err refusal.NoZone) h = absurd h.happened.ran
 reloads_as served zone old new (Err refusal.Moved) h = h

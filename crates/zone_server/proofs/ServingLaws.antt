@@ -17,7 +17,7 @@ use Rattle.qp_multi.specs.declared.meaning.Named.{Ghosts}
 use Rattle.qp_multi.specs.declared.pass.Pass.{Pass}
 use Rattle.qp_multi.specs.Passes.{Known, Pinned, first_version, known_at, version_seen}
 use Rattle.job_commands.specs.Histories.{BeginsAt, Entries, IsLawful, IsZone, StandsAs, index_at}
-use Rattle.job_commands.specs.Commands.{IsSetup, OpensAt}
+use Rattle.job_commands.specs.Commands.{IsOpenedWith, OpensAt}
 use Rattle.job_commands.proofs.HistoryLaws.{opened_same}
 use Rattle.job_commands.proofs.ZoneLaws.{lawful_zone, zone_begins}
 use Rattle.zone_table.specs.declared.pass.ZonesPass.{ZonesPass}
@@ -30,7 +30,7 @@ use Rattle.zone_table.specs.Tables.{IsAmong}
 use Rattle.zone_table.proofs.Lists.{get_in, mapped_at, some_is}
 use Rattle.zone_table.proofs.PassLaws.{Went, went, went_as, with_zone, zone_seat, zone_told}
 use Rattle.zone_server.specs.Changes.{HappensIn, NoneHas}
-use Rattle.zone_server.specs.Homes.{Served, setup_of}
+use Rattle.zone_server.specs.Homes.{Served, opened_as}
 use Rattle.zone_server.specs.Replies.{HasGrown, IsReply, IsShown, IsTold, reply_map}
 use Rattle.zone_server.specs.Servings.{IsServed, IsServing, ServerKnown, known_of, origins_of}
 use Rattle.zone_server.specs.declared.reply.FromZone.{FromZone}
@@ -220,8 +220,8 @@ module _ {X Y : Type 0} {N : Ghosts Y} (served : List Served) (zones : Zones X Y
       subst (BeginsAt origin) (sym opened_at) (subst (λ (o : Name). BeginsAt o s.0.opening) s.2 (zone_begins s.0.origin s.0.opening (are.opened zone s.0 s.1)))
 
   -- the zone's index, in the words of commands
-  pub setup_at : (index : Index X Y N) → slice_get zones.zones.items zone ≡ Some index → IsSetup (setup_of (served_at served zones are zone origin at).0) origin index.shared.table.shared.key (known_at seat.seat)
-  setup_at index there =
+  pub opened_as_at : (index : Index X Y N) → slice_get zones.zones.items zone ≡ Some index → IsOpenedWith (opened_as (served_at served zones are zone origin at).0) origin index.shared.table.shared.key (known_at seat.seat)
+  opened_as_at index there =
       let s = served_at served zones are zone origin at in
       let size = size_at served zones are zone s.0 index s.1 there in
       record {

@@ -6,16 +6,16 @@ use Rattle.job_model.specs.declared.Ending.TheVariants.{Commit}
 use Rattle.job_model.specs.Outcomes.{Ended, Committed, Refused, Rule, Full, Spent}
 use Rattle.shared_cells.specs.History.{IsPartOf}
 use Rattle.qp_multi.specs.Passes.{Known}
-use Rattle.job_commands.specs.Histories.{Setup}
+use Rattle.job_commands.specs.Histories.{OpenedWith}
 use Rattle.job_commands.specs.Commands.{BlockWants, Transacts}
-use Rattle.zone_server.specs.Homes.{Served, setup_of}
+use Rattle.zone_server.specs.Homes.{Served, opened_as}
 use Rattle.zone_server.specs.Servings.{ServerKnown, of_zone}
 use Rattle.zone_server.specs.Updates.{UpdateView}
 use Rattle.zone_server.specs.declared.changing.ChangeRefusal.{ChangeRefusal}
 use Rattle.zone_server.specs.declared.changing.ChangeRefusal.TheVariants as refusal
 
 -- A transaction was to be committed. It made the next version, or made none and was on the last that the pass has then seen.
-pub record Ran (s : Setup) (asked : Transaction) (old new : Known) (version : ℕ) (ended : Ended) : Type 0 where
+pub record Ran (s : OpenedWith) (asked : Transaction) (old new : Known) (version : ℕ) (ended : Ended) : Type 0 where
   pub grows : IsPartOf new.seen old.seen
   pub version_is : version ≡ length new.seen.history
   pub transacts : Transacts s asked Commit old new ended
@@ -46,8 +46,8 @@ ended_of (Err refusal.Memory) = None
 -- An update was made the zone's next version, or it wasn't, for this reason.
 abbrev pub Changes : List Served → UpdateView → ServerKnown → ServerKnown → Result ℕ ChangeRefusal → Type 0
 Changes served u old new (Err refusal.NoZone) = NoneHas served u.origin × (new ≡ old)
-Changes served u old new (Err refusal.Memory) = HappensIn served u.origin (λ s v w. BlockWants (setup_of s) u.asked v w) old new
-Changes served u old new (Ok version) = HappensIn served u.origin (λ s v w. Ran (setup_of s) u.asked v w version Committed) old new
-Changes served u old new (Err (refusal.Refused version rule)) = HappensIn served u.origin (λ s v w. Ran (setup_of s) u.asked v w version (Refused (Rule rule))) old new
-Changes served u old new (Err (refusal.Full version operation kept)) = HappensIn served u.origin (λ s v w. Ran (setup_of s) u.asked v w version (Refused (Full operation kept.items))) old new
-Changes served u old new (Err (refusal.Spent version)) = HappensIn served u.origin (λ s v w. Ran (setup_of s) u.asked v w version (Refused Spent)) old new
+Changes served u old new (Err refusal.Memory) = HappensIn served u.origin (λ s v w. BlockWants (opened_as s) u.asked v w) old new
+Changes served u old new (Ok version) = HappensIn served u.origin (λ s v w. Ran (opened_as s) u.asked v w version Committed) old new
+Changes served u old new (Err (refusal.Refused version rule)) = HappensIn served u.origin (λ s v w. Ran (opened_as s) u.asked v w version (Refused (Rule rule))) old new
+Changes served u old new (Err (refusal.Full version operation kept)) = HappensIn served u.origin (λ s v w. Ran (opened_as s) u.asked v w version (Refused (Full operation kept.items))) old new
+Changes served u old new (Err (refusal.Spent version)) = HappensIn served u.origin (λ s v w. Ran (opened_as s) u.asked v w version (Refused Spent)) old new

@@ -3,14 +3,14 @@ use Rattle.std.specs.Prelude.{◌≡◌, ℕ, List, map}
 use Rattle.qp_multi.specs.declared.meaning.Named.{Ghosts}
 use Rattle.qp_multi.specs.Passes.{Known, Learnt}
 use Rattle.zone_table.specs.declared.note.ZonesNote.{ZonesNote}
-use Rattle.zone_table.specs.Notes.{IsNoteOf, LearntAt, Sighting, table_told, zones_told}
+use Rattle.zone_table.specs.Notes.{IsNoteOf, LearntAt, SeenHistory, table_told, zones_told}
 use Rattle.zone_server.specs.Homes.{Served}
 use Rattle.zone_server.specs.Servings.{ServerKnown, origins_of}
 
 -- what is told of the table, and of each zone
 pub record ServerTold : Type 0 where
-  pub table : Sighting
-  pub zones : List Sighting
+  pub table : SeenHistory
+  pub zones : List SeenHistory
 
 abbrev pub told_of : {Y : Type 0} {N : Ghosts Y} → ZonesNote Y N → ServerTold
 told_of n = record { table = table_told n; zones = zones_told n }

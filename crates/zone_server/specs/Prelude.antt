@@ -20,14 +20,14 @@ pub use Rattle.zone_diff.specs.declared.Serial.TheVariants.{Keep}
 pub use Rattle.zone_answer.specs.Prelude.{Version, answer, respond, IsGiven, IsResponded, Shows, ShowsSome}
 pub use Rattle.qp_multi.specs.Keepings.{versions_in}
 pub use Rattle.qp_multi.specs.Passes.{Known, known_at}
-pub use Rattle.job_commands.specs.Commands.{BlockRan, BlockWants, IsSetup, OpensAt}
-pub use Rattle.job_commands.specs.Histories.{IsZone, Setup, StandsAs}
+pub use Rattle.job_commands.specs.Commands.{BlockRan, BlockWants, IsOpenedWith, OpensAt}
+pub use Rattle.job_commands.specs.Histories.{IsZone, OpenedWith, StandsAs}
 pub use Rattle.zone_table.specs.Openings.{entries_in}
 pub use Rattle.zone_server.specs.Asks.{Needs, Takes, adds}
 pub use Rattle.zone_server.specs.Attachings.{Attached, Detached, attach_told}
 pub use Rattle.zone_server.specs.Builds.{AddsZone, OpensFor}
 pub use Rattle.zone_server.specs.Changes.{Changes, HappensIn, NoneHas, Ran, ended_of}
-pub use Rattle.zone_server.specs.Homes.{Served, setup_of}
+pub use Rattle.zone_server.specs.Homes.{Served, opened_as}
 pub use Rattle.zone_server.specs.Loadings.{Loads}
 pub use Rattle.zone_server.specs.Notes.{HasLearnt, IsNote, Tells, told_of}
 pub use Rattle.zone_server.specs.Openings.{IsOpening, OpeningView, origin_in, served_of}

@@ -17,9 +17,9 @@ use Rattle.zone_edit.specs.declared.refusal.EditRefusal.TheVariants as edit
 use Rattle.zone_diff.specs.Blocks.{changes}
 use Rattle.zone_diff.specs.Differences.{difference}
 use Rattle.zone_diff.specs.declared.Serial.TheVariants.{Keep}
-use Rattle.job_commands.specs.Histories.{Setup, StandsAs}
+use Rattle.job_commands.specs.Histories.{OpenedWith, StandsAs}
 use Rattle.zone_server.specs.Changes.{HappensIn, NoneHas, Ran}
-use Rattle.zone_server.specs.Homes.{Served, setup_of}
+use Rattle.zone_server.specs.Homes.{Served, opened_as}
 use Rattle.zone_server.specs.Replies.{IsAfter}
 use Rattle.zone_server.specs.Servings.{ServerKnown}
 use Rattle.zone_server.specs.declared.reloading.ReloadRefusal.{ReloadRefusal}
@@ -37,14 +37,14 @@ pub record MakesZone (origin : Name) (asked : Transaction) (seen : Known) (numbe
   pub zone : CanBeDumped origin after
 
 -- it is the one commit since, and made this of it
-pub record RanNext (s : Setup) (asked : Transaction) (old new : Known) (version : ℕ) : Type 0 where
+pub record RanNext (s : OpenedWith) (asked : Transaction) (old new : Known) (version : ℕ) : Type 0 where
   pub ran : Ran s asked old new version Committed
   pub next : version ≡ length old.seen.history + 1
   pub makes : (before : Version) → StandsAs (version_after applied s.opening old.seen.history) before
       → (after : Version) × (whole s.origin asked before ≡ Ok after) × StandsAs (version_after applied s.opening new.seen.history) after
 
 -- it was on that version, and made none
-pub record RanNone (s : Setup) (asked : Transaction) (old new : Known) (version : ℕ) (ended : Ended) : Type 0 where
+pub record RanNone (s : OpenedWith) (asked : Transaction) (old new : Known) (version : ℕ) (ended : Ended) : Type 0 where
   pub ran : Ran s asked old new version ended
   pub last : version ≡ length old.seen.history
 
@@ -54,7 +54,7 @@ pub record MadeNone (old new : Known) : Type 0 where
   pub pass : new.pass ≡ old.pass
 
 -- How it ended. No rule of zones refuses it; and it isn't tried where the pass sees another one's commit since.
-abbrev pub RanOn : Setup → Transaction → Known → Known → Result ℕ ReloadRefusal → Type 0
+abbrev pub RanOn : OpenedWith → Transaction → Known → Known → Result ℕ ReloadRefusal → Type 0
 RanOn s asked old new (Ok version) = RanNext s asked old new version
 RanOn s asked old new (Err refusal.NoZone) = ⊥
 RanOn s asked old new (Err refusal.Moved) = MadeNone old new × (length old.seen.history < length new.seen.history)
@@ -93,7 +93,7 @@ pub record Took (old new : Known) : Type 0 where
 
 -- A pass took a version, and the transaction that makes of it the other zone was to be the next commit. Where it was, the version that it made
 -- is that zone.
-pub record Reloading (s : Setup) (zone : Version) (old new : Known) (result : Result ℕ ReloadRefusal) : Type 0 where
+pub record Reloading (s : OpenedWith) (zone : Version) (old new : Known) (result : Result ℕ ReloadRefusal) : Type 0 where
   pub looked : Known
   pub took : Took old looked
   pub before : Version
@@ -103,6 +103,6 @@ pub record Reloading (s : Setup) (zone : Version) (old new : Known) (result : Re
 
 -- The zone of the other one's origin was exchanged, or wasn't, for this reason; or no zone has that origin.
 abbrev pub Reloads : List Served → Zone → ServerKnown → ServerKnown → Result ℕ ReloadRefusal → Type 0
-Reloads served zone old new (Ok version) = HappensIn served zone.origin (λ s v w. Reloading (setup_of s) zone.pairs v w (Ok version)) old new
+Reloads served zone old new (Ok version) = HappensIn served zone.origin (λ s v w. Reloading (opened_as s) zone.pairs v w (Ok version)) old new
 Reloads served zone old new (Err refusal.NoZone) = NoneHas served zone.origin × (new ≡ old)
-Reloads served zone old new (Err e) = HappensIn served zone.origin (λ s v w. Reloading (setup_of s) zone.pairs v w (Err e)) old new
+Reloads served zone old new (Err e) = HappensIn served zone.origin (λ s v w. Reloading (opened_as s) zone.pairs v w (Err e)) old new

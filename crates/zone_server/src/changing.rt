@@ -1,7 +1,7 @@
 //! Changes of a zone by transactions.
 ghost use Rattle.std.specs.Prelude.{◌≡◌, ◌≢◌, Some, IfOk, OnErr, slice_get};
 ghost use Rattle.zone_server.specs.Prelude.{AllSaid, BlockRan, BlockWants, Changes, EndsBlock, HappensIn, IsServed, IsServing, IsUpdate};
-ghost use Rattle.zone_server.specs.Prelude.{RolledBack, UpdateView, asked_view, ended_of, ended_view, known_of, setup_of};
+ghost use Rattle.zone_server.specs.Prelude.{RolledBack, UpdateView, asked_view, ended_of, ended_view, known_of, opened_as};
 
 use crate::finding::zone_of;
 use crate::home::Home;
@@ -108,9 +108,9 @@ fn run_in<R: Wait, H: Home>(
     requires said { AllSaid origin.now (asked_view block.now) }
     ensures pass { IsServing H.zones pass.new }
     ensures ends { IfOk result (λ o. EndsBlock o.told) }
-    ensures ran { IfOk result (λ o. HappensIn H.zones origin.now (λ s v w. BlockRan (setup_of s) (asked_view block.now) block.now.ending v w o)
+    ensures ran { IfOk result (λ o. HappensIn H.zones origin.now (λ s v w. BlockRan (opened_as s) (asked_view block.now) block.now.ending v w o)
         (known_of pass.old) (known_of pass.new)) }
-    ensures wants { OnErr result (HappensIn H.zones origin.now (λ s v w. BlockWants (setup_of s) (asked_view block.now) v w)
+    ensures wants { OnErr result (HappensIn H.zones origin.now (λ s v w. BlockWants (opened_as s) (asked_view block.now) v w)
         (known_of pass.old) (known_of pass.new)) }
 {
     let index = zones.zone(zone);

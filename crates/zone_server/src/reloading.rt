@@ -1,7 +1,7 @@
 //! Zones that are exchanged whole, each by one transaction that changes what differs and nothing else.
 ghost use Rattle.std.specs.Prelude.{◌≡◌, map, IfOk, IsSome};
-ghost use Rattle.zone_server.specs.Prelude.{CanBeDumped, IsServed, IsServing, IsSetup, IsShown, Keep, MakesZone, NoRule, OpensAt, Reloading, Reloads};
-ghost use Rattle.zone_server.specs.Prelude.{RanOn, Setup, StopsReload, changes, commit_told, difference, known_at, known_of};
+ghost use Rattle.zone_server.specs.Prelude.{CanBeDumped, IsServed, IsServing, IsOpenedWith, IsShown, Keep, MakesZone, NoRule, OpensAt, Reloading, Reloads};
+ghost use Rattle.zone_server.specs.Prelude.{RanOn, OpenedWith, StopsReload, changes, commit_told, difference, known_at, known_of};
 ghost use Rattle.zone_server.specs.Prelude.{operation_view, versions_in};
 
 use crate::asking::Shown;
@@ -13,7 +13,7 @@ use crate::server::{Server, ServerPass};
 use dns_name::Name;
 use job_commands::ZoneLaw;
 use master_file::Zone;
-use qp_multi::{Index, Locked, Named, Pass, Receipt, Spent, Versions};
+use qp_multi::{Index, Named, Pass, Receipt, Spent, Versions, WriteGuard};
 use std::alloc::{AllocError, Global};
 use std::sync::Wait;
 use thiserror::Error;
@@ -124,10 +124,10 @@ fn exchange<R: Wait, N: Named>(
     requires makes { MakesZone origin.now (changes (map operation_view operations.now)) (known_at pass.old.seat) number }
     ensures here { IsSome pass.new.seat }
     ensures place { pass.new.place ≡ pass.old.place }
-    ensures ran { (s : Setup) → IsSetup s origin.now index.now.shared.table.shared.key (known_at pass.old.seat)
+    ensures ran { (s : OpenedWith) → IsOpenedWith s origin.now index.now.shared.table.shared.key (known_at pass.old.seat)
         → RanOn s (changes (map operation_view operations.now)) (known_at pass.old.seat) (known_at pass.new.seat) result }
 {
-    let mut locked = Locked::of(index);
+    let mut locked = WriteGuard::of(index);
     let mut update = index.update(rt, &mut locked, pass);
     let base = update.version();
     if base != number {
@@ -154,7 +154,7 @@ fn reload_index<R: Wait, N: Named>(
     requires zone { CanBeDumped zone.now.origin zone.now.pairs }
     ensures here { IsSome pass.new.seat }
     ensures place { pass.new.place ≡ pass.old.place }
-    ensures reloading { (s : Setup) → IsSetup s zone.now.origin index.now.shared.table.shared.key (known_at pass.old.seat)
+    ensures reloading { (s : OpenedWith) → IsOpenedWith s zone.now.origin index.now.shared.table.shared.key (known_at pass.old.seat)
         → Reloading s zone.now.pairs (known_at pass.old.seat) (known_at pass.new.seat) result }
 {
     let Shown { version, told } = difference_of(alloc, index, pass, zone);

@@ -11,10 +11,10 @@ use Rattle.pin_core.specs.declared.version.Spent.{Spent as NoNumber}
 use Rattle.shared_cells.specs.History.{IsPartOf}
 use Rattle.shared_cells.specs.Views.{is_told}
 use Rattle.qp_multi.specs.declared.commit.Receipt.{Receipt}
-use Rattle.qp_multi.specs.declared.desk.Draft.{Draft}
+use Rattle.qp_multi.specs.declared.writer.WorkingVersion.{WorkingVersion}
 use Rattle.qp_multi.specs.declared.meaning.Operation.{Operation}
 use Rattle.qp_multi.specs.declared.meaning.Operation.TheVariants.{Insert, Delete}
-use Rattle.qp_multi.specs.Drafts.{Operates, Between}
+use Rattle.qp_multi.specs.WorkingVersions.{Operates, Between}
 use Rattle.qp_multi.specs.Passes.{Known, first_version}
 use Rattle.zone_table.specs.declared.change.TableRefusal.{TableRefusal}
 use Rattle.zone_table.specs.declared.change.TableRefusal.TheVariants.{Spent}
@@ -116,7 +116,7 @@ opening_unchanged met origins old new number told table u = subst (IsTable origi
 
 -- ---- the calls, of an origin's key and item
 
-module _ {E : Type 0} (refusal : E) (first second : Option Draft) (r : Result (Unit {0}) E) where
+module _ {E : Type 0} (refusal : E) (first second : Option WorkingVersion) (r : Result (Unit {0}) E) where
   abbrev pub Inserts : List ℕ → List ℕ → Type 0
   Inserts key item = Between (λ d e. Operates (Insert (record { key = key; item = item })) (λ es. (x : Entry) × InList x es × (x.key ≡ key)) d e (IsOk r) (r ≡ Err refusal)) first second
 

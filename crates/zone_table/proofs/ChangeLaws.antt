@@ -18,12 +18,12 @@ use Rattle.shared_cells.specs.Views.{is_told}
 use Rattle.qp_multi.specs.declared.commit.Receipt.{Receipt}
 use Rattle.qp_multi.specs.declared.meaning.Named.{Ghosts}
 use Rattle.qp_multi.specs.declared.pass.Pass.{Pass}
-use Rattle.qp_multi.specs.declared.desk.Draft.{Draft}
+use Rattle.qp_multi.specs.declared.writer.WorkingVersion.{WorkingVersion}
 use Rattle.qp_multi.specs.declared.meaning.Operation.{Operation}
 use Rattle.qp_multi.specs.declared.meaning.Operation.TheVariants.{Insert, Delete}
 use Rattle.qp_multi.specs.Bases.{CommitsAreWithin}
-use Rattle.qp_multi.specs.Bounds.{BoundsDraft, IsCramped}
-use Rattle.qp_multi.specs.Drafts.{Begins, Commits, IsBack, Operates, Between, base_of, working_set}
+use Rattle.qp_multi.specs.Bounds.{BoundsWorking, IsCramped}
+use Rattle.qp_multi.specs.WorkingVersions.{Begins, Commits, IsBack, Operates, Between, base_of, working_set}
 use Rattle.qp_multi.specs.Keepings.{GoesOn}
 use Rattle.qp_multi.specs.Operations.{operated, applied, below, above, AreWithin}
 use Rattle.qp_multi.specs.Passes.{Known, known_at, first_version, version_seen}
@@ -39,18 +39,18 @@ use Rattle.zone_table.specs.declared.pass.ZonesPass.{ZonesPass}
 use Rattle.zone_table.proofs.AttachLaws.{Ends, ends_grow, opening_after, opening_unchanged}
 use Rattle.zone_table.proofs.CapacityLaws.{few_cells}
 use Rattle.zone_table.proofs.KnownLaws.{Seat, opened_same, opening_fits, part_more, part_of, seat_told}
-use Rattle.zone_table.proofs.RecallLaws.{recalls_later}
+use Rattle.zone_table.proofs.RememberLaws.{remembers_later}
 
--- ---- drafts that are there
+-- ---- working versions that are there
 
-pub there_is : (P : Draft → Type 0) (o : Option Draft) (d : Draft) → o ≡ Some d → IfSome o P → P d
-there_is P o d is h = subst (λ (x : Option Draft). IfSome x P) is h
+pub there_is : (P : WorkingVersion → Type 0) (o : Option WorkingVersion) (d : WorkingVersion) → o ≡ Some d → IfSome o P → P d
+there_is P o d is h = subst (λ (x : Option WorkingVersion). IfSome x P) is h
 
-pub there_and : (P : Draft → Type 0) (o : Option Draft) (d : Draft) → o ≡ Some d → IsSomeAnd o P → P d
-there_and P o d is h = subst (λ (x : Option Draft). IsSomeAnd x P) is h
+pub there_and : (P : WorkingVersion → Type 0) (o : Option WorkingVersion) (d : WorkingVersion) → o ≡ Some d → IsSomeAnd o P → P d
+there_and P o d is h = subst (λ (x : Option WorkingVersion). IsSomeAnd x P) is h
 
-pub some_and : (P : Draft → Type 0) (o : Option Draft) (d : Draft) → o ≡ Some d → P d → IsSomeAnd o P
-some_and P o d is p = subst (λ (x : Option Draft). IsSomeAnd x P) (sym is) p
+pub some_and : (P : WorkingVersion → Type 0) (o : Option WorkingVersion) (d : WorkingVersion) → o ≡ Some d → P d → IsSomeAnd o P
+some_and P o d is p = subst (λ (x : Option WorkingVersion). IsSomeAnd x P) (sym is) p
 
 -- ---- what is in a version
 
@@ -81,7 +81,7 @@ standing_rises has used live (Some r) es s = subst Rises s.1.trie.holds (rises_t
 
 -- ---- a transaction that has begun
 
-module _ (origins : List Name) (old : Known) (d : Draft) (told : is_told old.seen.opening ≡ true) (table : IsTable origins (first_version old.seen)) (b : Begins IsAmong old d) where
+module _ (origins : List Name) (old : Known) (d : WorkingVersion) (told : is_told old.seen.opening ≡ true) (table : IsTable origins (first_version old.seen)) (b : Begins IsAmong old d) where
   pub base_first : first_version d.seat.place.me.0.seen ≡ first_version old.seen
   base_first = opened_same d.seat.place.me.0.seen old.seen told b.joined.grows
 
@@ -95,7 +95,7 @@ module _ (origins : List Name) (old : Known) (d : Draft) (told : is_told old.see
   pub never_cramped : AllByRecursion IsName origins → length origins ≤ 16 → CommitsAreWithin (Some 1) d.seat.place.me.0 → d.seat.passes ≤ 17 → length d.usage.given ≡ 512 → IsCramped d → ⊥
   never_cramped names few within passes chunks cramped = cramped 287 1 bounds roomy
     where
-      bounds : BoundsDraft 287 1 d
+      bounds : BoundsWorking 287 1 d
       bounds = record {
         some = omega arith;
         history = record {
@@ -109,7 +109,7 @@ module _ (origins : List Name) (old : Known) (d : Draft) (told : is_told old.see
       roomy : is_roomy d.seat.passes 287 1 (length d.usage.given)
       roomy = omega arith
 
-  module _ (e : Draft) (known : GoesOn d.seat.place.me.0 e.seat.place.me.0) where
+  module _ (e : WorkingVersion) (known : GoesOn d.seat.place.me.0 e.seat.place.me.0) where
     later_base : version_seen e.seat.place.me.0.seen ≡ version_seen d.seat.place.me.0.seen
     later_base = base_goes_on known
 
@@ -179,7 +179,7 @@ module _ (origins : List Name) (old : Known) (d : Draft) (told : is_told old.see
 
 -- ---- by what its call and its end tell
 
-module _ {E X : Type 0} {N : Ghosts X} (refusal : E) (o : Operation) (denied : List Entry → Type 0) (origins : List Name) (p : ZonesPass X N) (is : IsPassOf origins p) (first second : Option Draft)
+module _ {E X : Type 0} {N : Ghosts X} (refusal : E) (o : Operation) (denied : List Entry → Type 0) (origins : List Name) (p : ZonesPass X N) (is : IsPassOf origins p) (first second : Option WorkingVersion)
     (begins : IsSomeAnd first (Begins IsAmong (table_known p))) where
   abbrev old : Known
   old = table_known p
@@ -250,7 +250,7 @@ module _ {E X : Type 0} {N : Ghosts X} (refusal : E) (o : Operation) (denied : L
     opening = opening;
     zones_here = is.zones_here;
     zone_places = is.zone_places;
-    recalls = recalls_later origins (known_at t.seat).seen old.seen p.recalled.version p.recalled.attached grows is.recalls;
+    remembers = remembers_later origins (known_at t.seat).seen old.seen p.remembered.version p.remembered.attached grows is.remembers;
   }
 
   -- behind a commit
@@ -284,12 +284,12 @@ module _ {E X : Type 0} {N : Ghosts X} (refusal : E) (o : Operation) (denied : L
   pub has_room : AllByRecursion IsName origins → length origins ≤ 16 → IsSomeAnd first (λ d. CommitsAreWithin (Some 1) d.seat.place.me.0) → IsSomeAnd first (λ d. d.seat.passes ≤ 17) → IsSomeAnd first (λ d. length d.usage.given ≡ 512) → IsSomeAnd first IsCramped → ⊥
   has_room names few within passes chunks cramped = go first refl begins
     where
-      go : (f : Option Draft) → first ≡ f → IsSomeAnd f (Begins IsAmong old) → ⊥
+      go : (f : Option WorkingVersion) → first ≡ f → IsSomeAnd f (Begins IsAmong old) → ⊥
       go (Some d) is b =
           never_cramped origins old d told table b names few (there_and (λ x. CommitsAreWithin (Some 1) x.seat.place.me.0) first d is within) (there_and (λ x. x.seat.passes ≤ 17) first d is passes)
           (there_and (λ x. length x.usage.given ≡ 512) first d is chunks) (there_and IsCramped first d is cramped)
       go None is b = b
 
-pub one_and : (P Q : Draft → Type 0) (o : Option Draft) → ((d : Draft) → P d → Q d) → IsSomeAnd o P → IsSomeAnd o Q
+pub one_and : (P Q : WorkingVersion → Type 0) (o : Option WorkingVersion) → ((d : WorkingVersion) → P d → Q d) → IsSomeAnd o P → IsSomeAnd o Q
 one_and P Q (Some d) f p = f d p
 one_and P Q None f p = p

@@ -13,7 +13,7 @@ use Rattle.zone_table.specs.declared.pass.ZonesPass.{ZonesPass}
 use Rattle.zone_table.specs.Endings.{AreAdded, AreSplit, AreEnded, Belong, EachEnds, IsEnd}
 use Rattle.zone_table.specs.Passes.{IsPassOf, table_known, zone_known}
 use Rattle.zone_table.proofs.Lists.{all_at, at_seam, get_front, get_in, last_or_before, mapped_at, numbered_at, some_is}
-use Rattle.zone_table.proofs.DealLaws.{all_by_place, same_list}
+use Rattle.zone_table.proofs.HandingLaws.{all_by_place, same_list}
 use Rattle.zone_table.proofs.PassLaws.{wide}
 
 -- ---- numbers in their places

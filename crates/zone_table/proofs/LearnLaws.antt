@@ -10,14 +10,14 @@ use Rattle.qp_multi.specs.declared.meaning.Named.{Ghosts}
 use Rattle.qp_multi.specs.declared.note.Note.{Note}
 use Rattle.qp_multi.specs.declared.pass.Pass.{Pass}
 use Rattle.qp_multi.specs.Passes.{Known, known_at, Learnt}
-use Rattle.zone_table.specs.Notes.{Sighting, LearntAt}
+use Rattle.zone_table.specs.Notes.{SeenHistory, LearntAt}
 use Rattle.zone_table.proofs.Lists.{cut_behind, at_seam, get_set, get_set_other, mapped_at, some_is}
 
 module _ {X : Type 0} {N : Ghosts X} where
   abbrev pub known : List (Pass X N) → List Known
   known passes = map (λ z. known_at z.seat) passes
 
-  abbrev pub told : List (Note X N) → List Sighting
+  abbrev pub told : List (Note X N) → List SeenHistory
   told notes = map (λ z. z.told.place.me.0.seen) notes
 
   -- the notes that are left, and those passes that have learnt

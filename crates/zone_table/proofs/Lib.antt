@@ -1,7 +1,7 @@
 pub mod Lists
 pub mod OriginLaws
 pub mod KnownLaws
-pub mod RecallLaws
+pub mod RememberLaws
 pub mod PassLaws
 pub mod LearnLaws
 pub mod TableLaws
@@ -12,6 +12,6 @@ pub mod ChangeLaws
 pub mod AttachLaws
 pub mod WalkLaws
 pub mod LookLaws
-pub mod DealLaws
-pub mod ShelfLaws
+pub mod HandingLaws
+pub mod BucketLaws
 pub mod EndLaws

@@ -7,32 +7,32 @@ use Rattle.qp_multi.specs.declared.meaning.Named.{Ghosts}
 use Rattle.qp_multi.specs.declared.pass.Pass.{Pass}
 use Rattle.qp_multi.specs.Passes.{known_at, version_seen, Pinned}
 use Rattle.zone_table.specs.declared.pass.ZonesPass.{ZonesPass}
-use Rattle.zone_table.specs.declared.recalled.Recalled.{Recalled}
+use Rattle.zone_table.specs.declared.remembered.Remembered.{Remembered}
 use Rattle.zone_table.specs.Passes.{IsPassOf, table_known}
-use Rattle.zone_table.specs.Recalled.{AreAttached, Recalls}
+use Rattle.zone_table.specs.Remembered.{AreAttached, Remembers}
 use Rattle.zone_table.specs.Tables.{IsAmong, IsTable}
 use Rattle.zone_table.proofs.KnownLaws.{pinned_opening, seat_told, told_later}
-use Rattle.zone_table.proofs.RecallLaws.{recalls_later, recalls_now}
+use Rattle.zone_table.proofs.RememberLaws.{remembers_later, remembers_now}
 
 module _ {X : Type 0} {N : Ghosts X} (origins : List Name) (p : ZonesPass X N) (is : IsPassOf origins p) (t : Pass X N) (number : ℕ) (here : IsSome t.seat) (place : t.place ≡ 0) (pinned : Pinned IsAmong (table_known p) (known_at t.seat) number) where
   told : is_told (table_known p).seen.opening ≡ true
   told = seat_told p.table.seat is.table_here
 
-  is_back : (r : Recalled) → IfSome r.version (λ n. Recalls origins (known_at t.seat).seen n r.attached) → IsPassOf origins (record p { table = t; recalled = r })
-  is_back r recalls = record {
+  is_back : (r : Remembered) → IfSome r.version (λ n. Remembers origins (known_at t.seat).seen n r.attached) → IsPassOf origins (record p { table = t; remembered = r })
+  is_back r remembers = record {
     table_here = here;
     table_place = place;
     opening = subst (IsTable origins) (sym (pinned_opening IsAmong (table_known p) (known_at t.seat) number told pinned)) is.opening;
     zones_here = is.zones_here;
     zone_places = is.zone_places;
-    recalls = recalls;
+    remembers = remembers;
   }
 
   -- what it remembers is as it was
   pub asked : IsPassOf origins (record p { table = t })
-  asked = is_back p.recalled (recalls_later origins (known_at t.seat).seen (table_known p).seen p.recalled.version p.recalled.attached pinned.grows is.recalls)
+  asked = is_back p.remembered (remembers_later origins (known_at t.seat).seen (table_known p).seen p.remembered.version p.remembered.attached pinned.grows is.remembers)
 
   -- or is of the version that it has pinned
-  pub looked : (r : Recalled) → r.version ≡ Some number → AreAttached origins (version_seen (known_at t.seat).seen) r.attached → IsPassOf origins (record p { table = t; recalled = r })
-  looked r version are = is_back r (subst (λ (o : Option ℕ). IfSome o (λ n. Recalls origins (known_at t.seat).seen n r.attached)) (sym version)
-      (recalls_now origins (known_at t.seat).seen number r.attached (told_later (known_at t.seat).seen (table_known p).seen told pinned.grows) pinned.version are))
+  pub looked : (r : Remembered) → r.version ≡ Some number → AreAttached origins (version_seen (known_at t.seat).seen) r.attached → IsPassOf origins (record p { table = t; remembered = r })
+  looked r version are = is_back r (subst (λ (o : Option ℕ). IfSome o (λ n. Remembers origins (known_at t.seat).seen n r.attached)) (sym version)
+      (remembers_now origins (known_at t.seat).seen number r.attached (told_later (known_at t.seat).seen (table_known p).seen told pinned.grows) pinned.version are))

@@ -7,7 +7,7 @@ use Rattle.zone_model.proofs.OrderLemmas.{ends_under, under_ends}
 use Rattle.dns_name.proofs.WireLemmas.{spelled_once}
 use Rattle.trie_model.specs.Keys.{Entry}
 use Rattle.zone_table.specs.Locations.{Covers, IsZoneOf}
-use Rattle.zone_table.specs.Recalled.{AreAttached, IsAt}
+use Rattle.zone_table.specs.Remembered.{AreAttached, IsAt}
 use Rattle.zone_table.proofs.Lists.{contains_at, each_in, none_left, place_in}
 
 -- a name at or above another is told by how many labels it has

@@ -62,7 +62,7 @@ module _ {X : Type 0} {N : Ghosts X} where
   went origins p zone old new is there here place =
       let kept = kept_set p.zones.items p.zones.items zone old new (kept_first p.zones.items is.zones_here) (sym (get_or_from_slice_get p.zones.items zone old old there)) here place in
       record {
-        pass = record { table_here = is.table_here; table_place = is.table_place; opening = is.opening; zones_here = kept.here; zone_places = kept.places ∙ is.zone_places; recalls = is.recalls };
+        pass = record { table_here = is.table_here; table_place = is.table_place; opening = is.opening; zones_here = kept.here; zone_places = kept.places ∙ is.zone_places; remembers = is.remembers };
         here = known_from (with_zone p zone new) zone
             ∙ ap (λ (o : Option (Pass X N)). unwrap_or (option_map seen_by o) (known_at None)) (get_set p.zones.items zone new (slice_get_within p.zones.items zone old there));
         others = λ other differs. known_from (with_zone p zone new) other

@@ -6,17 +6,17 @@ use Rattle.trie_model.specs.Keys.{Entry}
 use Rattle.shared_cells.specs.declared.view.PassView.{PassView}
 use Rattle.shared_cells.specs.History.{StartsWith, IsPartOf, entries_by, entry_of}
 use Rattle.qp_multi.specs.declared.commit.Receipt.{Receipt}
-use Rattle.qp_multi.specs.declared.desk.Draft.{Draft}
+use Rattle.qp_multi.specs.declared.writer.WorkingVersion.{WorkingVersion}
 use Rattle.qp_multi.specs.declared.meaning.Operation.{Operation}
 use Rattle.qp_multi.specs.declared.meaning.Operation.TheVariants.{Insert, Delete}
-use Rattle.qp_multi.specs.Drafts.{Begins}
+use Rattle.qp_multi.specs.WorkingVersions.{Begins}
 use Rattle.qp_multi.specs.Keepings.{GoesOn}
 use Rattle.qp_multi.specs.Operations.{operated}
 use Rattle.qp_multi.specs.Passes.{Known, version_seen}
 use Rattle.qp_multi.specs.Receipts.{Recycles}
 use Rattle.zone_table.specs.declared.change.TableRefusal.{TableRefusal}
 use Rattle.zone_table.specs.declared.change.TableRefusal.TheVariants.{Exists, Missing, Spent}
-use Rattle.zone_table.specs.Notes.{Sighting}
+use Rattle.zone_table.specs.Notes.{SeenHistory}
 use Rattle.zone_table.specs.Tables.{IsAmong, IsAttached, entry_for}
 
 -- no version has a greater number
@@ -26,7 +26,7 @@ last_number = 2 ^ 40 - 1
 -- The operation was published as the next commit, by this pass, behind a base of which it had seen a beginning. The base's version meets a
 -- condition.
 pub record IsChanged (meets : List Entry → Type 0) (old new : Known) (o : Operation) (number : ℕ) : Type 0 where
-  pub base : Sighting
+  pub base : SeenHistory
   pub grows : IsPartOf base old.seen
   pub met : meets (version_seen base)
   pub next : length base.history ≢ last_number
@@ -65,8 +65,8 @@ Detaches origin old new (Err (Spent number)) = IsUnchanged (λ es. IsAttached es
 
 -- What was freed and kept is what the table's index tells of the commit of a light transaction, which leaves 8 chunks sparse.
 pub record IsReceipt (old new : Known) (receipt : Receipt) : Type 0 where
-  pub first : Draft
+  pub first : WorkingVersion
   pub begins : Begins IsAmong old first
-  pub last : Draft
+  pub last : WorkingVersion
   pub goes_on : GoesOn first.seat.place.me.0 last.seat.place.me.0
   pub recycles : Recycles 8 last new receipt

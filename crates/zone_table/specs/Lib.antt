@@ -1,12 +1,12 @@
 pub mod Tables
-pub mod Shelves
-pub mod Recalled
+pub mod Buckets
+pub mod Remembered
 pub mod Locations
 pub mod Passes
 pub mod Lends
 pub mod Notes
 pub mod Openings
 pub mod Changes
-pub mod Dealings
+pub mod Handings
 pub mod Endings
 pub mod Prelude

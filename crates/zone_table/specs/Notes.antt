@@ -11,19 +11,19 @@ use Rattle.zone_table.specs.declared.note.ZonesNote.{ZonesNote}
 use Rattle.zone_table.specs.declared.pass.ZonesPass.{ZonesPass}
 use Rattle.zone_table.specs.Passes.{table_known, zones_known}
 
-abbrev pub Sighting : Type 0
-Sighting = Seen (List Entry) (List Operation)
+abbrev pub SeenHistory : Type 0
+SeenHistory = Seen (List Entry) (List Operation)
 
 -- the one at this place has learnt what it was told
-abbrev pub LearntAt : List Known → List Known → List Sighting → ℕ → Type 0
-LearntAt old new told place = (v w : Known) (t : Sighting) → slice_get old place ≡ Some v → slice_get new place ≡ Some w → slice_get told place ≡ Some t → Learnt v w t
+abbrev pub LearntAt : List Known → List Known → List SeenHistory → ℕ → Type 0
+LearntAt old new told place = (v w : Known) (t : SeenHistory) → slice_get old place ≡ Some v → slice_get new place ≡ Some w → slice_get told place ≡ Some t → Learnt v w t
 
 -- what a note tells of the table, and of each zone
 
-abbrev pub table_told : {X : Type 0} {N : Ghosts X} → ZonesNote X N → Sighting
+abbrev pub table_told : {X : Type 0} {N : Ghosts X} → ZonesNote X N → SeenHistory
 table_told n = n.table.told.place.me.0.seen
 
-abbrev pub zones_told : {X : Type 0} {N : Ghosts X} → ZonesNote X N → List Sighting
+abbrev pub zones_told : {X : Type 0} {N : Ghosts X} → ZonesNote X N → List SeenHistory
 zones_told n = map (λ z. z.told.place.me.0.seen) n.zones.items
 
 -- it is of the same table and zones

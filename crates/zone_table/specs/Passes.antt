@@ -5,7 +5,7 @@ use Rattle.zone_model.specs.Names.{Name}
 use Rattle.qp_multi.specs.declared.meaning.Named.{Ghosts}
 use Rattle.qp_multi.specs.Passes.{Known, known_at, first_version}
 use Rattle.zone_table.specs.declared.pass.ZonesPass.{ZonesPass}
-use Rattle.zone_table.specs.Recalled.{Recalls}
+use Rattle.zone_table.specs.Remembered.{Remembers}
 use Rattle.zone_table.specs.Tables.{IsTable}
 
 -- No query and no transaction of it was forgotten, so that each seat is in its place. It knows of the table's opening, and
@@ -16,7 +16,7 @@ pub record IsPassOf {X : Type 0} {N : Ghosts X} (origins : List Name) (p : Zones
   pub opening : IsTable origins (first_version (known_at p.table.seat).seen)
   pub zones_here : All (λ z. IsSome z.seat) p.zones.items
   pub zone_places : map (λ z. z.place) p.zones.items ≡ range_with_len 1 (length origins)
-  pub recalls : IfSome p.recalled.version (λ number. Recalls origins (known_at p.table.seat).seen number p.recalled.attached)
+  pub remembers : IfSome p.remembered.version (λ number. Remembers origins (known_at p.table.seat).seen number p.remembered.attached)
 
 -- what it knows of the table, and of each zone
 abbrev pub table_known : {X : Type 0} {N : Ghosts X} → ZonesPass X N → Known

@@ -10,12 +10,12 @@ pub use Rattle.trie_write.specs.Entries.{entries_of_items, entry_of}
 pub use Rattle.qp_multi.specs.Openings.{Refuses}
 pub use Rattle.qp_multi.specs.Passes.{Known, Pinned, known_at, version_seen}
 pub use Rattle.zone_table.specs.Changes.{Attaches, Detaches, IsReceipt}
-pub use Rattle.zone_table.specs.Dealings.{AreMade}
+pub use Rattle.zone_table.specs.Handings.{AreMade}
 pub use Rattle.zone_table.specs.Endings.{AreAdded, AreEnded, AreSplit, Belong, EachEnds, IsEnd}
 pub use Rattle.zone_table.specs.Lends.{lends_zone}
 pub use Rattle.zone_table.specs.Locations.{IsZoneOf}
 pub use Rattle.zone_table.specs.Notes.{HasLearnt, IsNoteOf, KnowsSame, LearntAt, Tells}
 pub use Rattle.zone_table.specs.Openings.{AllFit, AreBegun, IsBegun, OpensZones, Place, RefusesZones, entries_in, origins_of, places_of}
 pub use Rattle.zone_table.specs.Passes.{IsPassOf, table_known, zone_known}
-pub use Rattle.zone_table.specs.Recalled.{AreAttached, IsAt}
+pub use Rattle.zone_table.specs.Remembered.{AreAttached, IsAt}
 pub use Rattle.zone_table.specs.Tables.{IsAmong, IsAttached, IsTable, entry_for}

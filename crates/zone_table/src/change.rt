@@ -4,7 +4,7 @@ ghost use Rattle.zone_table.specs.Prelude.{IsPassOf, table_known, Attaches, Deta
 
 use crate::pass::ZonesPass;
 use crate::zones::Zones;
-use qp_multi::{ChangeRefusal, InsertRefusal, Law, Locked, Named, Receipt, Spent};
+use qp_multi::{ChangeRefusal, InsertRefusal, Law, Named, Receipt, Spent, WriteGuard};
 use shift_key::Key;
 use std::sync::Wait;
 use thiserror::Error;
@@ -51,7 +51,7 @@ impl<L: Law, N: Named> Zones<L, N> {
         ensures receipt { IfOk result (IsReceipt (table_known pass.old) (table_known pass.new)) }
     {
         let origin = &self.origins[zone as usize];
-        let mut locked = Locked::of(&self.table);
+        let mut locked = WriteGuard::of(&self.table);
         let mut write = self.table.write(rt, &mut locked, &mut pass.table);
         let version = write.version();
         match write.insert(&Key::of(origin), origin.wire()) {
@@ -77,7 +77,7 @@ impl<L: Law, N: Named> Zones<L, N> {
         ensures receipt { IfOk result (IsReceipt (table_known pass.old) (table_known pass.new)) }
     {
         let origin = &self.origins[zone as usize];
-        let mut locked = Locked::of(&self.table);
+        let mut locked = WriteGuard::of(&self.table);
         let mut write = self.table.write(rt, &mut locked, &mut pass.table);
         let version = write.version();
         match write.delete(&Key::of(origin)) {

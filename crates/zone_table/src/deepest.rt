@@ -2,7 +2,7 @@
 ghost use Rattle.std.specs.Prelude.{◌↔◌, ◌<◌, IfSome, IsNone, IsTrue, List, ℕ, length};
 ghost use Rattle.zone_table.specs.Prelude.{IsSpelled, Spells, Entry, Labels, IsZoneOf, AreAttached, IsAt};
 
-use crate::shelves::shelf_of;
+use crate::buckets::bucket_of;
 use crate::zones::Zones;
 use dns_name::first_label;
 use qp_multi::{Law, Named};
@@ -23,7 +23,7 @@ impl<L: Law, N: Named> Zones<L, N> {
         ensures found { IfSome result (IsAt self.now.origins.items attached.now octets.now) }
         ensures none { IsNone result → (zone : ℕ) → IsAt self.now.origins.items attached.now octets.now zone → ⊥ }
     {
-        let zones = &self.shelves[shelf_of(octets)];
+        let zones = &self.buckets[bucket_of(octets)];
         for zone in zones {
             if self.is_at(attached, octets, *zone as usize) {
                 return Some(*zone);

@@ -4,18 +4,18 @@
 //! A caller asks and changes a zone through its index, which `Zones::zone` gives, and the pass of it that `ZonesPass::zone` lends.
 #![tactic(auto)]
 
-mod assembly;
+mod buckets;
+mod building;
 mod change;
 mod close;
-mod dealing;
 mod deepest;
+mod handing;
 mod law;
 mod locating;
 mod note;
 mod opening;
 mod pass;
-mod recalled;
-mod shelves;
+mod remembered;
 mod table;
 mod zones;
 

@@ -32,10 +32,10 @@ impl<N: Named> ZonesPass<N> {
         ensures pass { IsPassOf zones.now.origins.items self.new }
         ensures others { self.new.zones ≡ self.old.zones }
         ensures version { Pinned IsAmong (known_at self.old.table.seat) (known_at self.new.table.seat) result }
-        ensures attached { AreAttached zones.now.origins.items (version_seen (known_at self.new.table.seat).seen) self.new.recalled.attached }
+        ensures attached { AreAttached zones.now.origins.items (version_seen (known_at self.new.table.seat).seen) self.new.remembered.attached }
     {
         let mut query = self.table.query(&zones.table);
-        self.recalled.look(&mut query, &zones.origins);
+        self.remembered.look(&mut query, &zones.origins);
         query.version()
     }
 
@@ -49,7 +49,7 @@ impl<N: Named> ZonesPass<N> {
         ensures zone { IsZoneOf zones.now.origins.items (version_seen (known_at self.new.table.seat).seen) name.now result.zone }
     {
         let version = self.look(zones);
-        let zone = zones.deepest(&self.recalled.attached, name.wire());
+        let zone = zones.deepest(&self.remembered.attached, name.wire());
         Located { version, zone }
     }
 

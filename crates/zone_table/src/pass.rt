@@ -2,7 +2,7 @@
 ghost use Rattle.std.specs.Prelude.{◌≡◌, ◌<◌, ◌+◌, Some, IsSome, length, slice_get};
 ghost use Rattle.zone_table.specs.Prelude.{sem, known_at, IsPassOf, zone_known, lends_zone};
 
-use crate::recalled::Recalled;
+use crate::remembered::Remembered;
 use crate::zones::Zones;
 use qp_multi::{Law, Named, Pass};
 
@@ -13,7 +13,7 @@ pub struct ZonesPass<N: Named> {
     /// One for each zone, in the order of their numbers.
     pub(crate) zones: Vec<Pass<N>>,
     /// Of the table.
-    pub(crate) recalled: Recalled,
+    pub(crate) remembered: Remembered,
 }
 
 impl<N: Named> ZonesPass<N> {

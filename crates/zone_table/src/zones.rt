@@ -3,7 +3,7 @@ ghost use Rattle.std.specs.Prelude.{◌≡◌, ◌<◌, ◌≤◌, ◌+◌, Some
 ghost use Rattle.std.specs.List.{AllByRecursion, range_with_len};
 ghost use Rattle.std.proofs.Props.{props};
 ghost use Rattle.zone_model.specs.Names.{IsName};
-ghost use Rattle.zone_table.specs.Shelves.{AreFiled, AreZones};
+ghost use Rattle.zone_table.specs.Buckets.{AreFiled, AreZones};
 
 use crate::law::TableLaw;
 use dns_name::Name;
@@ -16,8 +16,8 @@ pub struct Zones<L: Law, N: Named> {
     pub(crate) table: Index<TableLaw, N>,
     pub(crate) zones: Vec<Index<L, N>>,
     pub(crate) origins: Vec<Name>,
-    /// Zones by the shelves of their origins.
-    pub(crate) shelves: Vec<Vec<u32>>,
+    /// Zones by the buckets of their origins.
+    pub(crate) buckets: Vec<Vec<u32>>,
     ghost table_place: { table.place ≡ 0 },
     ghost chunks: { table.shared.table.shared.key.chunks ≡ 512 },
     ghost passes: { table.shared.table.shared.key.passes ≤ 17 },
@@ -26,9 +26,9 @@ pub struct Zones<L: Law, N: Named> {
     ghost some: { 1 ≤ length zones.items },
     ghost few: { length zones.items ≤ 16 },
     ghost names: { AllByRecursion IsName origins.items } by { Prim.hlevel props },
-    ghost shelf_count: { length shelves.items ≡ 64 },
-    ghost shelf_zones: { AreZones (length origins.items) (map (λ s. s.items) shelves.items) } by { Prim.hlevel props },
-    ghost filed: { AreFiled origins.items (map (λ s. s.items) shelves.items) } by { Prim.hlevel props },
+    ghost bucket_count: { length buckets.items ≡ 64 },
+    ghost bucket_zones: { AreZones (length origins.items) (map (λ s. s.items) buckets.items) } by { Prim.hlevel props },
+    ghost filed: { AreFiled origins.items (map (λ s. s.items) buckets.items) } by { Prim.hlevel props },
 }
 
 impl<L: Law, N: Named> Zones<L, N> {

@@ -7,12 +7,12 @@ use Rattle.zone_model.specs.Versions.{Version, Operation}
 use Rattle.zone_model.specs.Transactions.{Transaction}
 use Rattle.zone_answer.specs.Standing.{IsVersion, Shows, ShowsSome}
 use Rattle.job_model.specs.Sizes.{trie_entries}
-use Rattle.qp_multi.specs.declared.desk.Draft.{Draft}
+use Rattle.qp_multi.specs.declared.writer.WorkingVersion.{WorkingVersion}
 use Rattle.qp_multi.specs.Operations.{applied}
 use Rattle.qp_multi.specs.Passes.{Known}
 use Rattle.shared_cells.specs.declared.pass.PassSeat.{PassSeat}
 use Rattle.qp_multi.specs.declared.meaning.Operation as meaning
-use Rattle.qp_multi.specs.Drafts.{Begins, Between, IsBack, Works, base_of, working_set}
+use Rattle.qp_multi.specs.WorkingVersions.{Begins, Between, IsBack, Works, base_of, working_set}
 use Rattle.zone_diff.specs.Blocks.{changes}
 use Rattle.zone_diff.specs.Differences.{difference}
 use Rattle.zone_diff.specs.declared.Serial.TheVariants.{Keep}
@@ -37,30 +37,30 @@ stored_rises es s = subst Rises s.1.held (entries_rise s.0 s.1.version_is.rising
 pub zone_stored : (version : Version) (es : List Entry) → IsVersion version → trie_entries version ≡ es → ShowsSome (λ held. held ≡ es)
 zone_stored version es valid e = (version, record { version_is = valid; held = e })
 
--- ---- a draft that is there is there still, and its pass gets back its seat
+-- ---- a working version that is there is there still, and its pass gets back its seat
 
-old_some : (P : Draft → Type 0) (old : Option Draft) → IsSomeAnd old P → IsSome old
+old_some : (P : WorkingVersion → Type 0) (old : Option WorkingVersion) → IsSomeAnd old P → IsSome old
 old_some P None h = absurd h
 old_some P (Some d) h = refl
 
-between_some : (R : Draft → Draft → Type 0) (old new : Option Draft) → Between R old new → IsSome new
+between_some : (R : WorkingVersion → WorkingVersion → Type 0) (old new : Option WorkingVersion) → Between R old new → IsSome new
 between_some R None new h = absurd h
 between_some R (Some old) None h = absurd h
 between_some R (Some old) (Some new) h = refl
 
-pub replaced_some : (P : Draft → Type 0) (origin : Name) (operations : List Operation) (result : Result (Unit {0}) EditRefusal) (old new : Option Draft) → IsSomeAnd old P → Replaces origin operations result old new → IsSome new
+pub replaced_some : (P : WorkingVersion → Type 0) (origin : Name) (operations : List Operation) (result : Result (Unit {0}) EditRefusal) (old new : Option WorkingVersion) → IsSomeAnd old P → Replaces origin operations result old new → IsSome new
 replaced_some P origin operations result old new s (inl h) = subst IsSome (sym h.1) (old_some P old s)
 replaced_some P origin operations result old new s (inr h) = between_some (EditsInOrder origin (done_of operations result) (Executes origin (changes operations) result)) old new h
 
-pub back_ready : (o : Option Draft) (seat : Option (PassSeat (List Entry) (List meaning.Operation))) → IsSome o → IfSome o (λ d. IsBack d.seat.place.me.0 seat) → IsSome seat
+pub back_ready : (o : Option WorkingVersion) (seat : Option (PassSeat (List Entry) (List meaning.Operation))) → IsSome o → IfSome o (λ d. IsBack d.seat.place.me.0 seat) → IsSome seat
 back_ready None seat s h = absurd cc
 back_ready (Some d) seat s h = h.0
 
-pub same_place : (o : Option Draft) (a b : ℕ) → IsSome o → IfSome o (λ _. a ≡ b) → a ≡ b
+pub same_place : (o : Option WorkingVersion) (a b : ℕ) → IsSome o → IfSome o (λ _. a ≡ b) → a ≡ b
 same_place None a b s h = absurd cc
 same_place (Some d) a b s h = h
 
-module _ (old : Known) (first : Option Draft) (begins : IsSomeAnd first (Begins IsStored old)) where
+module _ (old : Known) (first : Option WorkingVersion) (begins : IsSomeAnd first (Begins IsStored old)) where
   -- it begins on a version
   pub begun : IsSomeAnd first WorksOnSome
   begun = some_weaker (Begins IsStored old) WorksOnSome first
@@ -70,7 +70,7 @@ module _ (old : Known) (first : Option Draft) (begins : IsSomeAnd first (Begins 
       })
       begins
 
-  module _ (origin : Name) (operations : List Operation) (second : Option Draft) (replaced : Replaces origin operations (Ok tt) first second) where
+  module _ (origin : Name) (operations : List Operation) (second : Option WorkingVersion) (replaced : Replaces origin operations (Ok tt) first second) where
     edited : Edited origin (changes operations) (Ok tt) first second
     edited = by_case replaced
       where

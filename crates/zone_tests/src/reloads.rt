@@ -6,7 +6,7 @@ ghost use Rattle.trie_write.specs.Entries.{entries_of_items};
 use dns_name::Name;
 use index_items::zone_items;
 use master_file::{Zone, read_zone};
-use qp_multi::{Blank, Index, Law, Locked, Named, Pass};
+use qp_multi::{Blank, Index, Law, Named, Pass, WriteGuard};
 use std::alloc::{AllocError, Global};
 use std::marker::Brand;
 use std::sync::Wait;
@@ -129,7 +129,7 @@ impl<N: Named> Worker<'_, N> {
         zone: Zone,
         buffers: &mut ItemBuffers,
     ) -> Result<Option<u64>, EditRefusal> {
-        let mut locked = Locked::of(self.index);
+        let mut locked = WriteGuard::of(self.index);
         let mut write = self.index.write(rt, &mut locked, &mut self.pass);
         let mut version = beside.pass.query(beside.index);
         replace_all(alloc, origin, &mut write, &mut version, zone, buffers)?;

@@ -11,7 +11,7 @@ use Rattle.zone_answer.specs.Answers.{followed}
 use Rattle.job_model.specs.Outcomes as one
 use Rattle.job_model.specs.declared.Ending.TheVariants.{Commit}
 use Rattle.job_model.specs.declared.Weight.TheVariants.{Light}
-use Rattle.zones_model.specs.Outcomes.{Done, Got, Ran, Attached, Detached, all_done, attached_at}
+use Rattle.zones_model.specs.Outcomes.{CommandEnd, Got, Ran, Attached, Detached, all_done, attached_at}
 use Rattle.zones_model.specs.Tables.{zone_for}
 use Rattle.zones_model.specs.Reports.{report}
 use Rattle.zones_model.specs.declared.TableCause.TheVariants.{Exists}
@@ -38,7 +38,7 @@ zones =
     ∷ (record { origin = lower; pairs = (lower, set 6 60 [] ∷ []) ∷ (host, set 1 60 (192 ∷ 0 ∷ 2 ∷ 8 ∷ []) ∷ []) ∷ [] })
     ∷ []
 
-abbrev done : List (List Done)
+abbrev done : List (List CommandEnd)
 done =
     (Got host 1 0 (Some (record { zone = 1; version = 0 }))
     ∷ Detached 1 1 None

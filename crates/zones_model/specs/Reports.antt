@@ -12,7 +12,7 @@ use Rattle.job_model.specs.Outcomes.{is_refused}
 use Rattle.job_model.specs.Replies.{answer_text}
 use Rattle.job_model.specs.Reports.{ended_text}
 use Rattle.zones_model.specs.Commands.{origins_of}
-use Rattle.zones_model.specs.Outcomes.{Done, Got, Ran, Attached, Detached, Shown, Last, all_done, attached_at, version_of}
+use Rattle.zones_model.specs.Outcomes.{CommandEnd, Got, Ran, Attached, Detached, Shown, Last, all_done, attached_at, version_of}
 use Rattle.zones_model.specs.Tables.{attached_count}
 use Rattle.zones_model.specs.declared.TableCause.{TableCause}
 use Rattle.zones_model.specs.declared.TableCause.TheVariants.{Exists, Missing, Spent}
@@ -50,18 +50,18 @@ shown_text zones set name rtype None = codes "NOZONE\n"
 shown_text zones set name rtype (Some s) =
     zone_version zones s.zone s.version ++ answer_text (answer (slice_index_or zones s.zone no_zone).origin (set s.zone s.version) name rtype)
 
-abbrev pub done_text : List Zone → (ℕ → ℕ → Version) → ℕ → ℕ → Done → List ℕ
+abbrev pub done_text : List Zone → (ℕ → ℕ → Version) → ℕ → ℕ → CommandEnd → List ℕ
 done_text zones set worker command (Got name rtype table shown) = table_head worker command table ++ shown_text zones set name rtype shown
 done_text zones set worker command (Ran zone _ asked ending outcome) =
     decimal worker ++ codes "." ++ decimal command ++ codes " " ++ zone_version zones zone outcome.version ++ ended_text outcome.ended
 done_text zones set worker command (Attached zone table refused) = table_head worker command table ++ change_text (codes "ATTACHED") refused
 done_text zones set worker command (Detached zone table refused) = table_head worker command table ++ change_text (codes "DETACHED") refused
 
-abbrev pub worker_text : List Zone → (ℕ → ℕ → Version) → ℕ → ℕ → List Done → List ℕ
+abbrev pub worker_text : List Zone → (ℕ → ℕ → Version) → ℕ → ℕ → List CommandEnd → List ℕ
 worker_text zones set w c [] = []
 worker_text zones set w c (done ∷ rest) = done_text zones set w c done ++ worker_text zones set w (c + 1) rest
 
-abbrev pub workers_text : List Zone → (ℕ → ℕ → Version) → ℕ → List (List Done) → List ℕ
+abbrev pub workers_text : List Zone → (ℕ → ℕ → Version) → ℕ → List (List CommandEnd) → List ℕ
 workers_text zones set w [] = []
 workers_text zones set w (worker ∷ workers) = worker_text zones set w 1 worker ++ workers_text zones set (w + 1) workers
 
@@ -86,11 +86,11 @@ ends_text ends = flat_map (λ e. zone_end e.0 e.1.0 e.1.1) ends
 -- ---- the report
 
 -- version v of the zone of a number, under these outcomes
-abbrev pub set_of : List Zone → List (List Done) → ℕ → ℕ → Version
+abbrev pub set_of : List Zone → List (List CommandEnd) → ℕ → ℕ → Version
 set_of zones workers number = version_of (slice_index_or zones number no_zone) number workers
 
 -- worker by worker, command by command, and then the last versions
-abbrev pub report : List Zone → List (List Done) → Last → List ℕ
+abbrev pub report : List Zone → List (List CommandEnd) → Last → List ℕ
 report zones workers last =
     let set = set_of zones workers in
     workers_text zones set 1 workers
@@ -103,11 +103,11 @@ abbrev pub is_some_cause : Option TableCause → Bool
 is_some_cause None = false
 is_some_cause (Some cause) = true
 
-abbrev pub was_refused : Done → Bool
+abbrev pub was_refused : CommandEnd → Bool
 was_refused (Got name rtype table shown) = false
 was_refused (Ran zone _ asked ending outcome) = is_refused outcome.ended
 was_refused (Attached zone table refused) = is_some_cause refused
 was_refused (Detached zone table refused) = is_some_cause refused
 
-abbrev pub some_refused : List (List Done) → Bool
+abbrev pub some_refused : List (List CommandEnd) → Bool
 some_refused workers = list_any was_refused (all_done workers)

@@ -27,9 +27,9 @@ use Rattle.zones_model.specs.Reports.{no_zone, set_of, table_end, table_head, is
 use Rattle.zones_model.specs.Tables.{attached_count}
 use Rattle.zones_model.specs.declared.TableCause.{TableCause}
 use Rattle.zones_report.specs.declared.outcomes.Answer.{Answer}
-use Rattle.zones_report.specs.declared.outcomes.Done.{Done}
-use Rattle.zones_report.specs.declared.outcomes.Done.TheVariants.{Got, Ran, Attached, Detached}
-use Rattle.zones_report.specs.declared.outcomes.DoneList.{DoneList}
+use Rattle.zones_report.specs.declared.outcomes.CommandEnd.{CommandEnd}
+use Rattle.zones_report.specs.declared.outcomes.CommandEnd.TheVariants.{Got, Ran, Attached, Detached}
+use Rattle.zones_report.specs.declared.outcomes.CommandEnds.{CommandEnds}
 use Rattle.zones_report.specs.declared.outcomes.ZonesFinished.{ZonesFinished}
 use Rattle.zones_report.specs.Outcomes.{all_dones_view, all_refused, done_view, dones_view, was_refused}
 use Rattle.zones_report.specs.Telling.{AllTell, EachTells, IsTold, Tells, last_of}
@@ -46,11 +46,11 @@ version-at : (zones : List Zone) (n v : ℕ) → report.zone_version zones n v �
 version-at zones n v = ap (λ (name : Name). text_of name ++ codes " v" ++ decimal v ++ codes " ") (sym (origin-at zones n))
 
 -- what holds of each command that came to something of its kind holds of all that is told
-by_kind : (zones : List Zone) (set : ℕ → ℕ → Version) (P : Command → Done → Type 0)
+by_kind : (zones : List Zone) (set : ℕ → ℕ → Version) (P : Command → CommandEnd → Type 0)
     → ((name : Name) (rtype table : ℕ) (answer : Option Answer) → Tells zones set (Get name rtype) (Got table answer) → P (Get name rtype) (Got table answer))
     → ((zone ran : ℕ) (how : Weight) (asked : Transaction) (ending : Ending) (o : Outcome) → Tells zones set (Block zone how asked ending) (Ran ran o) → P (Block zone how asked ending) (Ran ran o))
     → ((zone table : ℕ) (refused : Option TableCause) → P (Attach zone) (Attached table refused)) → ((zone table : ℕ) (refused : Option TableCause) → P (Detach zone) (Detached table refused))
-    → (x : Command) (d : Done) → Tells zones set x d → P x d
+    → (x : Command) (d : CommandEnd) → Tells zones set x d → P x d
 by_kind zones set P got ran attached detached (Get name rtype) (Got table answer) t = got name rtype table answer t
 by_kind zones set P got ran attached detached (Get name rtype) (Ran zone o) t = absurd t
 by_kind zones set P got ran attached detached (Get name rtype) (Attached table refused) t = absurd t
@@ -85,11 +85,11 @@ block_told zones set w c zone ran how asked ending o t =
     ∙ ap (λ (text : List ℕ). head ++ zone_version (origins_of zones) zone o.version ++ text) (command_told [] (set zone) (jobs.Block how asked ending) o t.1)
     ∙ ap (λ (n : ℕ). head ++ zone_version (origins_of zones) n o.version ++ told_text o.told) (sym t.0)
 
-done_told : (zones : List Zone) (set : ℕ → ℕ → Version) (w c : ℕ) (x : Command) (d : Done) → Tells zones set x d → report.done_text zones set w c (done_view x d) ≡ done_text (origins_of zones) w c d
+done_told : (zones : List Zone) (set : ℕ → ℕ → Version) (w c : ℕ) (x : Command) (d : CommandEnd) → Tells zones set x d → report.done_text zones set w c (done_view x d) ≡ done_text (origins_of zones) w c d
 done_told zones set w c =
     by_kind zones set (λ x d. report.done_text zones set w c (done_view x d) ≡ done_text (origins_of zones) w c d) (answer_told zones set w c) (block_told zones set w c) (λ zone table refused. refl) (λ zone table refused. refl)
 
-worker_told : (zones : List Zone) (set : ℕ → ℕ → Version) (w c : ℕ) (cs : List Command) (ds : List Done) → EachTells zones set cs ds → report.worker_text zones set w c (dones_view cs ds) ≡ dones_text (origins_of zones) w c ds
+worker_told : (zones : List Zone) (set : ℕ → ℕ → Version) (w c : ℕ) (cs : List Command) (ds : List CommandEnd) → EachTells zones set cs ds → report.worker_text zones set w c (dones_view cs ds) ≡ dones_text (origins_of zones) w c ds
 worker_told zones set w c [] [] t = refl
 worker_told zones set w c [] (d ∷ ds) t = absurd t
 worker_told zones set w c (x ∷ cs) [] t = absurd t
@@ -97,7 +97,7 @@ worker_told zones set w c (x ∷ cs) (d ∷ ds) t =
     ap (λ (text : List ℕ). text ++ report.worker_text zones set w (c + 1) (dones_view cs ds)) (done_told zones set w c x d t.0)
     ∙ ap (λ (text : List ℕ). done_text (origins_of zones) w c d ++ text) (worker_told zones set w (c + 1) cs ds t.1)
 
-workers_told : (zones : List Zone) (set : ℕ → ℕ → Version) (w : ℕ) (ws : List (List Command)) (ds : List DoneList) → AllTell zones set ws ds → report.workers_text zones set w (all_dones_view ws ds) ≡ all_text (origins_of zones) w ds
+workers_told : (zones : List Zone) (set : ℕ → ℕ → Version) (w : ℕ) (ws : List (List Command)) (ds : List CommandEnds) → AllTell zones set ws ds → report.workers_text zones set w (all_dones_view ws ds) ≡ all_text (origins_of zones) w ds
 workers_told zones set w [] [] t = refl
 workers_told zones set w [] (d ∷ ds) t = absurd t
 workers_told zones set w (x ∷ ws) [] t = absurd t
@@ -137,7 +137,7 @@ some_cause : (refused : Option TableCause) → is_some refused ≡ is_some_cause
 some_cause None = refl
 some_cause (Some cause) = refl
 
-one_refused : (zones : List Zone) (set : ℕ → ℕ → Version) (x : Command) (d : Done) → Tells zones set x d → was_refused d ≡ report.was_refused (done_view x d)
+one_refused : (zones : List Zone) (set : ℕ → ℕ → Version) (x : Command) (d : CommandEnd) → Tells zones set x d → was_refused d ≡ report.was_refused (done_view x d)
 one_refused zones set =
     by_kind zones set (λ x d. was_refused d ≡ report.was_refused (done_view x d)) (λ name rtype table answer t. refl) (λ zone ran how asked ending o t. refl)
     (λ zone table refused. some_cause refused) (λ zone table refused. some_cause refused)
@@ -146,18 +146,18 @@ or-assoc : (a b c : Bool) → (a || (b || c)) ≡ ((a || b) || c)
 or-assoc true b c = refl
 or-assoc false b c = refl
 
-any-append : (xs ys : List outcomes.Done) → list_any report.was_refused (xs ++ ys) ≡ (list_any report.was_refused xs || list_any report.was_refused ys)
+any-append : (xs ys : List outcomes.CommandEnd) → list_any report.was_refused (xs ++ ys) ≡ (list_any report.was_refused xs || list_any report.was_refused ys)
 any-append [] ys = refl
 any-append (x ∷ xs) ys = ap (λ (b : Bool). report.was_refused x || b) (any-append xs ys) ∙ or-assoc (report.was_refused x) (list_any report.was_refused xs) (list_any report.was_refused ys)
 
-worker_refused : (zones : List Zone) (set : ℕ → ℕ → Version) (cs : List Command) (ds : List Done) → EachTells zones set cs ds → list_any was_refused ds ≡ list_any report.was_refused (dones_view cs ds)
+worker_refused : (zones : List Zone) (set : ℕ → ℕ → Version) (cs : List Command) (ds : List CommandEnd) → EachTells zones set cs ds → list_any was_refused ds ≡ list_any report.was_refused (dones_view cs ds)
 worker_refused zones set [] [] t = refl
 worker_refused zones set [] (d ∷ ds) t = absurd t
 worker_refused zones set (x ∷ cs) [] t = absurd t
 worker_refused zones set (x ∷ cs) (d ∷ ds) t =
     ap (λ (b : Bool). b || list_any was_refused ds) (one_refused zones set x d t.0) ∙ ap (λ (b : Bool). report.was_refused (done_view x d) || b) (worker_refused zones set cs ds t.1)
 
-pub refused_told : (zones : List Zone) (set : ℕ → ℕ → Version) (ws : List (List Command)) (ds : List DoneList) → AllTell zones set ws ds → all_refused ds ≡ report.some_refused (all_dones_view ws ds)
+pub refused_told : (zones : List Zone) (set : ℕ → ℕ → Version) (ws : List (List Command)) (ds : List CommandEnds) → AllTell zones set ws ds → all_refused ds ≡ report.some_refused (all_dones_view ws ds)
 refused_told zones set [] [] t = refl
 refused_told zones set [] (d ∷ ds) t = absurd t
 refused_told zones set (x ∷ ws) [] t = absurd t
@@ -168,17 +168,17 @@ refused_told zones set (x ∷ ws) (d ∷ ds) t =
 
 -- ---- a list for each worker, and an outcome for each command
 
-one_same : (zones : List Zone) (set : ℕ → ℕ → Version) (x : Command) (d : Done) → Tells zones set x d → command_of (done_view x d) ≡ x
+one_same : (zones : List Zone) (set : ℕ → ℕ → Version) (x : Command) (d : CommandEnd) → Tells zones set x d → command_of (done_view x d) ≡ x
 one_same zones set =
     by_kind zones set (λ x d. command_of (done_view x d) ≡ x) (λ name rtype table answer t. refl) (λ zone ran how asked ending o t. refl) (λ zone table refused. refl) (λ zone table refused. refl)
 
-worker_same : (zones : List Zone) (set : ℕ → ℕ → Version) (cs : List Command) (ds : List Done) → EachTells zones set cs ds → map command_of (dones_view cs ds) ≡ cs
+worker_same : (zones : List Zone) (set : ℕ → ℕ → Version) (cs : List Command) (ds : List CommandEnd) → EachTells zones set cs ds → map command_of (dones_view cs ds) ≡ cs
 worker_same zones set [] [] t = refl
 worker_same zones set [] (d ∷ ds) t = absurd t
 worker_same zones set (x ∷ cs) [] t = absurd t
 worker_same zones set (x ∷ cs) (d ∷ ds) t = ap (λ (y : Command). y ∷ map command_of (dones_view cs ds)) (one_same zones set x d t.0) ∙ ap (λ (l : List Command). x ∷ l) (worker_same zones set cs ds t.1)
 
-pub workers_same : (zones : List Zone) (set : ℕ → ℕ → Version) (ws : List (List Command)) (ds : List DoneList) → AllTell zones set ws ds → map (map command_of) (all_dones_view ws ds) ≡ ws
+pub workers_same : (zones : List Zone) (set : ℕ → ℕ → Version) (ws : List (List Command)) (ds : List CommandEnds) → AllTell zones set ws ds → map (map command_of) (all_dones_view ws ds) ≡ ws
 workers_same zones set [] [] t = refl
 workers_same zones set [] (d ∷ ds) t = absurd t
 workers_same zones set (x ∷ ws) [] t = absurd t

@@ -12,9 +12,9 @@ use Rattle.zones_model.specs.Outcomes.{Last, all_done, attached_at}
 use Rattle.zones_model.specs.Reports.{no_zone, set_of}
 use Rattle.zones_model.specs.Tables.{attached_count}
 use Rattle.zones_report.specs.declared.outcomes.Answer.{Answer}
-use Rattle.zones_report.specs.declared.outcomes.Done.{Done}
-use Rattle.zones_report.specs.declared.outcomes.Done.TheVariants as done
-use Rattle.zones_report.specs.declared.outcomes.DoneList.{DoneList}
+use Rattle.zones_report.specs.declared.outcomes.CommandEnd.{CommandEnd}
+use Rattle.zones_report.specs.declared.outcomes.CommandEnd.TheVariants as done
+use Rattle.zones_report.specs.declared.outcomes.CommandEnds.{CommandEnds}
 use Rattle.zones_report.specs.declared.outcomes.ZonesFinished.{ZonesFinished}
 use Rattle.zones_report.specs.Outcomes.{all_dones_view}
 
@@ -24,7 +24,7 @@ Answers zones set name rtype None = Unit {0}
 Answers zones set name rtype (Some a) = Replies (reply_of (slice_index_or zones a.zone no_zone).origin (set a.zone a.outcome.version) (question.Get name rtype)) a.outcome.told
 
 -- What became of a command is of the command's kind and zone.
-abbrev pub Tells : List Zone → (ℕ → ℕ → Version) → model.Command → Done → Type 0
+abbrev pub Tells : List Zone → (ℕ → ℕ → Version) → model.Command → CommandEnd → Type 0
 Tells zones set (model.Get name rtype) (done.Got table answer) = Answers zones set name rtype answer
 Tells zones set (model.Block zone _ asked ending) (done.Ran ran o) = (ran ≡ zone) × EndsBlock o.told
 Tells zones set (model.Attach zone) (done.Attached table refused) = Unit {0}
@@ -33,13 +33,13 @@ Tells zones set c d = ⊥
 
 -- there is one for each command of a worker, and a list for each worker
 
-abbrev pub EachTells : List Zone → (ℕ → ℕ → Version) → List model.Command → List Done → Type 0
+abbrev pub EachTells : List Zone → (ℕ → ℕ → Version) → List model.Command → List CommandEnd → Type 0
 EachTells zones set [] [] = Unit {0}
 EachTells zones set [] (d ∷ ds) = ⊥
 EachTells zones set (c ∷ cs) [] = ⊥
 EachTells zones set (c ∷ cs) (d ∷ ds) = Tells zones set c d × EachTells zones set cs ds
 
-abbrev pub AllTell : List Zone → (ℕ → ℕ → Version) → List (List model.Command) → List DoneList → Type 0
+abbrev pub AllTell : List Zone → (ℕ → ℕ → Version) → List (List model.Command) → List CommandEnds → Type 0
 AllTell zones set [] [] = Unit {0}
 AllTell zones set [] (d ∷ ds) = ⊥
 AllTell zones set (w ∷ ws) [] = ⊥

@@ -8,9 +8,9 @@ use Rattle.job_report.specs.Outcomes.{told_text}
 use Rattle.job_report.specs.declared.outcomes.Outcome.{Outcome}
 use Rattle.zones_model.specs.Reports.{change_text, ends_text, table_end, table_head}
 use Rattle.zones_report.specs.declared.outcomes.Answer.{Answer}
-use Rattle.zones_report.specs.declared.outcomes.Done.{Done}
-use Rattle.zones_report.specs.declared.outcomes.Done.TheVariants as done
-use Rattle.zones_report.specs.declared.outcomes.DoneList.{DoneList}
+use Rattle.zones_report.specs.declared.outcomes.CommandEnd.{CommandEnd}
+use Rattle.zones_report.specs.declared.outcomes.CommandEnd.TheVariants as done
+use Rattle.zones_report.specs.declared.outcomes.CommandEnds.{CommandEnds}
 use Rattle.zones_report.specs.declared.outcomes.ZonesFinished.{ZonesFinished}
 
 abbrev pub origin_text : List Name → ℕ → List ℕ
@@ -26,19 +26,19 @@ answer_text origins (Some a) = zone_version origins a.zone a.outcome.version ++ 
 abbrev pub ran_text : List Name → ℕ → ℕ → ℕ → Outcome → List ℕ
 ran_text origins w c zone o = decimal w ++ codes "." ++ decimal c ++ codes " " ++ zone_version origins zone o.version ++ told_text o.told
 
-abbrev pub done_text : List Name → ℕ → ℕ → Done → List ℕ
+abbrev pub done_text : List Name → ℕ → ℕ → CommandEnd → List ℕ
 done_text origins w c (done.Got table answer) = table_head w c table ++ answer_text origins answer
 done_text origins w c (done.Ran zone o) = ran_text origins w c zone o
 done_text origins w c (done.Attached table refused) = table_head w c table ++ change_text (codes "ATTACHED") refused
 done_text origins w c (done.Detached table refused) = table_head w c table ++ change_text (codes "DETACHED") refused
 
 -- what worker w's commands came to, the first of which is command c
-abbrev pub dones_text : List Name → ℕ → ℕ → List Done → List ℕ
+abbrev pub dones_text : List Name → ℕ → ℕ → List CommandEnd → List ℕ
 dones_text origins w c [] = []
 dones_text origins w c (d ∷ ds) = done_text origins w c d ++ dones_text origins w (c + 1) ds
 
 -- the same of worker w and of the workers behind it
-abbrev pub all_text : List Name → ℕ → List DoneList → List ℕ
+abbrev pub all_text : List Name → ℕ → List CommandEnds → List ℕ
 all_text origins w [] = []
 all_text origins w (d ∷ ds) = dones_text origins w 1 d.list.items ++ all_text origins (w + 1) ds
 

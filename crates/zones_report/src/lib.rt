@@ -4,5 +4,5 @@
 mod outcomes;
 mod report;
 
-pub use outcomes::{Answer, Done, DoneList, ZonesFinished, any_refused};
+pub use outcomes::{Answer, CommandEnd, CommandEnds, ZonesFinished, any_refused};
 pub use report::print_zones;

@@ -15,7 +15,7 @@ pub struct Answer {
 
 /// What a command came to.
 #[derive(Drop)]
-pub enum Done {
+pub enum CommandEnd {
     /// A question was put to a version of the table, and to the zone that this has for the name, if it has one.
     Got {
         table: u64,
@@ -40,15 +40,15 @@ pub enum Done {
 
 /// What one worker's commands came to, in order.
 #[derive(Drop)]
-pub struct DoneList {
-    pub list: Vec<Done>,
+pub struct CommandEnds {
+    pub list: Vec<CommandEnd>,
 }
 
 /// What became of the commands of all workers, the last version of the table and how many zones it has, and of each zone, in the
 /// order of their numbers, the last version and how many names that has.
 #[derive(Drop)]
 pub struct ZonesFinished {
-    pub done: Vec<DoneList>,
+    pub done: Vec<CommandEnds>,
     pub table: u64,
     pub attached: u64,
     pub versions: Vec<u64>,
@@ -56,26 +56,26 @@ pub struct ZonesFinished {
 }
 
 // Whether a command was refused.
-fn was_refused(done: &Done) -> bool
+fn was_refused(done: &CommandEnd) -> bool
     ensures { result ≡ was_refused done.now }
 {
     match done {
-        Done::Got { .. } => false,
-        Done::Ran { outcome, .. } => is_refused(outcome),
-        Done::Attached { refused, .. } => refused.is_some(),
-        Done::Detached { refused, .. } => refused.is_some(),
+        CommandEnd::Got { .. } => false,
+        CommandEnd::Ran { outcome, .. } => is_refused(outcome),
+        CommandEnd::Attached { refused, .. } => refused.is_some(),
+        CommandEnd::Detached { refused, .. } => refused.is_some(),
     }
 }
 
 // Whether one of a worker's commands was.
-fn some_refused(worker: &DoneList) -> bool
+fn some_refused(worker: &CommandEnds) -> bool
     ensures { result ≡ list_any was_refused worker.now.list.items }
 {
     worker.list.iter().any(|done| was_refused(done))
 }
 
 /// Whether some worker's command was refused.
-pub fn any_refused(workers: &[DoneList]) -> bool
+pub fn any_refused(workers: &[CommandEnds]) -> bool
     ensures { result ≡ all_refused workers.now }
 {
     workers.iter().any(|worker| some_refused(worker))

@@ -4,7 +4,7 @@ ghost use Rattle.job_report.specs.Pieces.{pieces_text};
 ghost use Rattle.zones_model.specs.Reports.{change_text, ends_text, table_cause_text, table_end, table_head, zone_end};
 ghost use Rattle.zones_report.specs.Texts.{all_text, answer_text, done_text, dones_text, ends_of, finished_text, origin_text, ran_text, zone_version};
 
-use crate::outcomes::{Answer, Done, DoneList, ZonesFinished};
+use crate::outcomes::{Answer, CommandEnd, CommandEnds, ZonesFinished};
 use dns_name::Name;
 use job_report::{Outcome, Pieces, append_told, push_pair};
 use std::alloc::{AllocError, Global};
@@ -127,21 +127,23 @@ fn append_done(
     origins: &[Name],
     worker: u64,
     command: u64,
-    done: Done,
+    done: CommandEnd,
 ) -> Result<(), AllocError>
     ensures { OnOk result (pieces_text out.new ≡ pieces_text out.old ++ done_text origins.now worker command done) }
 {
     match done {
-        Done::Got { table, answer } => {
+        CommandEnd::Got { table, answer } => {
             push_table_head(&mut out.last, worker, command, table)?;
             append_answer(out, origins, answer)
         }
-        Done::Ran { zone, outcome } => append_ran(out, origins, worker, command, zone, outcome),
-        Done::Attached { table, refused } => {
+        CommandEnd::Ran { zone, outcome } => append_ran(
+            out, origins, worker, command, zone, outcome,
+        ),
+        CommandEnd::Attached { table, refused } => {
             push_table_head(&mut out.last, worker, command, table)?;
             push_change(&mut out.last, b"ATTACHED", refused)
         }
-        Done::Detached { table, refused } => {
+        CommandEnd::Detached { table, refused } => {
             push_table_head(&mut out.last, worker, command, table)?;
             push_change(&mut out.last, b"DETACHED", refused)
         }
@@ -152,7 +154,7 @@ fn append_dones(
     out: &mut Pieces,
     origins: &[Name],
     worker: u64,
-    list: Vec<Done>,
+    list: Vec<CommandEnd>,
 ) -> Result<(), AllocError>
     ensures { OnOk result (pieces_text out.new ≡ pieces_text out.old ++ dones_text origins.now worker 1 list.items) }
 {
@@ -164,7 +166,11 @@ fn append_dones(
     Ok(())
 }
 
-fn append_all(out: &mut Pieces, origins: &[Name], workers: Vec<DoneList>) -> Result<(), AllocError>
+fn append_all(
+    out: &mut Pieces,
+    origins: &[Name],
+    workers: Vec<CommandEnds>,
+) -> Result<(), AllocError>
     ensures { OnOk result (pieces_text out.new ≡ pieces_text out.old ++ all_text origins.now 1 workers.items) }
 {
     let mut worker = 0;

@@ -18,7 +18,7 @@ use Rattle.job_commands.proofs.ShowLaws.{seat_pass}
 use Rattle.zone_table.specs.declared.opening.ZoneItems.{ZoneItems}
 use Rattle.zone_table.specs.declared.pass.ZonesPass.{ZonesPass}
 use Rattle.zone_table.specs.declared.zones.Zones.{Zones}
-use Rattle.zone_table.specs.Dealings.{AreMade, IsNewPass}
+use Rattle.zone_table.specs.Handings.{AreMade, IsNewPass}
 use Rattle.zone_table.specs.Openings.{entries_in, origins_of}
 use Rattle.zone_table.specs.Passes.{IsPassOf, table_known, zone_known}
 use Rattle.zone_table.proofs.Lists.{get_in, all_at, mapped_at, some_is}

@@ -16,7 +16,7 @@ use Rattle.qp_multi.specs.declared.meaning.Operation.{Operation}
 use Rattle.qp_multi.specs.Closings.{AllSeen, AreAll, Ends}
 use Rattle.qp_multi.specs.Passes.{Known, Pinned, version_seen}
 use Rattle.job_commands.specs.Closings.{numbers_in}
-use Rattle.job_commands.specs.Histories.{IsLawful, Setup, StandsAs}
+use Rattle.job_commands.specs.Histories.{IsLawful, OpenedWith, StandsAs}
 use Rattle.job_commands.specs.Runs.{IsRun}
 use Rattle.job_commands.proofs.CloseLaws.{in_map}
 use Rattle.job_commands.proofs.EndLaws.{job_ends, number_with, numbers_same, out_of}
@@ -28,7 +28,7 @@ use Rattle.zones_model.specs.Outcomes as model
 use Rattle.zones_model.specs.Outcomes.{Last}
 use Rattle.zones_model.specs.Reports.{no_zone, set_of}
 use Rattle.zone_table.specs.Tables.{IsAmong, IsTable}
-use Rattle.zones_report.specs.declared.outcomes.DoneList.{DoneList}
+use Rattle.zones_report.specs.declared.outcomes.CommandEnds.{CommandEnds}
 use Rattle.zone_table.proofs.Lists.{get_in}
 use Rattle.zones_threads.specs.Closings.{TableGathers, TableWorker, ZoneGathers, all_parts, dones_in, worker_views, zone_commands}
 use Rattle.zones_threads.specs.Endings.{TableEnd, ZoneEnd}
@@ -36,7 +36,7 @@ use Rattle.zones_threads.specs.Runs.{IsZonesRun}
 use Rattle.zones_threads.specs.Sites.{IsSaid}
 use Rattle.zones_threads.specs.Tellings.{PartsTell}
 use Rattle.zones_report.specs.Outcomes.{AllAreOf, all_dones_view}
-use Rattle.zones_threads.specs.Works.{AreApart, TableSetup}
+use Rattle.zones_threads.specs.Works.{AreApart, TableOpenedWith}
 use Rattle.zones_threads.proofs.TableCloseLaws.{table_closed, table_lawful, table_count, ends_there}
 use Rattle.zones_threads.proofs.TellLaws.{workers_tell}
 use Rattle.zones_threads.proofs.ZoneCloseLaws.{zone_lawful, zone_names, zone_tells}
@@ -47,7 +47,7 @@ entries_with : (p : Option (PassView (List Operation))) (own : PassView (List Op
 entries_with p own n e = ap (λ (x : Option (PassView (List Operation))). with_pinned x n) e
 
 -- Main has asked for the table's last version, and all passes were handed in.
-pub table_ends : (b : TableSetup) (before : List Known) (dones : List (List model.Done)) (views : List Known) (main after : Known) (number count version : ℕ) (last : AllSeen) → TableGathers b before dones views main → is_told main.seen.opening ≡ true → Pinned IsAmong main after number → AreApart b.origins
+pub table_ends : (b : TableOpenedWith) (before : List Known) (dones : List (List model.CommandEnd)) (views : List Known) (main after : Known) (number count version : ℕ) (last : AllSeen) → TableGathers b before dones views main → is_told main.seen.opening ≡ true → Pinned IsAmong main after number → AreApart b.origins
     → IsTable b.origins b.opening → length before ≡ count → AreAll count before → Ends count (views ++ after ∷ []) version last → TableEnd b.origins dones version (length (version_seen after.seen))
 table_ends b before dones views main after number count version last g told p apart table counted all ends =
     let own : PassView (List Operation) = record g.own { pinned = g.own.pinned ++ number ∷ [] } in
@@ -68,13 +68,13 @@ table_ends b before dones views main after number count version last g told p ap
     let there' = ends_there b last.history after g.done own is_own g.none learnt c in
     let opened = opened_same after.seen main.seen told p.grows ∙ g.opened in
     let many = table_count b last.history after apart g.done own is_own g.none table c there' opened p.good in
-    subst (λ (ds : List (List model.Done)). TableEnd b.origins ds version (length (version_seen after.seen))) (sym g.dones_are)
+    subst (λ (ds : List (List model.CommandEnd)). TableEnd b.origins ds version (length (version_seen after.seen))) (sym g.dones_are)
     (subst (λ (n : ℕ). TableEnd b.origins (dones_in g.done) n (length (version_seen after.seen))) (sym ended.version_is) (record { lawful = table_lawful b last.history after apart g.done own is_own g.none table c; attached_are = many }))
 
 -- ---- a zone
 
 -- Main has asked for its last version, and all passes were handed in.
-pub zone_ends : (s : Setup) (zone : Zone) (number : ℕ) (before : List Known) (ws : List (List Command)) (ds : List DoneList) (views : List Known) (main pinned after : Known) (asked count version names : ℕ) (last : AllSeen) → AllAreOf ws ds → ZoneGathers s number before ws ds views main
+pub zone_ends : (s : OpenedWith) (zone : Zone) (number : ℕ) (before : List Known) (ws : List (List Command)) (ds : List CommandEnds) (views : List Known) (main pinned after : Known) (asked count version names : ℕ) (last : AllSeen) → AllAreOf ws ds → ZoneGathers s number before ws ds views main
     → is_told main.seen.opening ≡ true → Pinned IsLawful main pinned asked → after ≡ with_progress pinned progress.Idle → s.origin ≡ zone.origin → StandsAs s.opening zone.pairs → length before ≡ count → AreAll count before → Ends count (views ++ after ∷ []) version last
     → names ≡ length (version_seen pinned.seen) → ZoneEnd s.chunks s.passes zone number version names ws ds
 zone_ends s zone number before ws ds views main pinned after asked count version names last are g told p left origin opens counted all ends names_are =
@@ -88,13 +88,13 @@ zone_ends s zone number before ws ds views main pinned after asked count version
 
 -- ---- all of it
 
-dones_many : (ws : List (List Command)) (ds : List DoneList) → AllAreOf ws ds → length (all_dones_view ws ds) ≡ length ws
+dones_many : (ws : List (List Command)) (ds : List CommandEnds) → AllAreOf ws ds → length (all_dones_view ws ds) ≡ length ws
 dones_many [] ds are = refl
 dones_many (w ∷ ws) [] are = absurd are
 dones_many (w ∷ ws) (d ∷ ds) are = (let more = dones_many ws ds are.1 in omega (arith, more))
 
 -- The table and each zone have ended so.
-pub zones_run : (chunks : ℕ) (zones : List Zone) (ws : List (List Command)) (ds : List DoneList) (last : Last) (attached : ℕ) (names : List ℕ) → AllAreOf ws ds → AllByRecursion (AllByRecursion (IsSaid (origins_of zones))) ws → TableEnd (origins_of zones) (all_dones_view ws ds) last.table attached → length last.zones ≡ length zones → length names ≡ length zones
+pub zones_run : (chunks : ℕ) (zones : List Zone) (ws : List (List Command)) (ds : List CommandEnds) (last : Last) (attached : ℕ) (names : List ℕ) → AllAreOf ws ds → AllByRecursion (AllByRecursion (IsSaid (origins_of zones))) ws → TableEnd (origins_of zones) (all_dones_view ws ds) last.table attached → length last.zones ≡ length zones → length names ≡ length zones
     → ((number : ℕ) (zone : Zone) → slice_get zones number ≡ Some zone → (version count : ℕ) → slice_get last.zones number ≡ Some version → slice_get names number ≡ Some count → ZoneEnd chunks (model.passes_for (length ws)) zone number version count ws ds)
     → IsZonesRun chunks zones ws ds last attached names
 zones_run chunks zones ws ds last attached names are said table many named each = record {

@@ -17,8 +17,8 @@ use Rattle.shared_cells.specs.History.{StartsWith}
 use Rattle.shared_cells.specs.Views.{number_of, is_told}
 use Rattle.qp_multi.specs.declared.meaning.Named.{Ghosts}
 use Rattle.qp_multi.specs.Passes.{Known, known_at, Learnt}
-use Rattle.job_commands.specs.Histories.{Setup, Entries}
-use Rattle.job_commands.specs.Commands.{IsIndex, IsSetup}
+use Rattle.job_commands.specs.Histories.{OpenedWith, Entries}
+use Rattle.job_commands.specs.Commands.{IsIndex, IsOpenedWith}
 use Rattle.job_commands.specs.Closings.{numbers_in}
 use Rattle.job_commands.specs.Works.{only, IsNew, AreNew, WorkerRan, ended}
 use Rattle.job_commands.proofs.HistoryLaws.{begins_more, opened_same}
@@ -34,12 +34,12 @@ use Rattle.zone_table.specs.Notes.{HasLearnt, Tells}
 use Rattle.zone_table.specs.Passes.{IsPassOf, zone_known, zones_known}
 use Rattle.zone_table.proofs.Lists.{mapped_at}
 use Rattle.zones_report.specs.declared.outcomes.Answer.{Answer}
-use Rattle.zones_report.specs.declared.outcomes.Done.{Done}
-use Rattle.zones_report.specs.declared.outcomes.Done.TheVariants as done
-use Rattle.zones_report.specs.declared.outcomes.DoneList.{DoneList}
+use Rattle.zones_report.specs.declared.outcomes.CommandEnd.{CommandEnd}
+use Rattle.zones_report.specs.declared.outcomes.CommandEnd.TheVariants as done
+use Rattle.zones_report.specs.declared.outcomes.CommandEnds.{CommandEnds}
 use Rattle.zones_threads.specs.Closings.{TableGathers, TableWorker, ZoneGathers, worker_views, zone_commands}
 use Rattle.zones_threads.specs.Views.{Part, answer_part, commands_of, outcomes_of, part_in, parts_in}
-use Rattle.zones_threads.specs.Works.{TableSetup, TableWork}
+use Rattle.zones_threads.specs.Works.{TableOpenedWith, TableWork}
 use Rattle.zone_table.proofs.PassLaws.{zone_seat}
 
 -- ---- what a note tells of a zone
@@ -55,7 +55,7 @@ module _ {X : Type 0} {N : Ghosts X} (origins : List Name) (zone : ℕ) (lt : zo
 
 -- ---- the outcomes of a zone, as a list of the same type
 
-pub outcomes_from : (v : Vec Done Global) (os : List Outcome) → length os ≤ length v.items → Outcomes
+pub outcomes_from : (v : Vec CommandEnd Global) (os : List Outcome) → length os ≤ length v.items → Outcomes
 outcomes_from v os le = record { list = record { ptr = v.ptr; len = length os; cap = v.cap; alloc = v.alloc; items = os; ok = (refl, (let a = v.ok.0 in let b = v.ok.1 in omega (arith, a, b, le))); small = v.small } }
 
 at_most_one : (b : Bool) (p : Part) → length (cond b (p ∷ []) []) ≤ 1
@@ -66,7 +66,7 @@ short_answer : (zone : ℕ) (question : Question) (answer : Option Answer) → l
 short_answer zone question None = omega arith
 short_answer zone question (Some a) = at_most_one (eqb a.zone zone) (record { command = jobs.Ask question; outcome = a.outcome })
 
-short_part : (zone : ℕ) (c : Command) (d : Done) → length (part_in zone c d) ≤ 1
+short_part : (zone : ℕ) (c : Command) (d : CommandEnd) → length (part_in zone c d) ≤ 1
 short_part zone (model.Get name rtype) (done.Got table answer) = short_answer zone (question.Get name rtype) answer
 short_part zone (model.Block changed w asked ending) (done.Ran ran o) = at_most_one (eqb changed zone) (record { command = jobs.Block w asked ending; outcome = o })
 short_part zone (model.Get name rtype) (done.Ran ran o) = omega arith
@@ -78,25 +78,25 @@ short_part zone (model.Block changed w asked ending) (done.Detached table refuse
 short_part zone (model.Attach changed) d = omega arith
 short_part zone (model.Detach changed) d = omega arith
 
-short_parts : (zone : ℕ) (cs : List Command) (ds : List Done) → length (parts_in zone cs ds) ≤ length ds
+short_parts : (zone : ℕ) (cs : List Command) (ds : List CommandEnd) → length (parts_in zone cs ds) ≤ length ds
 short_parts zone [] ds = omega arith
 short_parts zone (c ∷ cs) [] = omega arith
 short_parts zone (c ∷ cs) (d ∷ ds) = (let one = short_part zone c d in let more = short_parts zone cs ds in omega (arith, one, more, length-append (part_in zone c d) (parts_in zone cs ds)))
 
-zone_list : (zone : ℕ) (w : List Command) (d : DoneList) → Outcomes
+zone_list : (zone : ℕ) (w : List Command) (d : CommandEnds) → Outcomes
 zone_list zone w d = outcomes_from d.list (outcomes_of (parts_in zone w d.list.items)) (let l = short_parts zone w d.list.items in omega (arith, l, length-map (parts_in zone w d.list.items) (λ (p : Part). p.outcome)))
 
 -- ---- a zone's workers
 
-pub zone_starts : {A : Type 0} (passes front : List A) (main : A) (known : A → Known) (s : Setup) (zone : ℕ) (ws : List (List Command)) (ds : List DoneList) → passes ≡ front ++ main ∷ [] → length passes ≡ 1 → ws ≡ [] → AreNew s.opening (map known passes)
+pub zone_starts : {A : Type 0} (passes front : List A) (main : A) (known : A → Known) (s : OpenedWith) (zone : ℕ) (ws : List (List Command)) (ds : List CommandEnds) → passes ≡ front ++ main ∷ [] → length passes ≡ 1 → ws ≡ [] → AreNew s.opening (map known passes)
     → ZoneGathers s zone (map known passes) ws ds (map known front) (known main)
 zone_starts passes front main known s zone ws ds is long none new =
     subst (λ (l : List (List Command)). ZoneGathers s zone (map known passes) l ds (map known front) (known main)) (sym none)
     (record { outcomes = []; outcomes_are = refl; gathers = gathers_main passes front main known s [] [] is long refl refl new })
 
-module _ {A : Type 0} (passes front : List A) (pass : A) (known : A → Known) (s : Setup) (last : passes ≡ front ++ pass ∷ []) (new : AreNew s.opening (map known passes)) where
-  pub zone_more : (zone : ℕ) (origin : Name) (size : TableSize) → IsIndex s origin size → (ws : List (List Command)) (ds : List DoneList) (views : List Known) (main after pass' : Known) (w : List Command) (d : DoneList) → ZoneGathers s zone (map known front) ws ds views main
-      → ((n : ℕ) → IsSetup s origin size (known pass) → IsNew n s.opening (known pass) → WorkerRan s (only n) (ended pass' (known pass)) (commands_of (parts_in zone w d.list.items)) (outcomes_of (parts_in zone w d.list.items))) → is_told main.seen.opening ≡ true → Learnt main after pass'.seen
+module _ {A : Type 0} (passes front : List A) (pass : A) (known : A → Known) (s : OpenedWith) (last : passes ≡ front ++ pass ∷ []) (new : AreNew s.opening (map known passes)) where
+  pub zone_more : (zone : ℕ) (origin : Name) (size : TableSize) → IsIndex s origin size → (ws : List (List Command)) (ds : List CommandEnds) (views : List Known) (main after pass' : Known) (w : List Command) (d : CommandEnds) → ZoneGathers s zone (map known front) ws ds views main
+      → ((n : ℕ) → IsOpenedWith s origin size (known pass) → IsNew n s.opening (known pass) → WorkerRan s (only n) (ended pass' (known pass)) (commands_of (parts_in zone w d.list.items)) (outcomes_of (parts_in zone w d.list.items))) → is_told main.seen.opening ≡ true → Learnt main after pass'.seen
       → ZoneGathers s zone (map known passes) (w ∷ ws) (d ∷ ds) (pass' ∷ views) after
   unfolding zone_list outcomes_from
   zone_more zone origin size index ws ds views main after pass' w d g runs told l = record {
@@ -106,14 +106,14 @@ module _ {A : Type 0} (passes front : List A) (pass : A) (known : A → Known) (
   }
 
 -- by what was told of them
-pub zone_done : (s : Setup) (zone : ℕ) (before : List Known) (ws : List (List Command)) (ds ds' : List DoneList) (views views' : List Known) (after : Known) → ds' ≡ ds → views' ≡ views → ZoneGathers s zone before ws ds views after
+pub zone_done : (s : OpenedWith) (zone : ℕ) (before : List Known) (ws : List (List Command)) (ds ds' : List CommandEnds) (views views' : List Known) (after : Known) → ds' ≡ ds → views' ≡ views → ZoneGathers s zone before ws ds views after
     → ZoneGathers s zone before ws ds' views' after
 zone_done s zone before ws ds ds' views views' after is_done is_views gathers =
-    subst (λ (l : List DoneList). ZoneGathers s zone before ws l views' after) (sym is_done) (subst (λ (l : List Known). ZoneGathers s zone before ws ds l after) (sym is_views) gathers)
+    subst (λ (l : List CommandEnds). ZoneGathers s zone before ws l views' after) (sym is_done) (subst (λ (l : List Known). ZoneGathers s zone before ws ds l after) (sym is_views) gathers)
 
 -- ---- the table's workers
 
-pub table_starts : {A : Type 0} (passes front : List A) (main : A) (known : A → Known) (b : TableSetup) (dones : List (List model_outcomes.Done)) → passes ≡ front ++ main ∷ [] → length passes ≡ 1 → dones ≡ [] → AreNew b.opening (map known passes)
+pub table_starts : {A : Type 0} (passes front : List A) (main : A) (known : A → Known) (b : TableOpenedWith) (dones : List (List model_outcomes.CommandEnd)) → passes ≡ front ++ main ∷ [] → length passes ≡ 1 → dones ≡ [] → AreNew b.opening (map known passes)
     → TableGathers b (map known passes) dones (map known front) (known main)
 table_starts passes [] main known b dones is long none new =
     let first = subst (λ (l : List _). AreNew b.opening (map known l)) is new in
@@ -133,13 +133,13 @@ table_starts passes [] main known b dones is long none new =
 table_starts passes (p ∷ front) main known b dones is long none new = absurd (omega (arith, long, ap length is, length-append front (main ∷ [])))
 
 -- another worker, whose pass was the last one
-table_one : (b : TableSetup) (before : List Known) (pass : Known) (dones : List (List model_outcomes.Done)) (views : List Known) (main after pass' : Known) (number : ℕ) (d : List model_outcomes.Done)
+table_one : (b : TableOpenedWith) (before : List Known) (pass : Known) (dones : List (List model_outcomes.CommandEnd)) (views : List Known) (main after pass' : Known) (number : ℕ) (d : List model_outcomes.CommandEnd)
     → TableGathers b before dones views main → TableWork b number pass' d → number_of pass.pass ≡ number_of pass'.pass → is_told main.seen.opening ≡ true → Learnt main after pass'.seen
     → TableGathers b (before ++ pass ∷ []) (d ∷ dones) (pass' ∷ views) after
 table_one b before pass dones views main after pass' number d g work same told l =
     record {
       done = record { number = number; view = pass'; done = d; work = work } ∷ g.done;
-      dones_are = ap (λ (ls : List (List model_outcomes.Done)). d ∷ ls) g.dones_are;
+      dones_are = ap (λ (ls : List (List model_outcomes.CommandEnd)). d ∷ ls) g.dones_are;
       views_are = ap (λ (vs : List Known). pass' ∷ vs) g.views_are;
       as_many = (let many = g.as_many in omega (arith, many, length-append before (pass ∷ [])));
       all_back = λ m c.
@@ -175,7 +175,7 @@ module _ {A : Type 0} (passes front : List A) (pass : A) (known : A → Known) (
   pub front_new : AreNew opening (map known front)
   front_new = parts_with.0
 
-  pub table_more : (b : TableSetup) → b.opening ≡ opening → (dones : List (List model_outcomes.Done)) (views : List Known) (main after pass' : Known) (d : List model_outcomes.Done) → TableGathers b (map known front) dones views main
+  pub table_more : (b : TableOpenedWith) → b.opening ≡ opening → (dones : List (List model_outcomes.CommandEnd)) (views : List Known) (main after pass' : Known) (d : List model_outcomes.CommandEnd) → TableGathers b (map known front) dones views main
       → ((n : ℕ) → IsNew n b.opening (known pass) → TableWork b n pass' d) → is_told main.seen.opening ≡ true → Learnt main after pass'.seen → TableGathers b (map known passes) (d ∷ dones) (pass' ∷ views) after
   table_more b opens dones views main after pass' d g runs told l =
       let number = parts_with.1.0.0 in
@@ -185,9 +185,9 @@ module _ {A : Type 0} (passes front : List A) (pass : A) (known : A → Known) (
       (table_one b (map known front) (known pass) dones views main after pass' number d g work
       (ap number_of one.is_own ∙ ap (λ (n : ℕ). n + 1) (one.numbered ∙ sym work.numbered) ∙ sym (ap number_of work.is_asker)) told l)
 
-pub table_done : (b : TableSetup) (before : List Known) (ds ds' : List (List model_outcomes.Done)) (views views' : List Known) (after : Known) → ds' ≡ ds → views' ≡ views → TableGathers b before ds views after → TableGathers b before ds' views' after
+pub table_done : (b : TableOpenedWith) (before : List Known) (ds ds' : List (List model_outcomes.CommandEnd)) (views views' : List Known) (after : Known) → ds' ≡ ds → views' ≡ views → TableGathers b before ds views after → TableGathers b before ds' views' after
 table_done b before ds ds' views views' after is_done is_views gathers =
-    subst (λ (l : List (List model_outcomes.Done)). TableGathers b before l views' after) (sym is_done) (subst (λ (l : List Known). TableGathers b before ds l after) (sym is_views) gathers)
+    subst (λ (l : List (List model_outcomes.CommandEnd)). TableGathers b before l views' after) (sym is_done) (subst (λ (l : List Known). TableGathers b before ds l after) (sym is_views) gathers)
 
 -- what follows from what is so of a result
 pub map_ok : {A E : Type 0} {P Q : A → Type 0} (r : Result A E) → ((x : A) → P x → Q x) → IfOk r P → IfOk r Q

@@ -18,9 +18,9 @@ use Rattle.qp_multi.specs.declared.meaning.Named.{Ghosts}
 use Rattle.qp_multi.specs.declared.meaning.Operation.{Operation}
 use Rattle.qp_multi.specs.declared.pass.Pass.{Pass}
 use Rattle.qp_multi.specs.Passes.{Known, known_at, first_version}
-use Rattle.job_commands.specs.Histories.{Setup}
+use Rattle.job_commands.specs.Histories.{OpenedWith}
 use Rattle.job_commands.specs.Commands.{Asked, BlockRan}
-use Rattle.job_commands.specs.Steps.{Station, IsUnder, Step}
+use Rattle.job_commands.specs.Steps.{WorkerPasses, IsUnder, Step}
 use Rattle.job_commands.specs.Works.{ended}
 use Rattle.job_commands.proofs.ShowLaws.{seat_pass}
 use Rattle.job_commands.proofs.StepLaws.{ask_step, block_step}
@@ -29,7 +29,7 @@ use Rattle.zone_table.specs.declared.zones.Zones.{Zones}
 use Rattle.zone_table.specs.Passes.{IsPassOf, zone_known}
 use Rattle.zone_table.proofs.PassLaws.{zone_seat}
 use Rattle.zones_model.specs.Commands.{Command}
-use Rattle.zones_report.specs.declared.outcomes.Done.{Done}
+use Rattle.zones_report.specs.declared.outcomes.CommandEnd.{CommandEnd}
 use Rattle.zones_threads.specs.Steps.{Steps, ZonesGo}
 use Rattle.zones_threads.specs.Views.{Part, part_in}
 
@@ -40,8 +40,8 @@ module _ {X : Type 0} {N : Ghosts X} where
   zones_same old new same zone = ap (λ (zones : Vec (Pass X N) Global). unwrap_or (slice_get (map (λ z. known_at z.seat) zones.items) zone) (known_at None)) same
 
   -- a command of the table alone
-  pub no_steps : {Y : Type 0} (zones : Zones Y X N) (c : Command) (d : Done) (old new : ZonesPass X N) → ((n : ℕ) → part_in n c d ≡ []) → new.zones ≡ old.zones → ZonesGo zones c d old new
-  no_steps zones c d old new none same = λ site is s setup first told under.
+  pub no_steps : {Y : Type 0} (zones : Zones Y X N) (c : Command) (d : CommandEnd) (old new : ZonesPass X N) → ((n : ℕ) → part_in n c d ≡ []) → new.zones ≡ old.zones → ZonesGo zones c d old new
+  no_steps zones c d old new none same = λ site is s opened_with first told under.
       subst (λ ps. Steps s ps (ended (zone_known old site.number) first) (ended (zone_known new site.number) first)) (sym (none site.number)) (ap (λ (v : Known). ended v first) (zones_same old new same site.number))
 
 module _ {X : Type 0} {N : Ghosts X} (origins : List Name) (p : ZonesPass X N) (is : IsPassOf origins p) where
@@ -50,7 +50,7 @@ module _ {X : Type 0} {N : Ghosts X} (origins : List Name) (p : ZonesPass X N) (
 
 -- ---- steps
 
-module _ (s : Setup) (o : Outcome) (old new first : Known) (opened : first_version old.seen ≡ s.opening) (told : is_told old.seen.opening ≡ true) (told_first : is_told first.seen.opening ≡ true) (under : IsUnder old first) where
+module _ (s : OpenedWith) (o : Outcome) (old new first : Known) (opened : first_version old.seen ≡ s.opening) (told : is_told old.seen.opening ≡ true) (told_first : is_told first.seen.opening ≡ true) (under : IsUnder old first) where
   pub ask_goes : (question : Question) → Asked s.origin question old new o → Step s (Ask question) o (ended old first) (ended new first)
   ask_goes question a = ask_step s o (ended old first) (ended new first) opened told told_first under refl refl a.grows question a
 
@@ -58,7 +58,7 @@ module _ (s : Setup) (o : Outcome) (old new first : Known) (opened : first_versi
   block_goes weight asked ending own is ends b = block_step s o (ended old first) (ended new first) opened told told_first under refl refl b.grows weight asked ending own is ends b
 
 -- a command of one zone is a step of that and of no other
-pub chosen_steps : (s : Setup) (zone n : ℕ) (p : Part) (old new : Station) → (zone ≡ n → Step s p.command p.outcome old new) → (n ≢ zone → new ≡ old) → Steps s (cond (eqb zone n) (p ∷ []) []) old new
+pub chosen_steps : (s : OpenedWith) (zone n : ℕ) (p : Part) (old new : WorkerPasses) → (zone ≡ n → Step s p.command p.outcome old new) → (n ≢ zone → new ≡ old) → Steps s (cond (eqb zone n) (p ∷ []) []) old new
 chosen_steps s zone n p old new here elsewhere = elim (cases_eq zone n) [
   | inl e ↦ let test : eqb zone n ≡ true = grind (arith, nat_tests) in subst (λ (b : Bool). Steps s (cond b (p ∷ []) []) old new) (sym test) (here e)
   | inr m ↦ let test : eqb zone n ≡ false = grind (arith, nat_tests) in subst (λ (b : Bool). Steps s (cond b (p ∷ []) []) old new) (sym test) (elsewhere (λ e. m (sym e)))

@@ -25,7 +25,7 @@ use Rattle.zone_table.proofs.KnownLaws.{part_of}
 use Rattle.zone_table.proofs.Lists.{contains_at, each_in}
 use Rattle.zones_threads.specs.Closings.{TableWorker, dones_in, worker_views}
 use Rattle.zones_threads.specs.Steps.{IsOrNot, operation_for}
-use Rattle.zones_threads.specs.Works.{AreApart, AreAttached, IsReplayed, Leads, LeadsBy, TableSetup}
+use Rattle.zones_threads.specs.Works.{AreApart, AreAttached, IsReplayed, Leads, LeadsBy, TableOpenedWith}
 use Rattle.zones_threads.proofs.ChangeLaws.{other_same, itself_changed}
 use Rattle.zones_threads.proofs.CountLaws.{attached_many}
 use Rattle.zones_threads.proofs.TableLaws.{Own, attached_front, replayed_more, times-append}
@@ -41,7 +41,7 @@ pub record TableClosed (views : List Known) (history : List Commit) : Type 0 whe
   pub authors : (e : Commit) → Contains history e → Some' (IsPass e.author) views
   pub apart : NumbersApart (numbers_in views)
 
-module _ (b : TableSetup) (last : AllSeen) (main : Known) where
+module _ (b : TableOpenedWith) (last : AllSeen) (main : Known) where
   all_entries : (ws : List (TableWorker b)) (own : Own) → main.pass ≡ Some own → own.entries ≡ [] → AllByRecursion (Includes last) (worker_views ws ++ main ∷ []) → AllByRecursion (HasEntries last.history) (worker_views ws ++ main ∷ [])
   all_entries [] own is none i = (none_entries last main own is none i.0, tt)
   all_entries (w ∷ ws) own is none i =
@@ -63,7 +63,7 @@ module _ (b : TableSetup) (last : AllSeen) (main : Known) where
 
 -- ---- each version was made once
 
-module _ (b : TableSetup) (history : List Commit) (main : Known) where
+module _ (b : TableOpenedWith) (history : List Commit) (main : Known) where
   abbrev Views : List (TableWorker b) → List Known
   Views ws = worker_views ws ++ main ∷ []
 
@@ -74,7 +74,7 @@ module _ (b : TableSetup) (history : List Commit) (main : Known) where
   total t [] = 0
   total t (w ∷ ws) = times_by w.number t history + total t ws
 
-  abbrev Made : List (TableWorker b) → List model.Done
+  abbrev Made : List (TableWorker b) → List model.CommandEnd
   Made ws = model.all_done (dones_in ws)
 
   whole_times : (w : TableWorker b) (t : ℕ) → HasEntries history w.view → Sees w.view → model.times_made t w.done ≡ times_by w.number t history
@@ -189,7 +189,7 @@ module _ (b : TableSetup) (history : List Commit) (main : Known) where
     is : found ≡ Some change
     leads : LeadsBy b change (index_at b.opening history (t - 1)) (index_at b.opening history t)
 
-  found_at : (t : ℕ) (all : List model.Done) → model.times_made t all ≡ 1 → AllByRecursion (λ d. IsReplayed b history (model.made_by d)) all → Found t (model.change_at t all)
+  found_at : (t : ℕ) (all : List model.CommandEnd) → model.times_made t all ≡ 1 → AllByRecursion (λ d. IsReplayed b history (model.made_by d)) all → Found t (model.change_at t all)
   found_at t [] one r = absurd (let z : 0 ≡ 1 = one in cc)
   found_at t (d ∷ all) one r = by_made (model.made_by d) refl (model.made t (model.made_by d)) refl one (λ fewer. found_at t all fewer r.1)
     where
@@ -231,7 +231,7 @@ module _ (b : TableSetup) (history : List Commit) (main : Known) where
     after_change (Attaches changed) zone origin was before after there l h = led true changed zone origin was before after there l h
     after_change (Detaches changed) zone origin was before after there l h = led false changed zone origin was before after there l h
 
-    pub attached_are : (all : List model.Done) → IsTable b.origins b.opening → AllByRecursion (λ d. IsReplayed b history (model.made_by d)) all → ((t : ℕ) → 0 < t → t ≤ length history → model.times_made t all ≡ 1) → AreAttached b history (model.attached_at all)
+    pub attached_are : (all : List model.CommandEnd) → IsTable b.origins b.opening → AllByRecursion (λ d. IsReplayed b history (model.made_by d)) all → ((t : ℕ) → 0 < t → t ≤ length history → model.times_made t all ≡ 1) → AreAttached b history (model.attached_at all)
     attached_are all table r once' zero le zone origin there = (entry_for origin, table.all origin (contains_at b.origins zone origin there), refl)
     attached_are all table r once' (suc t) le zone origin there =
         let before = attached_are all table r once' t (omega arith) zone origin there in

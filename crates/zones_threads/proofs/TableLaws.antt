@@ -21,7 +21,7 @@ use Rattle.zones_model.specs.declared.TableCause.{TableCause}
 use Rattle.zones_model.specs.declared.TableCause.TheVariants.{Exists, Missing, Spent}
 use Rattle.zone_table.specs.Locations.{IsZoneOf}
 use Rattle.zones_threads.specs.Steps.{IsOrNot, Changes, Stays, ChangeEnds, TableGoes, cause_for, operation_for, other}
-use Rattle.zones_threads.specs.Works.{AreApart, AreAttached, IsReplayed, Leads, LeadsBy, TableSetup, TableWork, seen_behind}
+use Rattle.zones_threads.specs.Works.{AreApart, AreAttached, IsReplayed, Leads, LeadsBy, TableOpenedWith, TableWork, seen_behind}
 use Rattle.zones_threads.proofs.ZoneForLaws.{zone_is}
 
 abbrev pub Own : Type 0
@@ -29,36 +29,36 @@ Own = PassView (List Operation)
 
 -- ---- lists that grow
 
-seen_behind-push : (seen : ℕ) (done : List model.Done) (d : model.Done) → seen_behind seen (done ++ d ∷ []) ≡ model.seen_after (seen_behind seen done) (model.table_told d)
+seen_behind-push : (seen : ℕ) (done : List model.CommandEnd) (d : model.CommandEnd) → seen_behind seen (done ++ d ∷ []) ≡ model.seen_after (seen_behind seen done) (model.table_told d)
 seen_behind-push seen [] d = refl
 seen_behind-push seen (x ∷ done) d = seen_behind-push (model.seen_after seen (model.table_told x)) done d
 
-along-push : (origins : List Name) (attached : ℕ → ℕ → Bool) (seen : ℕ) (done : List model.Done) (d : model.Done) → model.Along origins attached seen done → model.EndsAtTable origins attached (seen_behind seen done) d → model.Along origins attached seen (done ++ d ∷ [])
+along-push : (origins : List Name) (attached : ℕ → ℕ → Bool) (seen : ℕ) (done : List model.CommandEnd) (d : model.CommandEnd) → model.Along origins attached seen done → model.EndsAtTable origins attached (seen_behind seen done) d → model.Along origins attached seen (done ++ d ∷ [])
 along-push origins attached seen [] d l e = (e, tt)
 along-push origins attached seen (x ∷ done) d l e = (l.0, along-push origins attached (model.seen_after seen (model.table_told x)) done d l.1 e)
 
-pub times-append : (t : ℕ) (xs ys : List model.Done) → model.times_made t (xs ++ ys) ≡ model.times_made t xs + model.times_made t ys
+pub times-append : (t : ℕ) (xs ys : List model.CommandEnd) → model.times_made t (xs ++ ys) ≡ model.times_made t xs + model.times_made t ys
 times-append t [] ys = let e : model.times_made t ys ≡ 0 + model.times_made t ys = omega arith in e
 times-append t (x ∷ xs) ys =
     ap (λ (n : ℕ). cond (model.made t (model.made_by x)) 1 0 + n) (times-append t xs ys)
     ∙ (let e : cond (model.made t (model.made_by x)) 1 0 + (model.times_made t xs + model.times_made t ys) ≡ (cond (model.made t (model.made_by x)) 1 0 + model.times_made t xs) + model.times_made t ys = omega arith in e)
 
-times-push : (t : ℕ) (xs : List model.Done) (d : model.Done) (b : Bool) → model.made t (model.made_by d) ≡ b → model.times_made t (xs ++ d ∷ []) ≡ model.times_made t xs + cond b 1 0
+times-push : (t : ℕ) (xs : List model.CommandEnd) (d : model.CommandEnd) (b : Bool) → model.made t (model.made_by d) ≡ b → model.times_made t (xs ++ d ∷ []) ≡ model.times_made t xs + cond b 1 0
 times-push t xs d b e =
     times-append t xs (d ∷ []) ∙ ap (λ (x : Bool). model.times_made t xs + (cond x 1 0 + 0)) e
     ∙ (let z : model.times_made t xs + (cond b 1 0 + 0) ≡ model.times_made t xs + cond b 1 0 = omega arith in z)
 
 -- ---- histories that grow
 
-pub attached_front : (b : TableSetup) (all part : List Commit) (attached : ℕ → ℕ → Bool) → StartsWith all part → AreAttached b all attached → AreAttached b part attached
+pub attached_front : (b : TableOpenedWith) (all part : List Commit) (attached : ℕ → ℕ → Bool) → StartsWith all part → AreAttached b all attached → AreAttached b part attached
 attached_front b all part attached s are t le zone origin there =
     let long = begins_length all part s in
     subst (λ (es : Entries). IsOrNot (attached t zone) es origin) (index_front b.opening all part t s le) (are t (omega (arith, le, long)) zone origin there)
 
-leads_as : (b : TableSetup) (change : Change) (before before' after after' : Entries) → before ≡ before' → after ≡ after' → LeadsBy b change before after → LeadsBy b change before' after'
+leads_as : (b : TableOpenedWith) (change : Change) (before before' after after' : Entries) → before ≡ before' → after ≡ after' → LeadsBy b change before after → LeadsBy b change before' after'
 leads_as b change before before' after after' e f h = subst (LeadsBy b change before') f (subst (λ (es : Entries). LeadsBy b change es after) e h)
 
-pub replayed_more : (b : TableSetup) (all part : List Commit) → StartsWith all part → (m : Option (ℕ × Change)) → IsReplayed b part m → IsReplayed b all m
+pub replayed_more : (b : TableOpenedWith) (all part : List Commit) → StartsWith all part → (m : Option (ℕ × Change)) → IsReplayed b part m → IsReplayed b all m
 replayed_more b all part s None r = tt
 replayed_more b all part s (Some m) r =
     let long = begins_length all part s in
@@ -71,12 +71,12 @@ replayed_more b all part s (Some m) r =
 
 -- ---- at first
 
-pub table_start : (b : TableSetup) (number : ℕ) (v : Known) → IsNew number b.opening v → TableWork b number v []
+pub table_start : (b : TableOpenedWith) (number : ℕ) (v : Known) → IsNew number b.opening v → TableWork b number v []
 table_start b number v new = record {
   opened = new.opened;
   along = λ apart attached are. tt;
   none_above = tt;
-  sight = omega arith;
+  progress = omega arith;
   replayed = tt;
   asker = new.own;
   is_asker = new.is_own;
@@ -93,7 +93,7 @@ told_more : (n m : ℕ) → n ≤ m → (o : Option ℕ) → model.IsTold n o �
 told_more n m le None h = tt
 told_more n m le (Some t) h = omega (arith, le, h)
 
-module _ (b : TableSetup) (number : ℕ) (v w : Known) (done : List model.Done) (d : model.Done) (told : is_told v.seen.opening ≡ true) (work : TableWork b number v done) (grows : IsPartOf w.seen v.seen) where
+module _ (b : TableOpenedWith) (number : ℕ) (v w : Known) (done : List model.CommandEnd) (d : model.CommandEnd) (told : is_told v.seen.opening ≡ true) (work : TableWork b number v done) (grows : IsPartOf w.seen v.seen) where
   longer : length v.seen.history ≤ length w.seen.history
   longer = begins_length w.seen.history v.seen.history grows.history
 
@@ -108,9 +108,9 @@ module _ (b : TableSetup) (number : ℕ) (v w : Known) (done : List model.Done) 
   replayed_all r = all-push (λ x. IsReplayed b w.seen.history (model.made_by x)) done d
       (all_weaker (λ x. IsReplayed b v.seen.history (model.made_by x)) (λ x. IsReplayed b w.seen.history (model.made_by x)) done (λ x h. replayed_more b w.seen.history v.seen.history grows.history (model.made_by x) h) work.replayed) r
 
-  sight_next : (o : Option ℕ) → model.IsTold (length w.seen.history) o → model.seen_after (seen_behind 0 done) o ≤ length w.seen.history
-  sight_next None h = (let s = work.sight in let l = longer in omega (arith, s, l))
-  sight_next (Some t) h = h
+  progress_next : (o : Option ℕ) → model.IsTold (length w.seen.history) o → model.seen_after (seen_behind 0 done) o ≤ length w.seen.history
+  progress_next None h = (let s = work.progress in let l = longer in omega (arith, s, l))
+  progress_next (Some t) h = h
 
   -- what it ends as is so on each history that begins with what is seen now
   abbrev Ends : Type 0
@@ -126,7 +126,7 @@ module _ (b : TableSetup) (number : ℕ) (v w : Known) (done : List model.Done) 
     opened = opened_now;
     along = along_more ends;
     none_above = none_above_more at;
-    sight = subst (λ (n : ℕ). n ≤ length w.seen.history) (sym (seen_behind-push 0 done d)) (sight_next (model.table_told d) at);
+    progress = subst (λ (n : ℕ). n ≤ length w.seen.history) (sym (seen_behind-push 0 done d)) (progress_next (model.table_told d) at);
     replayed = replayed_all (subst (IsReplayed b w.seen.history) (sym none) tt);
     asker = now;
     is_asker = is_now;
@@ -185,7 +185,7 @@ module _ (b : TableSetup) (number : ℕ) (v w : Known) (done : List model.Done) 
           opened = opened_now;
           along = along_more ends;
           none_above = none_above_more at;
-          sight = subst (λ (n : ℕ). n ≤ length w.seen.history) (sym (seen_behind-push 0 done d)) (sight_next (model.table_told d) at);
+          progress = subst (λ (n : ℕ). n ≤ length w.seen.history) (sym (seen_behind-push 0 done d)) (progress_next (model.table_told d) at);
           replayed = replayed_all (subst (IsReplayed b w.seen.history) (sym made) (
             (let z : 0 < table = omega (arith, numbered) in z),
             (let z : table ≤ length w.seen.history = omega (arith, numbered, long) in z),
@@ -217,7 +217,7 @@ pub version_push : (opening : Entries) (base : List Commit) (e : Commit) → ver
 version_push opening [] e = refl
 version_push opening (x ∷ base) e = version_push (applied opening x.change) base e
 
-module _ (b : TableSetup) (number : ℕ) (v w : Known) (done : List model.Done) (told : is_told v.seen.opening ≡ true) (work : TableWork b number v done) (grows : IsPartOf w.seen v.seen) where
+module _ (b : TableOpenedWith) (number : ℕ) (v w : Known) (done : List model.CommandEnd) (told : is_told v.seen.opening ≡ true) (work : TableWork b number v done) (grows : IsPartOf w.seen v.seen) where
   abbrev opened' : first_version w.seen ≡ b.opening
   opened' = opened_same w.seen v.seen told grows ∙ work.opened
 
@@ -236,15 +236,15 @@ module _ (b : TableSetup) (number : ℕ) (v w : Known) (done : List model.Done) 
       → model.ChangeEnds (λ t. attached t zone) (other attaches) (cause_for attaches) (seen_behind 0 done) table (Some cause)
   refused_ends attaches zone table Exists origin there e attached are =
       let last = e.0.version in
-      let seen : seen_behind 0 done ≤ table = (let s = work.sight in let l = longer' in omega (arith, s, l, last)) in
+      let seen : seen_behind 0 done ≤ table = (let s = work.progress in let l = longer' in omega (arith, s, l, last)) in
       (seen, e.1, decided (attached table zone) attaches (version_seen w.seen) origin (attached_last attached are table last zone origin there) e.2 ∙ sym (turned attaches))
   refused_ends attaches zone table Missing origin there e attached are =
       let last = e.0.version in
-      let seen : seen_behind 0 done ≤ table = (let s = work.sight in let l = longer' in omega (arith, s, l, last)) in
+      let seen : seen_behind 0 done ≤ table = (let s = work.progress in let l = longer' in omega (arith, s, l, last)) in
       (seen, e.1, decided (attached table zone) attaches (version_seen w.seen) origin (attached_last attached are table last zone origin there) e.2 ∙ sym (turned attaches))
   refused_ends attaches zone table Spent origin there e attached are =
       let last = e.0.version in
-      let seen : seen_behind 0 done ≤ table = (let s = work.sight in let l = longer' in omega (arith, s, l, last)) in
+      let seen : seen_behind 0 done ≤ table = (let s = work.progress in let l = longer' in omega (arith, s, l, last)) in
       (seen, e.1, decided (attached table zone) (other attaches) (version_seen w.seen) origin (attached_last attached are table last zone origin there) e.2)
 
   refused_stays : (attaches : Bool) (zone table : ℕ) (cause : TableCause) (origin : Name) → ChangeEnds attaches origin table (Some cause) v w → Stays table v w
@@ -258,7 +258,7 @@ module _ (b : TableSetup) (number : ℕ) (v w : Known) (done : List model.Done) 
   made_ends attaches zone table origin there c attached are =
       let base_long = begins_length c.base v.seen.history c.before in
       let long : length w.seen.history ≡ length c.base + 1 = ap length c.history ∙ length-append c.base (entry_of work.asker.number (operation_for attaches origin ∷ []) ∷ []) in
-      let seen : seen_behind 0 done < table = (let s = work.sight in let n = c.numbered in omega (arith, s, base_long, n)) in
+      let seen : seen_behind 0 done < table = (let s = work.progress in let n = c.numbered in omega (arith, s, base_long, n)) in
       let last : table - 1 ≡ length c.base = (let n = c.numbered in omega (arith, n)) in
       let at : index_at b.opening w.seen.history (table - 1) ≡ version_after applied (first_version w.seen) c.base =
       index_front b.opening w.seen.history c.base (table - 1) (entry_of work.asker.number (operation_for attaches origin ∷ []) ∷ [], c.history) (omega (arith, last)) ∙ index_last b.opening c.base (table - 1) last ∙ ap (λ (o : Entries). version_after applied o c.base) (sym opened') in (
@@ -278,11 +278,11 @@ module _ (b : TableSetup) (number : ℕ) (v w : Known) (done : List model.Done) 
   got_ends : (name : Name) (rtype table : ℕ) (shown : Option model.Shown) → table ≡ length w.seen.history → IsZoneOf b.origins (version_seen w.seen) name (option_map (λ s. s.zone) shown) → AreApart b.origins → (attached : ℕ → ℕ → Bool) → AreAttached b w.seen.history attached
       → model.EndsAtTable b.origins attached (seen_behind 0 done) (model.Got name rtype table shown)
   got_ends name rtype table shown last located apart attached are = (
-    (let s = work.sight in let l = longer' in omega (arith, s, l, last)),
+    (let s = work.progress in let l = longer' in omega (arith, s, l, last)),
     zone_is b.origins apart (attached table) (version_seen w.seen) (λ zone origin there. attached_last attached are table last zone origin there) name (option_map (λ s. s.zone) shown) located,
   )
 
-pub table_next : (b : TableSetup) (number : ℕ) (v w : Known) (done : List model.Done) (d : model.Done) → is_told v.seen.opening ≡ true → TableWork b number v done → TableGoes b.origins d v w → TableWork b number w (done ++ d ∷ [])
+pub table_next : (b : TableOpenedWith) (number : ℕ) (v w : Known) (done : List model.CommandEnd) (d : model.CommandEnd) → is_told v.seen.opening ≡ true → TableWork b number v done → TableGoes b.origins d v w → TableWork b number w (done ++ d ∷ [])
 table_next b number v w done (model.Got name rtype table shown) told work go =
     let p = go.0 in
     table_stays b number v w done (model.Got name rtype table shown) told work p.grows refl (let e = p.version in omega (arith, e))

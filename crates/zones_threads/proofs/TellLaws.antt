@@ -18,13 +18,13 @@ use Rattle.zones_model.specs.Outcomes as model_outcomes
 use Rattle.zones_model.specs.Reports.{no_zone}
 use Rattle.zones_model.specs.Tables.{zone_for}
 use Rattle.zones_report.specs.declared.outcomes.Answer.{Answer}
-use Rattle.zones_report.specs.declared.outcomes.Done.{Done}
-use Rattle.zones_report.specs.declared.outcomes.Done.TheVariants as done
-use Rattle.zones_report.specs.declared.outcomes.DoneList.{DoneList}
+use Rattle.zones_report.specs.declared.outcomes.CommandEnd.{CommandEnd}
+use Rattle.zones_report.specs.declared.outcomes.CommandEnd.TheVariants as done
+use Rattle.zones_report.specs.declared.outcomes.CommandEnds.{CommandEnds}
 use Rattle.zone_table.proofs.Lists.{get_in}
 use Rattle.zones_threads.specs.Closings.{all_parts}
 use Rattle.zones_threads.specs.Sites.{IsSaid}
-use Rattle.zones_threads.specs.Tellings.{AnswerTells, DoneTells, PartsTell, WorkerTells, WorkersTell}
+use Rattle.zones_threads.specs.Tellings.{AnswerTells, CommandEndTells, PartsTell, WorkerTells, WorkersTell}
 use Rattle.zones_report.specs.Outcomes.{AllAreOf, AreOf, IsOf, all_dones_view, done_view, dones_view, shown_view}
 use Rattle.zones_threads.specs.Views.{Part, commands_of, outcomes_of, part_in, parts_in}
 use Rattle.zones_threads.proofs.ZoneForLaws.{for_some}
@@ -58,7 +58,7 @@ module _ (zones : List Zone) (set : ℕ → ℕ → Version) (attached : ℕ →
   Origins = origins_of zones
 
   -- of each zone, a worker's parts tell what is so
-  abbrev ZonesTell : List Command → List Done → Type 0
+  abbrev ZonesTell : List Command → List CommandEnd → Type 0
   ZonesTell cs ds = (number : ℕ) (zone : Zone) → slice_get zones number ≡ Some zone → PartsTell zone.origin (set number) (parts_in number cs ds)
 
   zone_of : (number : ℕ) → number < length Origins → (zone : Zone) × (slice_get zones number ≡ Some zone)
@@ -84,7 +84,7 @@ module _ (zones : List Zone) (set : ℕ → ℕ → Version) (attached : ℕ →
       let z = zone_of changed lt in
       (z.0, chosen changed z.0.origin (set changed) (record { command = c; outcome = o }) (tells changed z.0 z.1))
 
-  done_tells : (seen : ℕ) (c : Command) (d : Done) → IsOf c d → IsSaid Origins c → model_outcomes.EndsAtTable Origins attached seen (done_view c d) → ((number : ℕ) (zone : Zone) → slice_get zones number ≡ Some zone → PartsTell zone.origin (set number) (part_in number c d)) → DoneTells zones set c d
+  done_tells : (seen : ℕ) (c : Command) (d : CommandEnd) → IsOf c d → IsSaid Origins c → model_outcomes.EndsAtTable Origins attached seen (done_view c d) → ((number : ℕ) (zone : Zone) → slice_get zones number ≡ Some zone → PartsTell zone.origin (set number) (part_in number c d)) → CommandEndTells zones set c d
   done_tells seen (model.Get name rtype) (done.Got table answer) is said ends tells = got_tells name rtype table answer ends.1 tells
   done_tells seen (model.Block zone w asked ending) (done.Ran ran o) is said ends tells = let b = block_tells zone (jobs.Block w asked ending) o said.0 tells in b.1.0
   done_tells seen (model.Get name rtype) (done.Ran ran o) is said ends tells = tt
@@ -96,7 +96,7 @@ module _ (zones : List Zone) (set : ℕ → ℕ → Version) (attached : ℕ →
   done_tells seen (model.Attach zone) d is said ends tells = tt
   done_tells seen (model.Detach zone) d is said ends tells = tt
 
-  worker_tells : (seen : ℕ) (cs : List Command) (ds : List Done) → AreOf cs ds → AllByRecursion (IsSaid Origins) cs → model_outcomes.Along Origins attached seen (dones_view cs ds) → ZonesTell cs ds → WorkerTells zones set cs ds
+  worker_tells : (seen : ℕ) (cs : List Command) (ds : List CommandEnd) → AreOf cs ds → AllByRecursion (IsSaid Origins) cs → model_outcomes.Along Origins attached seen (dones_view cs ds) → ZonesTell cs ds → WorkerTells zones set cs ds
   worker_tells seen [] ds are said along tells = tt
   worker_tells seen (c ∷ cs) [] are said along tells = tt
   worker_tells seen (c ∷ cs) (d ∷ ds) are said along tells = (
@@ -104,7 +104,7 @@ module _ (zones : List Zone) (set : ℕ → ℕ → Version) (attached : ℕ →
     worker_tells (model_outcomes.seen_after seen (model_outcomes.table_told (done_view c d))) cs ds are.1 said.1 along.1 (λ number zone there. tells_rest zone.origin (set number) (part_in number c d) (parts_in number cs ds) (tells number zone there)),
   )
 
-  pub workers_tell : (ws : List (List Command)) (ds : List DoneList) → AllAreOf ws ds → AllByRecursion (AllByRecursion (IsSaid Origins)) ws → AllByRecursion (model_outcomes.Along Origins attached 0) (all_dones_view ws ds)
+  pub workers_tell : (ws : List (List Command)) (ds : List CommandEnds) → AllAreOf ws ds → AllByRecursion (AllByRecursion (IsSaid Origins)) ws → AllByRecursion (model_outcomes.Along Origins attached 0) (all_dones_view ws ds)
       → ((number : ℕ) (zone : Zone) → slice_get zones number ≡ Some zone → AllByRecursion (PartsTell zone.origin (set number)) (all_parts number ws ds)) → WorkersTell zones set ws ds
   workers_tell [] ds are said along tells = tt
   workers_tell (w ∷ ws) [] are said along tells = tt

@@ -17,9 +17,9 @@ use Rattle.zones_model.specs.Commands as model
 use Rattle.zones_model.specs.Commands.{Command}
 use Rattle.zones_model.specs.Outcomes as model_outcomes
 use Rattle.zones_report.specs.declared.outcomes.Answer.{Answer}
-use Rattle.zones_report.specs.declared.outcomes.Done.{Done}
-use Rattle.zones_report.specs.declared.outcomes.Done.TheVariants as done
-use Rattle.zones_report.specs.declared.outcomes.DoneList.{DoneList}
+use Rattle.zones_report.specs.declared.outcomes.CommandEnd.{CommandEnd}
+use Rattle.zones_report.specs.declared.outcomes.CommandEnd.TheVariants as done
+use Rattle.zones_report.specs.declared.outcomes.CommandEnds.{CommandEnds}
 use Rattle.zones_threads.specs.Closings.{all_parts, zone_commands, zone_outcomes}
 use Rattle.zones_threads.specs.Tellings.{PartsTell}
 use Rattle.zones_threads.proofs.TellLaws.{parts_tell}
@@ -42,7 +42,7 @@ same_answer zone name rtype (Some a) shown =
     let version = a.outcome.version in
     same_if (eqb a.zone zone) (ask, record { version = version; ended = one.Shown }) (record { command = ask; outcome = a.outcome }) (ap (λ (e : Ended). (ask, record { version = version; ended = e })) (sym shown))
 
-same_part : (zone : ℕ) (c : Command) (d : Done) → IsOf c d → model_outcomes.pairs_in zone (done_view c d) ≡ map pair_of (part_in zone c d)
+same_part : (zone : ℕ) (c : Command) (d : CommandEnd) → IsOf c d → model_outcomes.pairs_in zone (done_view c d) ≡ map pair_of (part_in zone c d)
 same_part zone (model.Get name rtype) (done.Got table answer) is = same_answer zone name rtype answer is
 same_part zone (model.Block changed w asked ending) (done.Ran ran o) is = same_if (eqb changed zone) (jobs.Block w asked ending, outcome_view o) (record { command = jobs.Block w asked ending; outcome = o }) refl
 same_part zone (model.Attach changed) (done.Attached table refused) is = refl
@@ -60,7 +60,7 @@ same_part zone (model.Detach changed) (done.Got table answer) is = absurd is
 same_part zone (model.Detach changed) (done.Ran ran o) is = absurd is
 same_part zone (model.Detach changed) (done.Attached table refused) is = absurd is
 
-same_parts : (zone : ℕ) (cs : List Command) (ds : List Done) → AreOf cs ds → model_outcomes.pairs_of zone (dones_view cs ds) ≡ map pair_of (parts_in zone cs ds)
+same_parts : (zone : ℕ) (cs : List Command) (ds : List CommandEnd) → AreOf cs ds → model_outcomes.pairs_of zone (dones_view cs ds) ≡ map pair_of (parts_in zone cs ds)
 same_parts zone [] ds are = refl
 same_parts zone (c ∷ cs) [] are = absurd are
 same_parts zone (c ∷ cs) (d ∷ ds) are =
@@ -71,7 +71,7 @@ same_parts zone (c ∷ cs) (d ∷ ds) are =
 abbrev pub pairs_in_all : List (List Part) → List (List Pair)
 pairs_in_all parts = map (λ (ps : List Part). map pair_of ps) parts
 
-same_all : (zone : ℕ) (ws : List (List Command)) (ds : List DoneList) → AllAreOf ws ds → model_outcomes.workers_in zone (all_dones_view ws ds) ≡ pairs_in_all (all_parts zone ws ds)
+same_all : (zone : ℕ) (ws : List (List Command)) (ds : List CommandEnds) → AllAreOf ws ds → model_outcomes.workers_in zone (all_dones_view ws ds) ≡ pairs_in_all (all_parts zone ws ds)
 same_all zone [] ds are = refl
 same_all zone (w ∷ ws) [] are = absurd are
 same_all zone (w ∷ ws) (d ∷ ds) are =
@@ -95,21 +95,21 @@ jobs_alone (ps ∷ parts) (o ∷ os) e =
     ∙ ap (λ (l : List (List Pair)). map pair_of ps ∷ l) (jobs_alone parts os rest)
 
 -- the pairs of a zone
-pub zone_pairs : (zone : ℕ) (ws : List (List Command)) (ds : List DoneList) (os : List Outcomes) → AllAreOf ws ds → map (λ (o : Outcomes). o.list.items) os ≡ zone_outcomes zone ws ds → job_pairs (zone_commands zone ws ds) os ≡ model_outcomes.workers_in zone (all_dones_view ws ds)
+pub zone_pairs : (zone : ℕ) (ws : List (List Command)) (ds : List CommandEnds) (os : List Outcomes) → AllAreOf ws ds → map (λ (o : Outcomes). o.list.items) os ≡ zone_outcomes zone ws ds → job_pairs (zone_commands zone ws ds) os ≡ model_outcomes.workers_in zone (all_dones_view ws ds)
 zone_pairs zone ws ds os are is = jobs_alone (all_parts zone ws ds) os is ∙ sym (same_all zone ws ds are)
 
 -- what a run of that zone alone comes to
-pub zone_lawful : (chunks passes : ℕ) (origin : Name) (version : Version) (zone last names nodes : ℕ) (ws : List (List Command)) (ds : List DoneList) (os : List Outcomes) → AllAreOf ws ds → map (λ (o : Outcomes). o.list.items) os ≡ zone_outcomes zone ws ds
+pub zone_lawful : (chunks passes : ℕ) (origin : Name) (version : Version) (zone last names nodes : ℕ) (ws : List (List Command)) (ds : List CommandEnds) (os : List Outcomes) → AllAreOf ws ds → map (λ (o : Outcomes). o.list.items) os ≡ zone_outcomes zone ws ds
     → IsRun chunks passes origin version (zone_commands zone ws ds) os last names nodes → Lawful chunks passes origin version (model_outcomes.workers_in zone (all_dones_view ws ds)) last
 zone_lawful chunks passes origin version zone last names nodes ws ds os are is run = subst (λ (ps : List (List Pair)). Lawful chunks passes origin version ps last) (zone_pairs zone ws ds os are is) run.lawful
 
 -- and how many names its last version has
-pub zone_names : (chunks passes : ℕ) (origin : Name) (version : Version) (zone last names nodes : ℕ) (ws : List (List Command)) (ds : List DoneList) (os : List Outcomes) → AllAreOf ws ds → map (λ (o : Outcomes). o.list.items) os ≡ zone_outcomes zone ws ds
+pub zone_names : (chunks passes : ℕ) (origin : Name) (version : Version) (zone last names nodes : ℕ) (ws : List (List Command)) (ds : List CommandEnds) (os : List Outcomes) → AllAreOf ws ds → map (λ (o : Outcomes). o.list.items) os ≡ zone_outcomes zone ws ds
     → IsRun chunks passes origin version (zone_commands zone ws ds) os last names nodes → names ≡ length (one.version_at origin version (one.all_pairs (model_outcomes.workers_in zone (all_dones_view ws ds))) last)
 zone_names chunks passes origin version zone last names nodes ws ds os are is run = run.names_are ∙ ap (λ (ps : List (List Pair)). length (one.version_at origin version (one.all_pairs ps) last)) (zone_pairs zone ws ds os are is)
 
 -- and what is of the zone tells what is so
-pub zone_tells : (chunks passes : ℕ) (origin : Name) (version : Version) (zone last names nodes : ℕ) (ws : List (List Command)) (ds : List DoneList) (os : List Outcomes) → AllAreOf ws ds → map (λ (o : Outcomes). o.list.items) os ≡ zone_outcomes zone ws ds
+pub zone_tells : (chunks passes : ℕ) (origin : Name) (version : Version) (zone last names nodes : ℕ) (ws : List (List Command)) (ds : List CommandEnds) (os : List Outcomes) → AllAreOf ws ds → map (λ (o : Outcomes). o.list.items) os ≡ zone_outcomes zone ws ds
     → IsRun chunks passes origin version (zone_commands zone ws ds) os last names nodes → AllByRecursion (PartsTell origin (one.version_at origin version (one.all_pairs (model_outcomes.workers_in zone (all_dones_view ws ds))))) (all_parts zone ws ds)
 zone_tells chunks passes origin version zone last names nodes ws ds os are is run =
     subst (λ (ps : List (List Pair)). AllByRecursion (PartsTell origin (one.version_at origin version (one.all_pairs ps))) (all_parts zone ws ds)) (zone_pairs zone ws ds os are is)

@@ -11,7 +11,7 @@ use Rattle.zones_model.specs.Outcomes.{Last, ZonesLawful, all_done, attached_at}
 use Rattle.zones_model.specs.Tables.{attached_count}
 use Rattle.zones_model.specs.Reports.{set_of}
 use Rattle.zone_table.specs.Tables.{IsTable}
-use Rattle.zones_report.specs.declared.outcomes.DoneList.{DoneList}
+use Rattle.zones_report.specs.declared.outcomes.CommandEnds.{CommandEnds}
 use Rattle.zones_threads.specs.Sites.{Site}
 use Rattle.zones_threads.specs.Tellings.{WorkersTell}
 use Rattle.zones_report.specs.Outcomes.{AllAreOf, all_dones_view}
@@ -38,7 +38,7 @@ pub record ZoneBegins (chunks count : ℕ) (site : Site) (zone : Zone) (views : 
 -- ---- as it ends
 
 -- The outcomes are lawful, each is of its command's kind and tells what is so, the table's last version has so many zones, and each zone's so many names.
-pub record IsZonesRun (chunks : ℕ) (zones : List Zone) (workers : List (List Command)) (ds : List DoneList) (last : Last) (attached : ℕ) (names : List ℕ) : Type 0 where
+pub record IsZonesRun (chunks : ℕ) (zones : List Zone) (workers : List (List Command)) (ds : List CommandEnds) (last : Last) (attached : ℕ) (names : List ℕ) : Type 0 where
   pub kinds : AllAreOf workers ds
   pub lawful : ZonesLawful chunks zones (all_dones_view workers ds) last
   pub tell : WorkersTell zones (set_of zones (all_dones_view workers ds)) workers ds

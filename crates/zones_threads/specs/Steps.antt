@@ -13,9 +13,9 @@ use Rattle.qp_multi.specs.declared.meaning.Operation.TheVariants.{Insert, Delete
 use Rattle.qp_multi.specs.Operations.{applied}
 use Rattle.qp_multi.specs.Passes.{Known, Pinned, first_version, version_seen}
 use Rattle.job_model.specs.Outcomes.{last_version}
-use Rattle.job_commands.specs.Histories.{Setup, Commit}
-use Rattle.job_commands.specs.Commands.{IsSetup}
-use Rattle.job_commands.specs.Steps.{Station, IsUnder, Step}
+use Rattle.job_commands.specs.Histories.{OpenedWith, Commit}
+use Rattle.job_commands.specs.Commands.{IsOpenedWith}
+use Rattle.job_commands.specs.Steps.{WorkerPasses, IsUnder, Step}
 use Rattle.job_commands.specs.Works.{ended}
 use Rattle.zones_model.specs.Commands.{Command}
 use Rattle.zones_model.specs.Outcomes as model
@@ -27,22 +27,22 @@ use Rattle.zone_table.specs.Locations.{IsZoneOf}
 use Rattle.zone_table.specs.Passes.{IsPassOf, table_known, zone_known}
 use Rattle.zone_table.specs.Tables.{IsAmong, IsAttached, entry_for}
 use Rattle.zones_report.specs.Outcomes.{IsOf, done_view}
-use Rattle.zones_report.specs.declared.outcomes.Done.{Done}
+use Rattle.zones_report.specs.declared.outcomes.CommandEnd.{CommandEnd}
 use Rattle.zones_threads.specs.Sites.{Site, IsSite}
 use Rattle.zones_threads.specs.Views.{Part, part_in}
 
 -- ---- one zone
 
 -- a command was no command of the zone, whose pass knows what it knew; or it was one
-abbrev pub Steps : Setup → List Part → Station → Station → Type 0
+abbrev pub Steps : OpenedWith → List Part → WorkerPasses → WorkerPasses → Type 0
 Steps s [] old new = new ≡ old
 Steps s (p ∷ []) old new = Step s p.command p.outcome old new
 Steps s (p ∷ q ∷ parts) old new = ⊥
 
 -- So each zone went on by a command that came to this. As a second pass's, there is what this pass knew at first.
-abbrev pub ZonesGo : {X Y : Type 0} {N : Ghosts Y} → Zones X Y N → Command → Done → ZonesPass Y N → ZonesPass Y N → Type 0
+abbrev pub ZonesGo : {X Y : Type 0} {N : Ghosts Y} → Zones X Y N → Command → CommandEnd → ZonesPass Y N → ZonesPass Y N → Type 0
 ZonesGo zones c d old new =
-    (site : Site) → IsSite zones site → (s : Setup) → IsSetup s site.origin site.size (zone_known old site.number)
+    (site : Site) → IsSite zones site → (s : OpenedWith) → IsOpenedWith s site.origin site.size (zone_known old site.number)
     → (first : Known) → is_told first.seen.opening ≡ true → IsUnder (zone_known old site.number) first
     → Steps s (part_in site.number c d) (ended (zone_known old site.number) first) (ended (zone_known new site.number) first)
 
@@ -95,7 +95,7 @@ pub record ChangeRan (origins : List Name) (attaches : Bool) (zone table : ℕ) 
   pub ends : ChangeEnds attaches origin table refused old new
 
 -- What a command was to the table. A question was put to a version of it, and shows the zone that this has for the name.
-abbrev pub TableGoes : List Name → model.Done → Known → Known → Type 0
+abbrev pub TableGoes : List Name → model.CommandEnd → Known → Known → Type 0
 TableGoes origins (model.Got name rtype table shown) old new = Pinned IsAmong old new table × IsZoneOf origins (version_seen new.seen) name (option_map (λ s. s.zone) shown)
 TableGoes origins (model.Ran zone _ asked ending outcome) old new = new ≡ old
 TableGoes origins (model.Attached zone table refused) old new = ChangeRan origins true zone table refused old new
@@ -104,7 +104,7 @@ TableGoes origins (model.Detached zone table refused) old new = ChangeRan origin
 -- ---- a command
 
 -- A command came to this, by a pass of the zones that stays one.
-pub record Goes {X Y : Type 0} {N : Ghosts Y} (zones : Zones X Y N) (c : Command) (d : Done) (old new : ZonesPass Y N) : Type 0 where
+pub record Goes {X Y : Type 0} {N : Ghosts Y} (zones : Zones X Y N) (c : Command) (d : CommandEnd) (old new : ZonesPass Y N) : Type 0 where
   pub pass : IsPassOf zones.origins.items new
   pub kind : IsOf c d
   pub table : TableGoes zones.origins.items (done_view c d) (table_known old) (table_known new)

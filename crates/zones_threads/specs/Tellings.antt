@@ -9,9 +9,9 @@ use Rattle.job_report.specs.Outcomes.{EachTells, EndsBlock, Replies}
 use Rattle.zones_model.specs.Commands.{Command, Get, Block}
 use Rattle.zones_model.specs.Reports.{no_zone}
 use Rattle.zones_report.specs.declared.outcomes.Answer.{Answer}
-use Rattle.zones_report.specs.declared.outcomes.Done.{Done}
-use Rattle.zones_report.specs.declared.outcomes.Done.TheVariants as done
-use Rattle.zones_report.specs.declared.outcomes.DoneList.{DoneList}
+use Rattle.zones_report.specs.declared.outcomes.CommandEnd.{CommandEnd}
+use Rattle.zones_report.specs.declared.outcomes.CommandEnd.TheVariants as done
+use Rattle.zones_report.specs.declared.outcomes.CommandEnds.{CommandEnds}
 use Rattle.zones_threads.specs.Views.{Part, commands_of, outcomes_of}
 
 -- the text is that of what the version answers that is shown
@@ -19,19 +19,19 @@ abbrev pub AnswerTells : List Zone → (ℕ → ℕ → Version) → Name → �
 AnswerTells zones set name rtype None = Unit {0}
 AnswerTells zones set name rtype (Some a) = Replies (reply_of (slice_index_or zones a.zone no_zone).origin (set a.zone a.outcome.version) (question.Get name rtype)) a.outcome.told
 
-abbrev pub DoneTells : List Zone → (ℕ → ℕ → Version) → Command → Done → Type 0
-DoneTells zones set (Get name rtype) (done.Got table answer) = AnswerTells zones set name rtype answer
-DoneTells zones set (Block zone _ asked ending) (done.Ran ran o) = EndsBlock o.told
-DoneTells zones set c d = Unit {0}
+abbrev pub CommandEndTells : List Zone → (ℕ → ℕ → Version) → Command → CommandEnd → Type 0
+CommandEndTells zones set (Get name rtype) (done.Got table answer) = AnswerTells zones set name rtype answer
+CommandEndTells zones set (Block zone _ asked ending) (done.Ran ran o) = EndsBlock o.told
+CommandEndTells zones set c d = Unit {0}
 
 -- each of a worker's, and of all workers'
 
-abbrev pub WorkerTells : List Zone → (ℕ → ℕ → Version) → List Command → List Done → Type 0
+abbrev pub WorkerTells : List Zone → (ℕ → ℕ → Version) → List Command → List CommandEnd → Type 0
 WorkerTells zones set [] ds = Unit {0}
 WorkerTells zones set (c ∷ cs) [] = Unit {0}
-WorkerTells zones set (c ∷ cs) (d ∷ ds) = DoneTells zones set c d × WorkerTells zones set cs ds
+WorkerTells zones set (c ∷ cs) (d ∷ ds) = CommandEndTells zones set c d × WorkerTells zones set cs ds
 
-abbrev pub WorkersTell : List Zone → (ℕ → ℕ → Version) → List (List Command) → List DoneList → Type 0
+abbrev pub WorkersTell : List Zone → (ℕ → ℕ → Version) → List (List Command) → List CommandEnds → Type 0
 WorkersTell zones set [] ds = Unit {0}
 WorkersTell zones set (w ∷ ws) [] = Unit {0}
 WorkersTell zones set (w ∷ ws) (d ∷ ds) = WorkerTells zones set w d.list.items × WorkersTell zones set ws ds

@@ -15,9 +15,9 @@ use Rattle.zones_script.specs.declared.commands.Command.{Command}
 use Rattle.zones_script.specs.declared.commands.Command.TheVariants as command
 use Rattle.zones_script.specs.declared.commands.Worker.{Worker}
 use Rattle.zones_report.specs.declared.outcomes.Answer.{Answer}
-use Rattle.zones_report.specs.declared.outcomes.Done.{Done}
-use Rattle.zones_report.specs.declared.outcomes.Done.TheVariants as done
-use Rattle.zones_report.specs.declared.outcomes.DoneList.{DoneList}
+use Rattle.zones_report.specs.declared.outcomes.CommandEnd.{CommandEnd}
+use Rattle.zones_report.specs.declared.outcomes.CommandEnd.TheVariants as done
+use Rattle.zones_report.specs.declared.outcomes.CommandEnds.{CommandEnds}
 
 abbrev pub workers_view : List Worker → List (List model.Command)
 workers_view workers = map worker_view workers
@@ -34,12 +34,12 @@ answer_part zone question None = []
 answer_part zone question (Some a) = if a.zone == zone then record { command = jobs.Ask question; outcome = a.outcome } ∷ [] else []
 
 -- what became of a command, as of a zone's, if it is of that zone
-abbrev pub part_in : ℕ → model.Command → Done → List Part
+abbrev pub part_in : ℕ → model.Command → CommandEnd → List Part
 part_in zone (model.Get name rtype) (done.Got table answer) = answer_part zone (question.Get name rtype) answer
 part_in zone (model.Block changed weight asked ending) (done.Ran ran o) = if changed == zone then record { command = jobs.Block weight asked ending; outcome = o } ∷ [] else []
 part_in zone c d = []
 
-abbrev pub parts_in : ℕ → List model.Command → List Done → List Part
+abbrev pub parts_in : ℕ → List model.Command → List CommandEnd → List Part
 parts_in zone [] ds = []
 parts_in zone (c ∷ cs) [] = []
 parts_in zone (c ∷ cs) (d ∷ ds) = part_in zone c d ++ parts_in zone cs ds

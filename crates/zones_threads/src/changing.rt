@@ -8,7 +8,7 @@ use qp_multi::{Named, Receipt};
 use std::sync::Wait;
 use zone_table::{TableRefusal, Zones, ZonesPass};
 use zones_model::TableCause;
-use zones_report::Done;
+use zones_report::CommandEnd;
 
 // The table's version that a change made, or that it was refused on.
 fn version_of(ended: &Result<Receipt, TableRefusal>) -> u64
@@ -40,13 +40,13 @@ pub fn attach<R: Wait, N: Named>(
     zones: &Zones<ZoneLaw, N>,
     pass: &mut ZonesPass<N>,
     zone: u32,
-) -> Done
+) -> CommandEnd
     requires pass { IsPassOf zones.now.origins.items pass.old }
     requires zone { zone < length zones.now.origins.items }
     ensures { Goes zones.now (model.Attach zone) result pass.old pass.new }
 {
     let ended = zones.attach(rt, pass, zone);
-    Done::Attached {
+    CommandEnd::Attached {
         table: version_of(&ended),
         refused: cause_of(&ended),
     }
@@ -58,13 +58,13 @@ pub fn detach<R: Wait, N: Named>(
     zones: &Zones<ZoneLaw, N>,
     pass: &mut ZonesPass<N>,
     zone: u32,
-) -> Done
+) -> CommandEnd
     requires pass { IsPassOf zones.now.origins.items pass.old }
     requires zone { zone < length zones.now.origins.items }
     ensures { Goes zones.now (model.Detach zone) result pass.old pass.new }
 {
     let ended = zones.detach(rt, pass, zone);
-    Done::Detached {
+    CommandEnd::Detached {
         table: version_of(&ended),
         refused: cause_of(&ended),
     }

@@ -4,12 +4,12 @@ ghost use Rattle.zones_model.specs.Commands as model;
 ghost use Rattle.zones_threads.specs.Prelude.{IsPassOf, Goes};
 
 use dns_name::Name;
-use job_commands::{Room, ZoneLaw, run_question};
+use job_commands::{WorkerScratch, ZoneLaw, run_question};
 use job_model::Question;
 use qp_multi::Named;
 use std::alloc::{AllocError, Global};
 use zone_table::{Zones, ZonesPass};
-use zones_report::{Answer, Done};
+use zones_report::{Answer, CommandEnd};
 
 /// Asks the zone that the current version of the table has for the name, if it has one.
 pub fn get<N: Named>(
@@ -18,15 +18,15 @@ pub fn get<N: Named>(
     pass: &mut ZonesPass<N>,
     name: &Name,
     rtype: u16,
-    room: &mut Room,
-) -> Result<Done, AllocError>
+    room: &mut WorkerScratch,
+) -> Result<CommandEnd, AllocError>
     requires pass { IsPassOf zones.now.origins.items pass.old }
     ensures { IfOk result (λ d. Goes zones.now (model.Get name.now rtype) d pass.old pass.new) }
 {
     let located = pass.locate(zones, name);
     let table = located.version;
     let Some(zone) = located.zone else {
-        return Ok(Done::Got {
+        return Ok(CommandEnd::Got {
             table,
             answer: None,
         });
@@ -37,7 +37,7 @@ pub fn get<N: Named>(
     let place = pass.zone(zones, zone);
     let outcome = run_question(alloc, origin, index, place, &question, room)?;
     let answer = Answer { zone, outcome };
-    Ok(Done::Got {
+    Ok(CommandEnd::Got {
         table,
         answer: Some(answer),
     })

@@ -14,13 +14,13 @@ use std::alloc::{AllocError, Global};
 use std::sync::Wait;
 use std::thread::{Threads, join};
 use zone_table::{Zones, ZonesPass};
-use zones_report::{DoneList, ZonesFinished};
+use zones_report::{CommandEnds, ZonesFinished};
 use zones_script::{Command, Worker};
 
 // What became of workers. All passes are back; main's has learnt what they have seen.
 #[derive(Drop)]
 struct Gathered<N: Named> {
-    done: Vec<DoneList>,
+    done: Vec<CommandEnds>,
     passes: Vec<ZonesPass<N>>,
     main: ZonesPass<N>,
 }

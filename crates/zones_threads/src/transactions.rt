@@ -3,13 +3,13 @@ ghost use Rattle.std.specs.Prelude.{IfOk};
 ghost use Rattle.zones_threads.specs.Prelude.{asked_view, IsPassOf, IsSaid, Opens, Goes};
 ghost use Rattle.zones_model.specs.Commands as model;
 
-use job_commands::{Room, ZoneLaw, run_block};
+use job_commands::{WorkerScratch, ZoneLaw, run_block};
 use job_script::Block;
 use qp_multi::Named;
 use std::alloc::{AllocError, Global};
 use std::sync::Wait;
 use zone_table::{Zones, ZonesPass};
-use zones_report::Done;
+use zones_report::CommandEnd;
 
 /// Runs a block on a zone: its operations are all made the zone's next version, or none.
 pub fn change_zone<R: Wait, N: Named>(
@@ -19,8 +19,8 @@ pub fn change_zone<R: Wait, N: Named>(
     pass: &mut ZonesPass<N>,
     zone: u32,
     block: &Block,
-    room: &mut Room,
-) -> Result<Done, AllocError>
+    room: &mut WorkerScratch,
+) -> Result<CommandEnd, AllocError>
     requires pass { IsPassOf zones.now.origins.items pass.old }
     requires opens { Opens zones.now pass.old }
     requires said { IsSaid zones.now.origins.items (model.Block zone block.now.weight (asked_view block.now) block.now.ending) }
@@ -31,5 +31,5 @@ pub fn change_zone<R: Wait, N: Named>(
     let origin = zones.origin(zone);
     let place = pass.zone(zones, zone);
     let outcome = run_block(rt, alloc, origin, index, place, block, &mut room.items)?;
-    Ok(Done::Ran { zone, outcome })
+    Ok(CommandEnd::Ran { zone, outcome })
 }

@@ -6,18 +6,18 @@ use crate::changing::{attach, detach};
 use crate::getting::get;
 use crate::transactions::change_zone;
 use crew::Turnstile;
-use job_commands::{Entered, Gate, Room, ZoneLaw};
+use job_commands::{Entered, Gate, WorkerScratch, ZoneLaw};
 use qp_multi::Named;
 use std::alloc::{AllocError, Global};
 use std::sync::Wait;
 use zone_table::{Zones, ZonesPass};
-use zones_report::{Done, DoneList};
+use zones_report::{CommandEnd, CommandEnds};
 use zones_script::Command;
 
 /// What became of a worker's commands. Its pass is back.
 #[derive(Drop)]
 pub struct Ended<N: Named> {
-    pub done: DoneList,
+    pub done: CommandEnds,
     pub pass: ZonesPass<N>,
 }
 
@@ -27,8 +27,8 @@ fn run_command<R: Wait, N: Named>(
     zones: &Zones<ZoneLaw, N>,
     pass: &mut ZonesPass<N>,
     entered: Entered<'_, R, Command>,
-    room: &mut Room,
-) -> Result<Done, AllocError>
+    room: &mut WorkerScratch,
+) -> Result<CommandEnd, AllocError>
     requires pass { IsPassOf zones.now.origins.items pass.old }
     requires opens { Opens zones.now pass.old }
     requires said { IsSaid zones.now.origins.items (command_view entered.command.now) }
@@ -58,7 +58,7 @@ pub fn run_worker<R: Wait, N: Named, G: Gate>(
     ensures heard { IfOk result (λ _. AreHeard (G.hears turnstile.old.gate.now) turnstile.old.worker (length (map command_view turnstile.old.commands.now))
         × (turnstile.new.entered ≡ None) × (turnstile.new.told ≡ length turnstile.old.commands.now)) }
 {
-    let mut room = Room::new(alloc)?;
+    let mut room = WorkerScratch::new(alloc)?;
     let count = turnstile.count();
     let mut list = Vec::with_capacity(alloc, count)?;
     for place in 0..count {
@@ -68,7 +68,7 @@ pub fn run_worker<R: Wait, N: Named, G: Gate>(
         turnstile.leave(&list);
     }
     Ok(Ended {
-        done: DoneList { list },
+        done: CommandEnds { list },
         pass,
     })
 }

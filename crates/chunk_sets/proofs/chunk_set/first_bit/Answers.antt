@@ -4,8 +4,8 @@ use Rattle.std.proofs.lemmas.List.{get_or_past}
 use Rattle.chunk_sets.proofs.WordLemmas.{no_bit, none_left, found_left, found_later, none_later, on_none}
 use Rattle.chunk_sets.proofs.chunk_set.first_bit.Goals as goal
 
-pub returns-then-place-words-clause-none : goal.returns-then-place-words-clause-none
-returns-then-place-words-clause-none c k le = no_bit c.args.words.now k (get_or_past c.args.words.now (k / 64) 0 (omega arith))
+pub returns-then-position-words-clause-none : goal.returns-then-position-words-clause-none
+returns-then-position-words-clause-none c k le = no_bit c.args.words.now k (get_or_past c.args.words.now (k / 64) 0 (omega arith))
 
 pub returns-then-left-ne0-clause-found : goal.returns-then-left-ne0-clause-found
 returns-then-left-ne0-clause-found c = found_left c.args.words.now c.args.from _ (search rules) refl (omega arith)

@@ -6,12 +6,12 @@ use Rattle.std.proofs.lemmas.List.{get_or_past}
 use Rattle.chunk_sets.proofs.WordLemmas.{bits_left}
 use Rattle.chunk_sets.proofs.chunk_set.put_difference.Goals as goal
 
-each : (c : goal.After-loop-place) (i : ℕ) → slice_index c.loop-place.words i ≡ bit_and (slice_index c.args.all.now i) (bit_not w64 (slice_index c.args.others.now i))
+each : (c : goal.After-loop-position) (i : ℕ) → slice_index c.loop-position.words i ≡ bit_and (slice_index c.args.all.now i) (bit_not w64 (slice_index c.args.others.now i))
 each c i = elim (cases_lt i (length c.args.all.now)) [
-  | inl l ↦ c.loop-place.invariant.done i (let a = c.requires.all in let b = c.requires.others in omega arith)
+  | inl l ↦ c.loop-position.invariant.done i (let a = c.requires.all in let b = c.requires.others in omega arith)
   | inr past ↦ (
       let z : slice_index c.args.all.now i ≡ 0 = get_or_past c.args.all.now i 0 past in
-      let y : slice_index c.loop-place.words i ≡ 0 = get_or_past c.loop-place.words i 0 (let a = c.requires.all in let b = c.requires.others in let e = c.loop-place.invariant.same in omega arith) in
+      let y : slice_index c.loop-position.words i ≡ 0 = get_or_past c.loop-position.words i 0 (let a = c.requires.all in let b = c.requires.others in let e = c.loop-position.invariant.same in omega arith) in
       let n = and_le_l (slice_index c.args.all.now i) (bit_not w64 (slice_index c.args.others.now i)) in
       omega arith)
 ]
@@ -19,4 +19,4 @@ each c i = elim (cases_lt i (length c.args.all.now)) [
 pub returns-clause-left : goal.returns-clause-left
 returns-clause-left c k =
     let small : (i : ℕ) → slice_index c.args.others.now i < 2 ^ 64 = λ i. search rules in
-    bits_left c.args.all.now c.args.others.now c.loop-place.words k (small (k / 64)) (each c (k / 64))
+    bits_left c.args.all.now c.args.others.now c.loop-position.words k (small (k / 64)) (each c (k / 64))

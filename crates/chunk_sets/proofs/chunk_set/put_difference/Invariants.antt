@@ -2,8 +2,8 @@ use Rattle.std.proofs.Common.{◌≡◌, ℕ, ◌<◌, length, slice_index, bit_
 use Rattle.std.specs.Int.{bit_not}
 use Rattle.chunk_sets.proofs.chunk_set.put_difference.Given as goal
 
-abbrev pub invariant-loop-place : goal.invariant-loop-place
-invariant-loop-place l = record {
+abbrev pub invariant-loop-position : goal.invariant-loop-position
+invariant-loop-position l = record {
   same : length l.words ≡ length l.others;
-  done : (i : ℕ) → i < l.place → slice_index l.words i ≡ bit_and (slice_index l.all i) (bit_not w64 (slice_index l.others i));
+  done : (i : ℕ) → i < l.position → slice_index l.words i ≡ bit_and (slice_index l.all i) (bit_not w64 (slice_index l.others i));
 }

@@ -5,7 +5,7 @@ use Rattle.trie_space.specs.Spaces.{IsWritable}
 use Rattle.trie_space.specs.Ways.{plug}
 use Rattle.evacuate.specs.Evacuations.{HasSparse}
 use Rattle.evacuate.specs.Places.{first_of, width_of}
-use Rattle.evacuate.specs.Trails.{Underway}
+use Rattle.evacuate.specs.Stacks.{Underway}
 use Rattle.evacuate.proofs.MovingLaws.{cells_same, cells_then}
 use Rattle.evacuate.proofs.DescentLaws.{begins, by_err, hung_there, hung_says, hung_read, underway_first, underway_hung, branch_node_is, early, index_inside, further_there, further_says, underway_further, underway_left, fewer_places, reached_here}
 use Rattle.evacuate.proofs.RearrangeLaws.{rearranged_same, rearranged_then, underway_ends}
@@ -19,7 +19,7 @@ pub loop-branch-init : goal.loop-branch-init
 loop-branch-init g c = record {
   way = λ es t stood.
       let h = begins stood in
-      subst (λ s. Underway g.C.CellRead.has c.args.usage.now c.args.trail.now s c.args.usage.now c.args.root c.args.root es c.of-node.result) (sym c.cell.ensures.same)
+      subst (λ s. Underway g.C.CellRead.has c.args.usage.now c.args.stack.now s c.args.usage.now c.args.root c.args.root es c.of-node.result) (sym c.cell.ensures.same)
       (underway_first stood (c.requires.found es t stood) (hung_read h (c.cell.ensures.value _ (hung_there h)) c.of-node.ensures.back));
   writable = subst (λ s. IsWritable g.C.CellWrite.given reserve_account_of s c.args.usage.now c.args.root) (sym c.cell.ensures.same) c.requires.can.writable;
   cells = cells_same c.cell.ensures.same refl c.requires.can.ready;

@@ -2,7 +2,7 @@ use Rattle.std.proofs.Common.{◌≡◌, inl, inr, refl, sym, ◌∙◌, ap, sub
 use Rattle.std.proofs.lemmas.Bool.{cases_Bool}
 use Rattle.std.proofs.lemmas.Bool.Decides.{nat_tests}
 use Rattle.std.specs.Prelude.{Some}
-use Rattle.evacuate.specs.declared.evacuation.Done.{Done}
+use Rattle.evacuate.specs.declared.evacuation.EvacuationEnd.{EvacuationEnd}
 use Rattle.evacuate.specs.Evacuations.{HasSparse}
 use Rattle.evacuate.specs.Fillings.{filled_on, old_chunks}
 use Rattle.evacuate.proofs.BeginLaws.{fills_there, left_begun, ready_begun, stood_begun}
@@ -40,9 +40,9 @@ pub returns-in-Some-clause-ended : goal.returns-in-Some-clause-ended
 returns-in-Some-clause-ended g c =
     let end = c.empty_listed.ensures.ended in
     record {
-      whole = λ e. end.whole (c.in-Some.is ∙ ap (λ (d : Done). Some d) e);
-      full = λ e. end.full (c.in-Some.is ∙ ap (λ (d : Done). Some d) e);
-      left = λ e. end.left (c.in-Some.is ∙ ap (λ (d : Done). Some d) e) (old_chunks c.args.usage.now.given c.begin-chunk.result) (emptying c.begin-chunk.result c.begin-chunk.ensures.after c.begin-chunk.ensures.grows c.copy_root.ensures.rest c.in-Ok.ensures.copied).moves.fills;
+      whole = λ e. end.whole (c.in-Some.is ∙ ap (λ (d : EvacuationEnd). Some d) e);
+      full = λ e. end.full (c.in-Some.is ∙ ap (λ (d : EvacuationEnd). Some d) e);
+      left = λ e. end.left (c.in-Some.is ∙ ap (λ (d : EvacuationEnd). Some d) e) (old_chunks c.args.usage.now.given c.begin-chunk.result) (emptying c.begin-chunk.result c.begin-chunk.ensures.after c.begin-chunk.ensures.grows c.copy_root.ensures.rest c.in-Ok.ensures.copied).moves.fills;
     }
 
 pub passes-init : goal.passes-init

@@ -1,5 +1,5 @@
 use Rattle.std.proofs.Common.{arith, rules}
-use Rattle.evacuate.proofs.TrailLaws.{says, told_of, item_of, early, cell_there, turn, falls, leaf_item}
+use Rattle.evacuate.proofs.StackLaws.{says, told_of, item_of, early, cell_there, turn, falls, leaf_item}
 use Rattle.evacuate.proofs.finding.+survey_below.Goals as goal
 
 pub of-requires : goal.of-requires

@@ -3,7 +3,7 @@ use Rattle.trie_model.specs.Extents.{HasItem}
 use Rattle.trie_model.specs.Memory.{top_cell}
 use Rattle.trie_model.proofs.NodeLaws.{leaf_said}
 use Rattle.evacuate.proofs.AlongLaws.{twig_at_descent, fewer_at}
-use Rattle.evacuate.proofs.TrailLaws.{says, read_is, twig_top, leaf_item}
+use Rattle.evacuate.proofs.StackLaws.{says, read_is, twig_top, leaf_item}
 use Rattle.evacuate.proofs.finding.last_along.Goals as goal
 
 pub loop-descent-init : goal.loop-descent-init

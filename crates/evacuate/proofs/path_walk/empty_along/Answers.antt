@@ -4,7 +4,7 @@ use Rattle.evacuate.specs.Places.{Hangs}
 use Rattle.evacuate.proofs.AlongLaws.{hangs_first, way_can, way_ends, way_from, way_moves, way_read}
 use Rattle.evacuate.proofs.DescentLaws.{begins, hung_there, hung_says, hung_read}
 use Rattle.evacuate.proofs.RearrangeLaws.{can_read, rearranged_same, rearranged_then}
-use Rattle.evacuate.proofs.TrailLaws.{leaf_item}
+use Rattle.evacuate.proofs.StackLaws.{leaf_item}
 use Rattle.evacuate.proofs.TreeLaws.{hung_hangs}
 use Rattle.evacuate.proofs.path_walk.empty_along.Goals as goal
 

@@ -44,7 +44,7 @@ returns-clause-ran g t c = λ s index new.
     (λ after learnt. gathers_server passes front pass (λ p. known_at p.seat) s last new c.args.origin.now c.args.index.now.shared.table.shared.key index (commands_served commands others.served.items) (outcomes_served others.served.items) (map (λ p. known_at p.seat) others.passes.items)
     (known_at others.main.seat) after (known_at done.pass.seat) (commands_at commands done.served.numbers.items) done.served.outcomes
     (at_ok _ others _ c.in_ok-others.was (second.1.0 s index (front_new passes front pass (λ p. known_at p.seat) s last new)))
-    (λ n setup begins. at_ok _ done _ c.in_ok-done.was (c.join-done.ensures.first.1.0 s n setup begins)) (seat_told others.main.seat main.0) learnt)
+    (λ n opened_with begins. at_ok _ done _ c.in_ok-done.was (c.join-done.ensures.first.1.0 s n opened_with begins)) (seat_told others.main.seat main.0) learnt)
 
 pub returns-in_default-pop-clause-heard : goal.returns-in_default-pop-clause-heard
 returns-in_default-pop-clause-heard g t c = subst (FedHeard (g.G.Gate.hears c.args.gate.now) c.args.worker) (sym c.new.ensures.items) tt

@@ -11,8 +11,8 @@ use Rattle.job_commands.specs.Calls.{After, Before, IsHeard, next_number}
 use Rattle.crew.proofs.CallLaws.{same_told}
 use Rattle.report_laws.specs.Changes.{AllAsked}
 use Rattle.qp_multi.specs.Passes.{first_version, known_at}
-use Rattle.job_commands.specs.Histories.{Setup}
-use Rattle.job_commands.specs.Stations.{station}
+use Rattle.job_commands.specs.Histories.{OpenedWith}
+use Rattle.job_commands.specs.WorkerPasses.{worker_passes}
 use Rattle.feed_threads.proofs.ServeLaws.{command_here, number_counted, plain_here, so_here, serve_starts, serve_next}
 use Rattle.job_commands.proofs.ShowLaws.{seat_told}
 use Rattle.job_commands.proofs.StepLaws.{under_itself}
@@ -38,9 +38,9 @@ loop-number-init g c =
       told = c.requires.fresh.1 ∙ sym (ap length c.new-list.ensures.items);
       heard = subst (AllByRecursion (IsHeard (g.G.Gate.hears c.args.turnstile.now.gate.now) c.args.turnstile.now.worker)) (sym none) tt;
       opens = ready.opens;
-      at = λ s number setup new.
-          subst (λ (l : List ℕ). WorkerAt s (only number) (station first (Some first) None) (commands_at (map command_view c.args.turnstile.now.commands.now) l) [] c.new-list.result.items) (sym none)
-          (subst (λ (l : List Outcome). WorkerAt s (only number) (station first (Some first) None) [] [] l) (sym c.new-list.ensures.items) (serve_starts s number first new));
+      at = λ s number opened_with new.
+          subst (λ (l : List ℕ). WorkerAt s (only number) (worker_passes first (Some first) None) (commands_at (map command_view c.args.turnstile.now.commands.now) l) [] c.new-list.result.items) (sym none)
+          (subst (λ (l : List Outcome). WorkerAt s (only number) (worker_passes first (Some first) None) [] [] l) (sym c.new-list.ensures.items) (serve_starts s number first new));
     }
 
 pub enter-entered-requires-clause-free : goal.enter-entered-requires-clause-free
@@ -104,18 +104,18 @@ loop-number-preserved g c =
           (all-push (IsHeard (g.G.Gate.hears c.args.turnstile.now.gate.now) c.args.turnstile.now.worker) c.loop-number.numbers.items c.in-Some.number i.heard told);
       opens =
           let seat = c.loop-number.pass.seat in
-          let s : Setup = record { chunks = c.args.index.now.shared.table.shared.key.chunks; passes = c.args.index.now.shared.table.shared.key.passes; origin = c.args.origin.now; opening = first_version (known_at seat).seen } in
+          let s : OpenedWith = record { chunks = c.args.index.now.shared.table.shared.key.chunks; passes = c.args.index.now.shared.table.shared.key.passes; origin = c.args.origin.now; opening = first_version (known_at seat).seen } in
           let step = c.in_ok-outcome.ensures.steps s (record { index = record { origin_is = refl; chunks = refl; passes = refl }; opening = refl }) (Some seat) None i.here (under_itself (known_at seat)) in
           opens_still c.args.origin.now (known_at seat) (known_at c.run_alone.new.pass.seat) (seat_told seat i.here) step.asks i.opens;
-      at = λ s number setup new.
-          let w = i.at s number setup new in
-          let step = c.in_ok-outcome.ensures.steps s (record { index = setup.index; opening = w.work.opened }) (Some first) None c.requires.ready.here w.under in
+      at = λ s number opened_with new.
+          let w = i.at s number opened_with new in
+          let step = c.in_ok-outcome.ensures.steps s (record { index = opened_with.index; opening = w.work.opened }) (Some first) None c.requires.ready.here w.under in
           serve_next s (only number) c.loop-number.pass.seat c.run_alone.new.pass.seat first (map command_view commands) c.loop-number.numbers.items c.push.new.self.items c.in-Some.number (command_view here) c.loop-number.list.items c.push-in-Some.new.self.items c.in_ok-outcome.outcome
           (seat_told c.loop-number.pass.seat i.here) (command_here commands c.in-Some.number here lt is) (plain_here commands c.in-Some.number here c.requires.fresh.2.no_snapshots lt is)
           c.in_ok-push.ensures.items c.in_ok-push-2.ensures.items w step;
     }
 
 pub returns-clause-ran : goal.returns-clause-ran
-returns-clause-ran g c = λ s number setup new.
+returns-clause-ran g c = λ s number opened_with new.
     let commands = commands_at (map command_view c.args.turnstile.now.commands.now) c.loop-number.numbers.items in
-    worker_ran s (only number) (station c.loop-number.pass.seat (Some c.args.pass.seat) None) commands commands [] c.loop-number.list.items refl (c.loop-number.invariant.at s number setup new)
+    worker_ran s (only number) (worker_passes c.loop-number.pass.seat (Some c.args.pass.seat) None) commands commands [] c.loop-number.list.items refl (c.loop-number.invariant.at s number opened_with new)

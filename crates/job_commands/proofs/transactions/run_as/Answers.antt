@@ -8,29 +8,29 @@ use Rattle.job_commands.proofs.BlockLaws.{begun_works, after_works, after_lawful
 use Rattle.job_commands.proofs.transactions.run_as.Goals as goal
 
 pub edit-requires : goal.edit-requires
-edit-requires g c = begun_works (known_at c.args.pass.now.seat) c.begin-transaction.result.locked.now.draft c.begin-transaction.ensures.begins
+edit-requires g c = begun_works (known_at c.args.pass.now.seat) c.begin-transaction.result.locked.now.working c.begin-transaction.ensures.begins
 
 pub commit-requires-clause-works : goal.commit-requires-clause-works
 commit-requires-clause-works g c =
-    after_works (known_at c.args.pass.now.seat) c.begin-transaction.result.locked.now.draft c.begin-transaction.ensures.begins c.args.origin.now (asked_view c.args.block.now) c.edit.new.transaction.locked.now.draft c.in_default.ensures.executes
+    after_works (known_at c.args.pass.now.seat) c.begin-transaction.result.locked.now.working c.begin-transaction.ensures.begins c.args.origin.now (asked_view c.args.block.now) c.edit.new.transaction.locked.now.working c.in_default.ensures.executes
 
 pub commit-requires-clause-lawful : goal.commit-requires-clause-lawful
 commit-requires-clause-lawful g c =
-    after_lawful (known_at c.args.pass.now.seat) c.begin-transaction.result.locked.now.draft c.begin-transaction.ensures.begins c.args.origin.now (asked_view c.args.block.now) c.edit.new.transaction.locked.now.draft c.in_default.ensures.executes
+    after_lawful (known_at c.args.pass.now.seat) c.begin-transaction.result.locked.now.working c.begin-transaction.ensures.begins c.args.origin.now (asked_view c.args.block.now) c.edit.new.transaction.locked.now.working c.in_default.ensures.executes
     (seat_told c.args.pass.now.seat c.requires.here) c.requires.opens c.requires.said
 
 pub returns-in-Commit-clause-ran : goal.returns-in-Commit-clause-ran
-returns-in-Commit-clause-ran g c = λ s setup.
+returns-in-Commit-clause-ran g c = λ s opened_with.
     ran_as s _ _ _ (known_at c.commit.new.self.0.seat) _ _
-    (committed_ran s (asked_view c.args.block.now) c.args.block.now.ending (known_at c.args.pass.now.seat) c.committed.result c.begin-transaction.result.locked.now.draft c.edit.new.transaction.locked.now.draft
-    (seat_told c.args.pass.now.seat c.requires.here) setup.opening c.begin-transaction.ensures.begins c.commit.new.self.0.seat c.commit.result
-    (edits_as c.args.origin.now s.origin (asked_view c.args.block.now) (asked_view c.args.block.now) (Ok tt) c.begin-transaction.result.locked.now.draft c.edit.new.transaction.locked.now.draft setup.index.origin_is refl c.in_default.ensures.executes)
+    (committed_ran s (asked_view c.args.block.now) c.args.block.now.ending (known_at c.args.pass.now.seat) c.committed.result c.begin-transaction.result.locked.now.working c.edit.new.transaction.locked.now.working
+    (seat_told c.args.pass.now.seat c.requires.here) opened_with.opening c.begin-transaction.ensures.begins c.commit.new.self.0.seat c.commit.result
+    (edits_as c.args.origin.now s.origin (asked_view c.args.block.now) (asked_view c.args.block.now) (Ok tt) c.begin-transaction.result.locked.now.working c.edit.new.transaction.locked.now.working opened_with.index.origin_is refl c.in_default.ensures.executes)
     c.in-Commit.is c.commit.ensures.commits c.commit.ensures.version c.commit.ensures.back c.commit.ensures.spent c.commit.ensures.last c.committed.ensures.made c.committed.ensures.spent)
     (search rules)
 
 pub returns-in-Commit-clause-kind : goal.returns-in-Commit-clause-kind
 returns-in-Commit-clause-kind g c =
-    committed_as c.args.origin.now (asked_view c.args.block.now) g.K.Kind.OWN_CHUNK g.K.Kind.MOST_SPARSE (known_at c.args.pass.now.seat) (known_at c.commit.new.self.0.seat) _ c.committed.result c.begin-transaction.result.locked.now.draft c.edit.new.transaction.locked.now.draft (search rules)
+    committed_as c.args.origin.now (asked_view c.args.block.now) g.K.Kind.OWN_CHUNK g.K.Kind.MOST_SPARSE (known_at c.args.pass.now.seat) (known_at c.commit.new.self.0.seat) _ c.committed.result c.begin-transaction.result.locked.now.working c.edit.new.transaction.locked.now.working (search rules)
     c.begin-transaction.ensures.begins c.begin-transaction.ensures.starts c.in_default.ensures.executes c.commit.result c.commit.ensures.receipt c.committed.ensures.spent
 
 pub returns-clause-kind : goal.returns-clause-kind
@@ -40,31 +40,31 @@ pub returns-in-Err-clause-kind : goal.returns-in-Err-clause-kind
 returns-in-Err-clause-kind g c = stopped_as g.K.Kind.OWN_CHUNK g.K.Kind.MOST_SPARSE (known_at c.args.pass.now.seat) _ c.in-Err.refusal c.kept.result c.version-version.result c.stopped.result c.stopped.ensures.stopped
 
 pub returns-clause-ran : goal.returns-clause-ran
-returns-clause-ran g c = λ s setup.
+returns-clause-ran g c = λ s opened_with.
     ran_as s _ _ _ (known_at c.drop-transaction-2.new.self.0.seat) _ _
-    (rollback_ran s (asked_view c.args.block.now) c.args.block.now.ending (known_at c.args.pass.now.seat) _ c.begin-transaction.result.locked.now.draft c.edit.new.transaction.locked.now.draft
-    (seat_told c.args.pass.now.seat c.requires.here) setup.opening c.begin-transaction.ensures.begins c.drop-transaction-2.new.self.0.seat c.version-version.result c.drop-transaction-2.ensures.back c.version-version.ensures refl
-    (edits_as c.args.origin.now s.origin (asked_view c.args.block.now) (asked_view c.args.block.now) (Ok tt) c.begin-transaction.result.locked.now.draft c.edit.new.transaction.locked.now.draft setup.index.origin_is refl c.in_default.ensures.executes) c.in-Rollback.is refl)
+    (rollback_ran s (asked_view c.args.block.now) c.args.block.now.ending (known_at c.args.pass.now.seat) _ c.begin-transaction.result.locked.now.working c.edit.new.transaction.locked.now.working
+    (seat_told c.args.pass.now.seat c.requires.here) opened_with.opening c.begin-transaction.ensures.begins c.drop-transaction-2.new.self.0.seat c.version-version.result c.drop-transaction-2.ensures.back c.version-version.ensures refl
+    (edits_as c.args.origin.now s.origin (asked_view c.args.block.now) (asked_view c.args.block.now) (Ok tt) c.begin-transaction.result.locked.now.working c.edit.new.transaction.locked.now.working opened_with.index.origin_is refl c.in_default.ensures.executes) c.in-Rollback.is refl)
     (search rules)
 
 pub kept-requires : goal.kept-requires
-kept-requires g c = there_in_order c.args.origin.now _ (Executes c.args.origin.now (asked_view c.args.block.now) (Err c.in-Err.refusal)) c.begin-transaction.result.locked.now.draft c.edit.new.transaction.locked.now.draft c.in-Err.ensures.executes
+kept-requires g c = there_in_order c.args.origin.now _ (Executes c.args.origin.now (asked_view c.args.block.now) (Err c.in-Err.refusal)) c.begin-transaction.result.locked.now.working c.edit.new.transaction.locked.now.working c.in-Err.ensures.executes
 
 pub returns-in-Err-clause-ran : goal.returns-in-Err-clause-ran
-returns-in-Err-clause-ran g c = λ s setup.
+returns-in-Err-clause-ran g c = λ s opened_with.
     result_as s _ _ _ (known_at c.drop-transaction.new.self.0.seat) _ _
-    (stopped_ran s (asked_view c.args.block.now) c.args.block.now.ending (known_at c.args.pass.now.seat) c.begin-transaction.result.locked.now.draft c.edit.new.transaction.locked.now.draft
-    (seat_told c.args.pass.now.seat c.requires.here) setup.opening c.begin-transaction.ensures.begins c.drop-transaction.new.self.0.seat c.version-version.result c.in-Err.refusal c.kept.result c.stopped.result c.kept.ensures c.drop-transaction.ensures.back c.version-version.ensures
-    (edits_as c.args.origin.now s.origin (asked_view c.args.block.now) (asked_view c.args.block.now) (Err c.in-Err.refusal) c.begin-transaction.result.locked.now.draft c.edit.new.transaction.locked.now.draft setup.index.origin_is refl c.in-Err.ensures.executes)
-    (full_chunks g.N.Named.tables c.args.index.now.place c.edit.new.transaction.locked.now.place s.chunks c.args.index.now.shared.table.shared.table_id c.edit.new.transaction.locked.now.shared.now.table.shared.table_id c.edit.new.transaction.locked.now.draft
-    c.args.index.now.here c.edit.new.transaction.locked.now.named (c.edit.ensures.place ∙ c.begin-transaction.ensures.place) (ap (λ n. 4161 + 2048 * n) setup.index.chunks ∙ c.args.index.now.shared.wide) c.edit.new.transaction.locked.now.here)
-    (has_passes s _ _ setup.index.passes c.begin-transaction.ensures.passes) c.stopped.ensures.stopped)
+    (stopped_ran s (asked_view c.args.block.now) c.args.block.now.ending (known_at c.args.pass.now.seat) c.begin-transaction.result.locked.now.working c.edit.new.transaction.locked.now.working
+    (seat_told c.args.pass.now.seat c.requires.here) opened_with.opening c.begin-transaction.ensures.begins c.drop-transaction.new.self.0.seat c.version-version.result c.in-Err.refusal c.kept.result c.stopped.result c.kept.ensures c.drop-transaction.ensures.back c.version-version.ensures
+    (edits_as c.args.origin.now s.origin (asked_view c.args.block.now) (asked_view c.args.block.now) (Err c.in-Err.refusal) c.begin-transaction.result.locked.now.working c.edit.new.transaction.locked.now.working opened_with.index.origin_is refl c.in-Err.ensures.executes)
+    (full_chunks g.N.Named.tables c.args.index.now.place c.edit.new.transaction.locked.now.place s.chunks c.args.index.now.shared.table.shared.table_id c.edit.new.transaction.locked.now.shared.now.table.shared.table_id c.edit.new.transaction.locked.now.working
+    c.args.index.now.here c.edit.new.transaction.locked.now.named (c.edit.ensures.place ∙ c.begin-transaction.ensures.place) (ap (λ n. 4161 + 2048 * n) opened_with.index.chunks ∙ c.args.index.now.shared.wide) c.edit.new.transaction.locked.now.here)
+    (has_passes s _ _ opened_with.index.passes c.begin-transaction.ensures.passes) c.stopped.ensures.stopped)
     (search rules)
 
 pub returns-in-Err-clause-wants : goal.returns-in-Err-clause-wants
-returns-in-Err-clause-wants g c = λ s setup.
+returns-in-Err-clause-wants g c = λ s opened_with.
     wants_as s _ _ (known_at c.drop-transaction.new.self.0.seat) _ _
-    (stopped_wants s (asked_view c.args.block.now) (known_at c.args.pass.now.seat) c.begin-transaction.result.locked.now.draft c.edit.new.transaction.locked.now.draft
-    (seat_told c.args.pass.now.seat c.requires.here) setup.opening c.begin-transaction.ensures.begins c.drop-transaction.new.self.0.seat c.drop-transaction.ensures.back c.version-version.result c.in-Err.refusal c.kept.result c.stopped.result
-    (edits_as c.args.origin.now s.origin (asked_view c.args.block.now) (asked_view c.args.block.now) (Err c.in-Err.refusal) c.begin-transaction.result.locked.now.draft c.edit.new.transaction.locked.now.draft setup.index.origin_is refl c.in-Err.ensures.executes) c.stopped.ensures.stopped)
+    (stopped_wants s (asked_view c.args.block.now) (known_at c.args.pass.now.seat) c.begin-transaction.result.locked.now.working c.edit.new.transaction.locked.now.working
+    (seat_told c.args.pass.now.seat c.requires.here) opened_with.opening c.begin-transaction.ensures.begins c.drop-transaction.new.self.0.seat c.drop-transaction.ensures.back c.version-version.result c.in-Err.refusal c.kept.result c.stopped.result
+    (edits_as c.args.origin.now s.origin (asked_view c.args.block.now) (asked_view c.args.block.now) (Err c.in-Err.refusal) c.begin-transaction.result.locked.now.working c.edit.new.transaction.locked.now.working opened_with.index.origin_is refl c.in-Err.ensures.executes) c.stopped.ensures.stopped)
     (search rules)

@@ -1,6 +1,6 @@
 use Rattle.std.proofs.Common.{sym, subst}
 use Rattle.qp_multi.specs.Passes.{known_at}
-use Rattle.job_commands.specs.Stations.{IsHeld}
+use Rattle.job_commands.specs.WorkerPasses.{IsHeld}
 use Rattle.job_threads.proofs.SnapshotLaws.{held_first, held_same}
 use Rattle.job_threads.proofs.holding.hold.Goals as goal
 

@@ -58,7 +58,7 @@ returns-clause-ran g t c = λ s index new.
     (gathers_worker passes front rest spare asks (λ p. known_at p.seat) s last next new origin size index (workers_view c.in-Some-split_first.others.now) others.outcomes.items (map (λ p. known_at p.seat) others.passes.items) (known_at others.main.seat) after
     (known_at done.spare.seat) (known_at done.asks.seat) (worker_view c.in-Some-split_first.worker.now) done.outcomes
     (at_ok _ others _ c.in_ok-others.was (second.1.0 s index (others_new passes front rest spare asks (λ p. known_at p.seat) s last next new)))
-    (λ n setup begins. at_ok _ done _ c.in_ok-done.was (first.0 s n setup begins)) (seat_told others.main.seat main.0) learnt))
+    (λ n opened_with begins. at_ok _ done _ c.in_ok-done.was (first.0 s n opened_with begins)) (seat_told others.main.seat main.0) learnt))
 
 pub returns-in_default-split_first-clause-heard : goal.returns-in_default-split_first-clause-heard
 returns-in_default-split_first-clause-heard g t c =

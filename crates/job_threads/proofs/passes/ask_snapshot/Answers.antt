@@ -1,7 +1,7 @@
 use Rattle.std.proofs.Common.{sym, subst}
 use Rattle.std.specs.Option.{option_map}
 use Rattle.job_threads.specs.Snapshots.{AskedHeld}
-use Rattle.job_threads.proofs.StationLaws.{held_there, held_from}
+use Rattle.job_threads.proofs.WorkerPassesLaws.{held_there, held_from}
 use Rattle.job_threads.proofs.passes.ask_snapshot.Goals as goal
 
 pub ask_held-requires : goal.ask_held-requires

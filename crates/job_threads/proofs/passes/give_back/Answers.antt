@@ -1,5 +1,5 @@
 use Rattle.std.specs.Option.{option_map}
-use Rattle.job_threads.proofs.StationLaws.{held_there, release_from}
+use Rattle.job_threads.proofs.WorkerPassesLaws.{held_there, release_from}
 use Rattle.job_threads.proofs.passes.give_back.Goals as goal
 
 pub release-second-requires : goal.release-second-requires

@@ -1,5 +1,5 @@
 use Rattle.std.specs.Option.{option_map}
-use Rattle.job_threads.proofs.StationLaws.{held_there}
+use Rattle.job_threads.proofs.WorkerPassesLaws.{held_there}
 use Rattle.job_threads.proofs.passes.take_second.Goals as goal
 
 pub release-second-requires : goal.release-second-requires

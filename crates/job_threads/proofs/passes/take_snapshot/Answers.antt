@@ -1,5 +1,5 @@
 use Rattle.std.specs.Option.{option_map}
-use Rattle.job_threads.proofs.StationLaws.{hold_from}
+use Rattle.job_threads.proofs.WorkerPassesLaws.{hold_from}
 use Rattle.job_threads.proofs.passes.take_snapshot.Goals as goal
 
 pub returns-clause-steps : goal.returns-clause-steps

@@ -3,7 +3,7 @@ use Rattle.qp_multi.specs.Closings.{AreAll}
 use Rattle.trie_write.specs.Entries.{entries_of_items}
 use Rattle.job_commands.specs.Commands.{known_in}
 use Rattle.job_commands.proofs.OpenLaws.{new_passes, all_open}
-use Rattle.job_commands.proofs.StationLaws.{if_both}
+use Rattle.job_commands.proofs.WorkerPassesLaws.{if_both}
 use Rattle.job_commands.proofs.ZoneLaws.{zone_rises, zone_lawful}
 use Rattle.job_threads.proofs.GatherLaws.{both_ok}
 use Rattle.job_threads.proofs.sitting.open_for_one.Goals as goal

@@ -8,7 +8,7 @@ use Rattle.job_report.specs.declared.outcomes.Outcome.{Outcome}
 use Rattle.report_laws.specs.Changes.{AllAsked}
 use Rattle.qp_multi.specs.Passes.{known_at}
 use Rattle.job_commands.specs.Calls.{After, Before, IsHeard, next_number}
-use Rattle.job_commands.specs.Stations.{station}
+use Rattle.job_commands.specs.WorkerPasses.{worker_passes}
 use Rattle.job_commands.specs.Works.{ended}
 use Rattle.job_commands.proofs.ShowLaws.{seat_told}
 use Rattle.job_commands.proofs.CallLaws.{one_more}
@@ -33,7 +33,7 @@ loop-place-init g c = let ready = c.requires.ready in record {
   heard = λ place lt. absurd (omega arith);
   turn = c.requires.fresh.2.in_turn;
   said = c.requires.fresh.2.said;
-  at = λ s numbers setup begins. subst (λ (os : List Outcome). WorkerAt s numbers (ended (known_at c.args.asks.seat) (known_at c.args.spare.seat)) [] (map command_view c.args.turnstile.now.commands.now) os) (sym c.in_ok-list.ensures.items)
+  at = λ s numbers opened_with begins. subst (λ (os : List Outcome). WorkerAt s numbers (ended (known_at c.args.asks.seat) (known_at c.args.spare.seat)) [] (map command_view c.args.turnstile.now.commands.now) os) (sym c.in_ok-list.ensures.items)
       (worker_starts s numbers (known_at c.args.asks.seat) (known_at c.args.spare.seat) (map command_view c.args.turnstile.now.commands.now) begins c.requires.fresh.2.in_turn);
 }
 
@@ -89,23 +89,23 @@ loop-place-preserved g c =
       heard = one_more (λ k. IsHeard (g.G.Gate.hears c.args.turnstile.now.gate.now) c.args.turnstile.now.worker (next_number k)) place (place + 1) refl i.heard (before, after);
       turn = turn_next (is_some (option_map (λ h. h.seat) c.loop-place.passes.held)) (is_some (option_map (λ h. h.seat) c.run_command.new.passes.held)) commands place here lt is can.held i.turn;
       said = (said_here (AllAsked c.args.origin.now) commands place here lt is i.said).1;
-      at = λ s numbers setup begins.
-          let w = i.at s numbers setup begins in
+      at = λ s numbers opened_with begins.
+          let w = i.at s numbers opened_with begins in
           let was = c.loop-place.passes in
           let now = c.run_command.new.passes in
-          let old = station was.asks.seat (option_map (λ p. p.seat) was.spare) (option_map (λ h. h.seat) was.held) in
-          let new = station now.asks.seat (option_map (λ p. p.seat) now.spare) (option_map (λ h. h.seat) now.held) in
-          let step = c.in_ok-outcome.ensures.steps s (record { index = setup.index; opening = w.work.opened }) w.under in
+          let old = worker_passes was.asks.seat (option_map (λ p. p.seat) was.spare) (option_map (λ h. h.seat) was.held) in
+          let new = worker_passes now.asks.seat (option_map (λ p. p.seat) now.spare) (option_map (λ h. h.seat) now.held) in
+          let step = c.in_ok-outcome.ensures.steps s (record { index = opened_with.index; opening = w.work.opened }) w.under in
           worker_next s numbers old new commands place here c.loop-place.list.items c.in_ok-outcome.outcome c.push.new.self.items lt is c.in_ok-push.ensures.items (seat_told c.loop-place.passes.asks.seat i.can.at.here) w step;
     }
 
 pub returns-clause-ran : goal.returns-clause-ran
-returns-clause-ran g c = λ s numbers setup begins.
+returns-clause-ran g c = λ s numbers opened_with begins.
     let commands = c.args.turnstile.now.commands.now in
     let past : length commands ≤ c.loop-place.place = omega (arith, c.loop-place-test.false, c.count-count.ensures) in
-    let w = c.loop-place.invariant.at s numbers setup begins in
+    let w = c.loop-place.invariant.at s numbers opened_with begins in
     let passes = c.loop-place.passes in
-    let at = station passes.asks.seat (option_map (λ p. p.seat) passes.spare) (option_map (λ h. h.seat) passes.held) in
+    let at = worker_passes passes.asks.seat (option_map (λ p. p.seat) passes.spare) (option_map (λ h. h.seat) passes.held) in
     worker_back s numbers at (known_at c.second_pass-asks.result.0.seat) (known_at c.second_pass-asks.result.1.seat) (map command_view commands) c.loop-place.list.items (ap (λ p. known_at p.seat) c.second_pass-asks.ensures.same) c.second_pass-asks.ensures.second.pass
     (worker_ran s numbers at (map command_view commands) (map command_view (take c.loop-place.place commands)) _ c.loop-place.list.items (ap (map command_view) (take_all c.loop-place.place commands past)) w)
 

@@ -5,10 +5,10 @@ use Rattle.job_model.specs.Commands.{InTurn}
 use Rattle.job_script.specs.Views.{command_view}
 use Rattle.report_laws.specs.Changes.{AllAsked}
 use Rattle.qp_multi.specs.Passes.{known_at}
-use Rattle.job_commands.specs.Histories.{Setup}
+use Rattle.job_commands.specs.Histories.{OpenedWith}
 use Rattle.job_commands.specs.Calls.{IsHeard, next_number}
-use Rattle.job_commands.specs.Commands.{IsSetup}
-use Rattle.job_commands.specs.Stations.{station}
+use Rattle.job_commands.specs.Commands.{IsOpenedWith}
+use Rattle.job_commands.specs.WorkerPasses.{worker_passes}
 use Rattle.job_commands.specs.Works.{Begins, Numbers}
 use Rattle.job_commands.proofs.WorkLaws.{WorkerAt}
 use Rattle.job_threads.specs.Passes.{CanRun, holds_one}
@@ -26,6 +26,6 @@ invariant-loop-place g l = record {
   heard : (place : ℕ) → place < l.place → IsHeard (g.G.Gate.hears l.fn.turnstile.gate.now) l.fn.turnstile.worker (next_number place);
   turn : InTurn (is_some (option_map (λ s. s.seat) l.passes.held)) (map command_view (drop l.place l.fn.turnstile.commands.now));
   said : AllByRecursion (AllAsked l.origin) (map command_view (drop l.place l.fn.turnstile.commands.now));
-  at : (s : Setup) (numbers : Numbers) → IsSetup s l.origin l.index.shared.table.shared.key (known_at l.fn.asks.seat) → Begins s numbers (known_at l.fn.asks.seat) (known_at l.fn.spare.seat)
-      → WorkerAt s numbers (station l.passes.asks.seat (option_map (λ p. p.seat) l.passes.spare) (option_map (λ s. s.seat) l.passes.held)) (map command_view (take l.place l.fn.turnstile.commands.now)) (map command_view (drop l.place l.fn.turnstile.commands.now)) l.list.items;
+  at : (s : OpenedWith) (numbers : Numbers) → IsOpenedWith s l.origin l.index.shared.table.shared.key (known_at l.fn.asks.seat) → Begins s numbers (known_at l.fn.asks.seat) (known_at l.fn.spare.seat)
+      → WorkerAt s numbers (worker_passes l.passes.asks.seat (option_map (λ p. p.seat) l.passes.spare) (option_map (λ s. s.seat) l.passes.held)) (map command_view (take l.place l.fn.turnstile.commands.now)) (map command_view (drop l.place l.fn.turnstile.commands.now)) l.list.items;
 }

@@ -6,7 +6,7 @@ use Rattle.job_commands.specs.Runs.{IsRun}
 use Rattle.qp_multi.specs.Openings.{room_in}
 use Rattle.trie_model.specs.Shape.{cells}
 use Rattle.trie_write.specs.Entries.{entries_of_items}
-use Rattle.job_commands.specs.Histories.{Setup}
+use Rattle.job_commands.specs.Histories.{OpenedWith}
 use Rattle.job_commands.proofs.ZoneLaws.{zone_rises, zone_lawful}
 use Rattle.job_commands.proofs.OpenLaws.{new_passes, all_open}
 use Rattle.job_threads.proofs.zone.run_named.Goals as goal
@@ -30,7 +30,7 @@ pub returns-in_ok-finished-in-Ok-clause-ran : goal.returns-in_ok-finished-in-Ok-
 returns-in_ok-finished-in-Ok-clause-ran g c = λ zone stands.
     let es = entries_of_items c.args.items.now in
     let size = c.args.blank.shared.table.shared.key in
-    let s : Setup = record { chunks = size.chunks; passes = size.passes; origin = c.args.origin.now; opening = es } in
+    let s : OpenedWith = record { chunks = size.chunks; passes = size.passes; origin = c.args.origin.now; opening = es } in
     let f = c.in_ok-finished-in-Ok.finished in
     let same = c.in-Ok.ensures.size in (
       subst (λ es. cells es ≤ room_in size.chunks) (sym stands.entries) c.in-Ok.ensures.fits,

@@ -1,5 +1,5 @@
 use Rattle.std.proofs.Common.{◌≡◌, ◌∙◌, Ok, Err, refl, sym, ap}
-use Rattle.job_commands.specs.Histories.{Setup}
+use Rattle.job_commands.specs.Histories.{OpenedWith}
 use Rattle.live_session.specs.Ends.{ServedSo}
 use Rattle.live_session.proofs.SeatLaws.{begun}
 use Rattle.live_session.proofs.ErrorLaws.{passed}

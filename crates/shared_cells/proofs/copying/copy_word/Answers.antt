@@ -8,7 +8,7 @@ use Rattle.shared_cells.proofs.copying.copy_word.Goals as goal
 pub load-word-requires : goal.load-word-requires
 load-word-requires g c =
     let may = c.requires.may in
-    (c.requires.table, (let l = may.inside 0 (omega arith) in omega arith), may_recall g.L.Law.applied g.L.Law.lawful g.L.Law.permitted g.L.Law.stands _ _ _ _ _ may.turn may.past)
+    (c.requires.table, (let l = may.inside 0 (omega arith) in omega arith), may_recall g.L.HistoryLaw.applied g.L.HistoryLaw.lawful g.L.HistoryLaw.permitted g.L.HistoryLaw.stands _ _ _ _ _ may.turn may.past)
 
 pub store_word-requires-clause-turn : goal.store_word-requires-clause-turn
 store_word-requires-clause-turn g c = loaded_turn c.load-word.ensures.2.0 c.requires.may.turn

@@ -8,5 +8,5 @@ store-requires g c =
     let k = pinned_there c.args.place.now.me.0.progress pass.pinned in (
       pass.table,
       pin_word _ _ _ c.args.shared.now.wide pass.few,
-      may_leave g.L.Law.applied g.L.Law.lawful g.L.Law.permitted g.L.Law.stands _ _ _ _ _ pass.pass pass.off_turn pass.told k.0 k.1,
+      may_leave g.L.HistoryLaw.applied g.L.HistoryLaw.lawful g.L.HistoryLaw.permitted g.L.HistoryLaw.stands _ _ _ _ _ pass.pass pass.off_turn pass.told k.0 k.1,
     )

@@ -13,7 +13,7 @@ use Rattle.shared_cells.proofs.round.make_round.Goals as goal
 use Rattle.shared_cells.proofs.round.make_round.Goals.{then-pin-ne-IDLE, else-pin-ne-IDLE}
 
 pub load-word-requires : goal.load-word-requires
-load-word-requires g c = (c.requires.table, some_word _ _ c.args.shared.now.wide, may_look g.L.Law.applied g.L.Law.lawful g.L.Law.permitted g.L.Law.stands _ _ _ _ c.requires.turn)
+load-word-requires g c = (c.requires.table, some_word _ _ c.args.shared.now.wide, may_look g.L.HistoryLaw.applied g.L.HistoryLaw.lawful g.L.HistoryLaw.permitted g.L.HistoryLaw.stands _ _ _ _ c.requires.turn)
 
 pub loop-pass-init : goal.loop-pass-init
 loop-pass-init g c =

@@ -10,7 +10,7 @@ use Rattle.shared_cells.proofs.round.mark_pass.Goals as goal
 pub load-found-requires : goal.load-found-requires
 load-found-requires g c =
     let r = c.requires in
-    (r.table, pin_word _ _ _ c.args.shared.now.wide r.few, may_scan_pass g.L.Law.applied g.L.Law.lawful g.L.Law.permitted g.L.Law.stands _ _ _ _ _ r.told r.pass)
+    (r.table, pin_word _ _ _ c.args.shared.now.wide r.few, may_scan_pass g.L.HistoryLaw.applied g.L.HistoryLaw.lawful g.L.HistoryLaw.permitted g.L.HistoryLaw.stands _ _ _ _ _ r.told r.pass)
 
 pub compare_exchange-found-requires : goal.compare_exchange-found-requires
 compare_exchange-found-requires g c =
@@ -21,7 +21,7 @@ compare_exchange-found-requires g c =
     let first = subst (λ (x : ℕ). Marks m.0 c.args.pass x m1.0) c.if-found-ne-ENTERING.false (scanned_pass scan m m1 c.args.pass c.load-found.result refl c.load-found.ensures.2) in (
       c.load-found.ensures.0 ∙ r.table,
       pin_word _ _ _ c.args.shared.now.wide r.few,
-      may_help_pass g.L.Law.applied g.L.Law.lawful g.L.Law.permitted g.L.Law.stands _ _ _ m m1 c.args.pass c.args.word first r.told r.pass r.current,
+      may_help_pass g.L.HistoryLaw.applied g.L.HistoryLaw.lawful g.L.HistoryLaw.permitted g.L.HistoryLaw.stands _ _ _ m m1 c.args.pass c.args.word first r.told r.pass r.current,
     )
 
 pub returns-clause-marked : goal.returns-clause-marked

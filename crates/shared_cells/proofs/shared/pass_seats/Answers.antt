@@ -15,8 +15,8 @@ split_seat-place-requires g c =
     let made = c.loop-number.invariant.1 in (
       c.loop-number.invariant.0 ∙ c.requires.table,
       some_word _ _ c.args.shared.now.wide,
-      subst (λ m. Splits (IsSoundTable g.L.Law.applied g.L.Law.lawful g.L.Law.permitted g.L.Law.stands shared.key) c.loop-number.place.id m.0 (with_new_pass m.0) (new_pass_of m.0)) (sym made)
-          (splits_new g.L.Law.applied g.L.Law.lawful g.L.Law.permitted g.L.Law.stands shared.key _ c.loop-number.number (subst (λ (n : ℕ). c.loop-number.number < n) c.requires.passes c.loop-number-test.true)),
+      subst (λ m. Splits (IsSoundTable g.L.HistoryLaw.applied g.L.HistoryLaw.lawful g.L.HistoryLaw.permitted g.L.HistoryLaw.stands shared.key) c.loop-number.place.id m.0 (with_new_pass m.0) (new_pass_of m.0)) (sym made)
+          (splits_new g.L.HistoryLaw.applied g.L.HistoryLaw.lawful g.L.HistoryLaw.permitted g.L.HistoryLaw.stands shared.key _ c.loop-number.number (subst (λ (n : ℕ). c.loop-number.number < n) c.requires.passes c.loop-number-test.true)),
     )
 
 pub loop-number-preserved : goal.loop-number-preserved

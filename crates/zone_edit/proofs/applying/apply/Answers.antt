@@ -18,7 +18,7 @@ store-requires-clause-short g c some =
     let operation = operation_view c.args.operation.now in
     let owner = c.owner-owner.result.now in
     let octets = take c.read_owned-len.result c.read_owned-len.new.item in
-    let r = read_some owner c.read_owned-len.new.item c.read_owned-len.result c.args.transaction.now.locked.now.draft c.read_owned-len.new.transaction.locked.now.draft c.requires.works c.read_owned-len.ensures.read in
+    let r = read_some owner c.read_owned-len.new.item c.read_owned-len.result c.args.transaction.now.locked.now.working c.read_owned-len.new.transaction.locked.now.working c.requires.works c.read_owned-len.ensures.read in
     let both = c.in-Ok.ensures (owned owner r.0) r.2.says in
     let mine : c.in-Ok.before ≡ owned (owner_of operation) r.0 = subst (λ (n : Name). c.in-Ok.before ≡ owned n r.0) c.owner-owner.ensures both.0 in
     let made = made_of c.args.origin.now operation owner octets c.in-Ok.before c.in-Ok.entry (owned owner r.0) c.owner-owner.ensures c.in_default.ensures r.2.says both.0 both.1 in
@@ -30,7 +30,7 @@ returns-in_default-both_entries-clause-applies g c =
     let operation = operation_view c.args.operation.now in
     let owner = c.owner-owner.result.now in
     let octets = take c.read_owned-len.result c.read_owned-len.new.item in
-    edits_as 0 0 (Reads owner c.read_owned-len.new.item c.read_owned-len.result) (Applies c.args.origin.now operation (Err refusals.Memory)) c.args.transaction.now.locked.now.draft c.read_owned-len.new.transaction.locked.now.draft (omega arith)
+    edits_as 0 0 (Reads owner c.read_owned-len.new.item c.read_owned-len.result) (Applies c.args.origin.now operation (Err refusals.Memory)) c.args.transaction.now.locked.now.working c.read_owned-len.new.transaction.locked.now.working (omega arith)
     (λ version e r.
     let held = owned owner version in
     (put (owner_of operation) (candidate operation held) version, made_by c.args.origin.now operation owner octets held (candidate operation held) version c.owner-owner.ensures c.in_default.ensures r.read.says refl refl, r.stays)) c.read_owned-len.ensures.read
@@ -41,7 +41,7 @@ returns-in-Ok-store-clause-applies g c =
     let owner = c.owner-owner.result.now in
     let octets = take c.read_owned-len.result c.read_owned-len.new.item in
     edits_on 0 1 1 (Reads owner c.read_owned-len.new.item c.read_owned-len.result) (Stores owner c.in-Ok.before c.in-Ok.entry (Ok tt)) (Applies c.args.origin.now operation (Ok tt))
-    c.args.transaction.now.locked.now.draft c.read_owned-len.new.transaction.locked.now.draft c.store.new.transaction.locked.now.draft (omega arith)
+    c.args.transaction.now.locked.now.working c.read_owned-len.new.transaction.locked.now.working c.store.new.transaction.locked.now.working (omega arith)
     (λ version e f r. let both = c.in-Ok.ensures (owned owner version) r.read.says in
     let made = made_by c.args.origin.now operation owner octets c.in-Ok.before c.in-Ok.entry version c.owner-owner.ensures c.in_default.ensures r.read.says both.0 both.1 in
     (version, r.stays, λ y. (put (owner_of operation) c.in-Ok.entry version, made, subst (λ (n : Name). WorksOn f (put n c.in-Ok.entry version)) c.owner-owner.ensures (y both.0)))) c.read_owned-len.ensures.read c.in-Ok-store.ensures.stores
@@ -52,7 +52,7 @@ returns-clause-applies g c =
     let owner = c.owner-owner.result.now in
     let octets = take c.read_owned-len.result c.read_owned-len.new.item in
     edits_on 0 0 0 (Reads owner c.read_owned-len.new.item c.read_owned-len.result) (Stores owner c.in-Ok.before c.in-Ok.entry (Err c.in-Err.shortage)) (Applies c.args.origin.now operation (Err (refusals.Full c.args.number c.in-Err.shortage)))
-    c.args.transaction.now.locked.now.draft c.read_owned-len.new.transaction.locked.now.draft c.store.new.transaction.locked.now.draft (omega arith)
+    c.args.transaction.now.locked.now.working c.read_owned-len.new.transaction.locked.now.working c.store.new.transaction.locked.now.working (omega arith)
     (λ version e f r. let both = c.in-Ok.ensures (owned owner version) r.read.says in
     let made = made_by c.args.origin.now operation owner octets c.in-Ok.before c.in-Ok.entry version c.owner-owner.ensures c.in_default.ensures r.read.says both.0 both.1 in
     (version, r.stays, λ y. (put (owner_of operation) c.in-Ok.entry version, made, subst (λ (n : Name). put n c.in-Ok.entry version ≡ version → ⊥) c.owner-owner.ensures (y both.0).2, subst (λ (n : Name). IsFullOn f version (cells_asked n version (put n c.in-Ok.entry version)) (kept_versions f.usage)) c.owner-owner.ensures (y both.0).1, (y both.0).3))) c.read_owned-len.ensures.read c.in-Err.ensures.stores

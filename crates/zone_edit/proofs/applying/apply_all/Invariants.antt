@@ -9,6 +9,6 @@ abbrev pub invariant-loop-index : goal.invariant-loop-index
 invariant-loop-index g l = record {
   same_reference : (l.transaction.home.ghost_name ≡ l.fn.transaction.home.ghost_name) × (l.transaction.locked.ghost_name ≡ l.fn.transaction.locked.ghost_name);
   place : l.transaction.locked.now.place ≡ l.fn.transaction.locked.now.place;
-  works : IsSomeAnd l.transaction.locked.now.draft WorksOnSome;
-  so_far : EditedInOrder l.origin (map operation_view (take l.index l.operations)) (Ok tt) l.fn.transaction.locked.now.draft l.transaction.locked.now.draft;
+  works : IsSomeAnd l.transaction.locked.now.working WorksOnSome;
+  so_far : EditedInOrder l.origin (map operation_view (take l.index l.operations)) (Ok tt) l.fn.transaction.locked.now.working l.transaction.locked.now.working;
 }

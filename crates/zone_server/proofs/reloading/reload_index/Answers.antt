@@ -13,11 +13,11 @@ use Rattle.zone_server.proofs.ReloadLaws.{before, looked_opening, looked_opens, 
 use Rattle.zone_server.proofs.reloading.reload_index.Goals as goal
 
 pub returns-in_default-clause-reloading : goal.returns-in_default-clause-reloading
-returns-in_default-clause-reloading g c = λ s setup.
+returns-in_default-clause-reloading g c = λ s opened_with.
     let zone = c.args.zone.now in
     let tells : Version → Type 0 = λ v. IfOk c.difference_of-version.result.told (λ list. map operation_view list.items ≡ difference Keep v zone.pairs) in
     reloading_none zone.origin zone.pairs c.requires.zone (known_at c.args.pass.now.seat) (known_at c.difference_of-version.new.pass.seat) (seat_told c.args.pass.now.seat c.requires.here) c.requires.opens tells c.difference_of-version.result.version c.difference_of-version.ensures.shown
-    s setup.index.origin_is setup.opening (seat_told c.difference_of-version.new.pass.seat c.difference_of-version.ensures.here)
+    s opened_with.index.origin_is opened_with.opening (seat_told c.difference_of-version.new.pass.seat c.difference_of-version.ensures.here)
 
 pub exchange-requires-clause-opens : goal.exchange-requires-clause-opens
 exchange-requires-clause-opens g c =
@@ -41,7 +41,7 @@ exchange-requires-clause-makes g c =
     (makes_by zone.origin zone.pairs c.requires.zone old looked heard c.requires.opens tells number shown (map operation_view c.deref.result.now) (ap (map operation_view) c.deref.ensures.value ∙ listed))
 
 pub returns-clause-reloading : goal.returns-clause-reloading
-returns-clause-reloading g c = λ s setup.
+returns-clause-reloading g c = λ s opened_with.
     let zone = c.args.zone.now in
     let old = known_at c.args.pass.now.seat in
     let looked = known_at c.difference_of-version.new.pass.seat in
@@ -51,9 +51,9 @@ returns-clause-reloading g c = λ s setup.
     let shown = c.difference_of-version.ensures.shown in
     let was = before zone.origin zone.pairs c.requires.zone old looked heard c.requires.opens tells number shown in
     let listed = ok_is (λ list. map operation_view list.items ≡ difference Keep was zone.pairs) c.difference_of-version.result.told c.in-Ok.operations c.in-Ok.is (tells_before zone.origin zone.pairs c.requires.zone old looked heard c.requires.opens tells number shown) in
-    reloading_by zone.origin zone.pairs c.requires.zone old looked heard c.requires.opens tells number shown s setup.index.origin_is setup.opening
+    reloading_by zone.origin zone.pairs c.requires.zone old looked heard c.requires.opens tells number shown s opened_with.index.origin_is opened_with.opening
     (map operation_view c.deref.result.now) (ap (map operation_view) c.deref.ensures.value ∙ listed) (known_at c.exchange.new.pass.seat) c.exchange.result
     (c.exchange.ensures.ran s (record {
-      index = record { origin_is = setup.index.origin_is ∙ sym c.origin.ensures; chunks = setup.index.chunks; passes = setup.index.passes };
-      opening = looked_opening zone.origin zone.pairs c.requires.zone old looked heard c.requires.opens tells number shown s setup.index.origin_is setup.opening;
+      index = record { origin_is = opened_with.index.origin_is ∙ sym c.origin.ensures; chunks = opened_with.index.chunks; passes = opened_with.index.passes };
+      opening = looked_opening zone.origin zone.pairs c.requires.zone old looked heard c.requires.opens tells number shown s opened_with.index.origin_is opened_with.opening;
     }))

@@ -3,11 +3,11 @@ use Rattle.std.proofs.lemmas.Option.{slice_get_within}
 use Rattle.qp_multi.specs.Passes.{known_at}
 use Rattle.job_commands.proofs.ShowLaws.{seat_told}
 use Rattle.zone_table.proofs.PassLaws.{with_zone}
-use Rattle.zone_server.specs.Homes.{setup_of}
+use Rattle.zone_server.specs.Homes.{opened_as}
 use Rattle.zone_server.specs.Reloads.{Reloading}
 use Rattle.zone_server.specs.Servings.{known_of}
 use Rattle.zone_server.proofs.ReloadLaws.{reloading_grows, reloads_as}
-use Rattle.zone_server.proofs.ServingLaws.{asked_serving, happened_there, none_has, opens_at, pass_in, served_at, setup_at}
+use Rattle.zone_server.proofs.ServingLaws.{asked_serving, happened_there, none_has, opens_at, pass_in, served_at, opened_as_at}
 use Rattle.zone_server.proofs.reloading.reload_zones.Goals as goal
 
 pub returns-in_default-clause-reloads : goal.returns-in_default-clause-reloads
@@ -37,10 +37,10 @@ returns-clause-pass g c =
     let origin = c.args.loaded.now.origin in
     let place = c.zone-place.result.now in
     let s = served_at served zones is c.in-Some.zone origin at in
-    let setup = setup_at served zones is pass c.requires.pass c.in-Some.zone origin at place c.zone-place.ensures.known c.zone-index.result.now c.zone-index.ensures.value in
+    let opened_with = opened_as_at served zones is pass c.requires.pass c.in-Some.zone origin at place c.zone-place.ensures.known c.zone-index.result.now c.zone-index.ensures.value in
     asked_serving served zones is pass pass c.requires.pass refl (pass_in served zones is pass c.requires.pass.pass)
     c.in-Some.zone place c.reload_index.new.pass c.zone-place.ensures.value c.reload_index.ensures.here c.reload_index.ensures.place c.zone-place.ensures.known
-    (reloading_grows (setup_of s.0) c.args.loaded.now.pairs (known_at place.seat) (known_at c.reload_index.new.pass.seat) c.reload_index.result (seat_told place.seat c.zone-place.ensures.here) (c.reload_index.ensures.reloading (setup_of s.0) setup))
+    (reloading_grows (opened_as s.0) c.args.loaded.now.pairs (known_at place.seat) (known_at c.reload_index.new.pass.seat) c.reload_index.result (seat_told place.seat c.zone-place.ensures.here) (c.reload_index.ensures.reloading (opened_as s.0) opened_with))
 
 pub returns-clause-reloads : goal.returns-clause-reloads
 returns-clause-reloads g c =
@@ -54,8 +54,8 @@ returns-clause-reloads g c =
     let next = c.reload_index.new.pass in
     let result = c.reload_index.result in
     let s = served_at served zones is c.in-Some.zone loaded.origin at in
-    let setup = setup_at served zones is pass c.requires.pass c.in-Some.zone loaded.origin at place c.zone-place.ensures.known c.zone-index.result.now c.zone-index.ensures.value in
+    let opened_with = opened_as_at served zones is pass c.requires.pass c.in-Some.zone loaded.origin at place c.zone-place.ensures.known c.zone-index.result.now c.zone-index.ensures.value in
     reloads_as served loaded (known_of pass) (known_of (with_zone pass c.in-Some.zone next)) result
     (happened_there served zones is pass pass c.requires.pass refl (pass_in served zones is pass c.requires.pass.pass)
     c.in-Some.zone place next c.zone-place.ensures.value c.reload_index.ensures.here c.reload_index.ensures.place c.zone-place.ensures.known
-    (λ x v w. Reloading (setup_of x) loaded.pairs v w result) loaded.origin at (c.reload_index.ensures.reloading (setup_of s.0) setup))
+    (λ x v w. Reloading (opened_as x) loaded.pairs v w result) loaded.origin at (c.reload_index.ensures.reloading (opened_as s.0) opened_with))

@@ -3,7 +3,7 @@ use Rattle.zone_table.proofs.KnownLaws.{seat_told}
 use Rattle.zone_table.specs.Changes.{Detaches}
 use Rattle.zone_table.specs.Passes.{table_known}
 use Rattle.zones_model.specs.Commands.{Detach}
-use Rattle.zones_report.specs.declared.outcomes.Done.TheVariants.{Detached}
+use Rattle.zones_report.specs.declared.outcomes.CommandEnd.TheVariants.{Detached}
 use Rattle.zones_threads.proofs.AttachLaws.{change_told, detach_ran}
 use Rattle.zones_threads.proofs.StepLaws.{no_steps}
 use Rattle.zones_threads.proofs.changing.detach.Goals as goal

@@ -36,15 +36,15 @@ returns g c =
         c.locate-located.ensures.version,
         subst (IsZoneOf origins (version_seen (table_known located).seen) c.args.name.now) c.in-Some.is c.locate-located.ensures.zone,
       );
-      zones_go = λ site is s setup first told under.
+      zones_go = λ site is s opened_with first told under.
           let n = site.number in
           let old = zone_known c.args.pass.now n in
           let part : Part = record { command = Ask question; outcome = outcome } in
           let inside : n < length origins = slice_get_within origins n site.origin is.origin in
           chosen_steps s zone n part (ended old first) (ended (zone_known new n) first)
           (λ same.
-          let origin : c.origin-origin.result.now ≡ s.origin = some_is c.origin-origin.result.now site.origin (sym c.origin-origin.ensures ∙ ap (slice_get origins) same ∙ is.origin) ∙ sym setup.index.origin_is in
-          ask_goes s outcome old (zone_known new n) first setup.opening (zone_told origins c.args.pass.now c.requires.pass n inside) told under question
+          let origin : c.origin-origin.result.now ≡ s.origin = some_is c.origin-origin.result.now site.origin (sym c.origin-origin.ensures ∙ ap (slice_get origins) same ∙ is.origin) ∙ sym opened_with.index.origin_is in
+          ask_goes s outcome old (zone_known new n) first opened_with.opening (zone_told origins c.args.pass.now c.requires.pass n inside) told under question
           (subst (λ k. Asked s.origin question (zone_known c.args.pass.now k) (zone_known new k) outcome) same
           (subst (λ (v : Known). Asked s.origin question v (zone_known new zone) outcome) (same_zones zone)
           (subst (λ (o : Name). Asked o question (zone_known located zone) (zone_known new zone) outcome) origin asked))))

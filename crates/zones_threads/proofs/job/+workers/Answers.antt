@@ -7,7 +7,7 @@ use Rattle.job_commands.proofs.GatherLaws.{popped, at_ok}
 use Rattle.zone_table.specs.Passes.{IsPassOf, table_known, zone_known}
 use Rattle.zone_table.proofs.KnownLaws.{seat_told}
 use Rattle.zone_table.proofs.PassLaws.{zone_told}
-use Rattle.zones_report.specs.declared.outcomes.DoneList.{DoneList}
+use Rattle.zones_report.specs.declared.outcomes.CommandEnds.{CommandEnds}
 use Rattle.zones_report.specs.Outcomes.{AllAreOf, all_dones_view, dones_view}
 use Rattle.zones_script.specs.Views.{worker_view}
 use Rattle.zones_threads.specs.Calls.{AllHeard}
@@ -88,11 +88,11 @@ returns-clause-gathered g t c =
           (subst (λ ws. ZoneGathers s n (zone_views n passes) ws ds (zone_known ended.pass n ∷ zone_views n others.passes.items) (zone_known r.main n)) (sym (ap workers_view all_workers))
           (zone_more passes front pass (λ p. zone_known p n) s last new n site.origin site.size index workers others.done.items (zone_views n others.passes.items) (zone_known others.main n) (zone_known r.main n) (zone_known ended.pass n) worker ended.done
           (theirs.each site s there index (front_new passes front pass (λ p. zone_known p n) s.opening last new))
-          (λ number setup begins. mine.ran site there s number setup begins) (zone_told zones.origins.items others.main theirs.main n lt) (at_ok _ r _ is (c.with_ended.ensures.zone_learnt n lt))));
+          (λ number opened_with begins. mine.ran site there s number opened_with begins) (zone_told zones.origins.items others.main theirs.main n lt) (at_ok _ r _ is (c.with_ended.ensures.zone_learnt n lt))));
       table = λ b same new.
           table_done b (table_views passes) (dones_view worker ended.done.list.items ∷ all_dones_view workers others.done.items) (all_dones_view (workers_view c.args.workers.now) r.done.items)
           (table_known ended.pass ∷ table_views others.passes.items) (table_views r.passes.items) (table_known r.main)
-          (ap (λ (l : List DoneList). all_dones_view (workers_view c.args.workers.now) l) done ∙ ap (λ l. all_dones_view (workers_view l) ds) all_workers) gathers.table
+          (ap (λ (l : List CommandEnds). all_dones_view (workers_view c.args.workers.now) l) done ∙ ap (λ l. all_dones_view (workers_view l) ds) all_workers) gathers.table
           (table_more passes front pass (λ p. table_known p) b.opening last new b refl (all_dones_view workers others.done.items) (table_views others.passes.items) (table_known others.main) (table_known r.main) (table_known ended.pass) (dones_view worker ended.done.list.items)
           (theirs.table b same (front_new passes front pass (λ p. table_known p) b.opening last new))
           (λ number begins. mine.table b number same begins) (seat_told others.main.table.seat theirs.main.table_here) (at_ok _ r _ is c.with_ended.ensures.learnt));

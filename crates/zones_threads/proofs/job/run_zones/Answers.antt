@@ -5,7 +5,7 @@ use Rattle.std.proofs.lemmas.Option.{slice_get_within}
 use Rattle.zone_model.specs.Names.{Name}
 use Rattle.zones_model.specs.Outcomes.{passes_for}
 use Rattle.qp_multi.specs.Closings.{AreAll}
-use Rattle.job_commands.specs.Histories.{Setup}
+use Rattle.job_commands.specs.Histories.{OpenedWith}
 use Rattle.zone_table.specs.Passes.{table_known, zone_known}
 use Rattle.zone_table.proofs.Lists.{get_in, mapped_at}
 use Rattle.zones_threads.specs.Closings.{table_views, zone_views}
@@ -14,7 +14,7 @@ use Rattle.zones_threads.specs.Sites.{IsSaid, IsSite, Site}
 use Rattle.zones_report.specs.Outcomes.{all_dones_view}
 use Rattle.zones_script.specs.Views.{worker_view}
 use Rattle.zones_threads.specs.Views.{workers_view}
-use Rattle.zones_threads.specs.Works.{TableSetup}
+use Rattle.zones_threads.specs.Works.{TableOpenedWith}
 use Rattle.zones_threads.proofs.EndLaws.{zones_run}
 use Rattle.zones_threads.proofs.job.run_zones.Goals as goal
 
@@ -30,7 +30,7 @@ returns-clause-ran g c = λ chunks list named apart begins each.
     let ended = c.in_ok-last.ensures in
     let ds = gathered.done.items in
     let many : length origins ≡ length list = sym (ap (λ (l : List Name). length l) named) ∙ length-map list (λ z. z.origin) in
-    let b : TableSetup = record { origins = origins; opening = begins.opening } in
+    let b : TableOpenedWith = record { origins = origins; opening = begins.opening } in
     let counted : length (table_views passes) ≡ zones.table.shared.table.shared.key.passes = length-map passes (λ p. table_known p) ∙ sym c.requires.can.size in
     let table : TableEnd origins (all_dones_view ws ds) last.table last.attached =
     ended.table b (table_views passes) (all_dones_view ws ds) refl apart begins.table (ran.table b refl begins.new) counted (subst (λ (n : ℕ). AreAll n (table_views passes)) (sym c.requires.can.size) begins.all) in
@@ -45,7 +45,7 @@ returns-clause-ran g c = λ chunks list named apart begins each.
     let site : Site = record { number = number; origin = zone.origin; size = index.0.shared.table.shared.key } in
     let is_site : IsSite zones site = record { origin = origin; index = index.0; there = index.1; size = refl } in
     let z = each site zone is_site there in
-    let s : Setup = record { chunks = site.size.chunks; passes = site.size.passes; origin = zone.origin; opening = z.opening } in
+    let s : OpenedWith = record { chunks = site.size.chunks; passes = site.size.passes; origin = zone.origin; opening = z.opening } in
     let gathers = ran.each site s is_site (record { origin_is = refl; chunks = refl; passes = refl }) z.new in
     let long : length (zone_views number passes) ≡ site.size.passes = length-map passes (λ p. zone_known p number) ∙ sym z.passes in
     let e = ended.zones site version names is_site at is s zone (zone_views number passes) ws ds ran.kinds gathers refl z.stands long (subst (λ (n : ℕ). AreAll n (zone_views number passes)) (sym z.passes) z.all) in

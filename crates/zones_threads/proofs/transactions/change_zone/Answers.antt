@@ -6,7 +6,7 @@ use Rattle.job_model.specs.Commands.{Block}
 use Rattle.job_script.specs.Views.{asked_view}
 use Rattle.shared_cells.specs.declared.view.TableSize.{TableSize}
 use Rattle.qp_multi.specs.Passes.{Known, known_at}
-use Rattle.job_commands.specs.Commands.{BlockRan, IsSetup, OpensAt}
+use Rattle.job_commands.specs.Commands.{BlockRan, IsOpenedWith, OpensAt}
 use Rattle.job_commands.specs.Works.{ended}
 use Rattle.zone_table.specs.Passes.{zone_known}
 use Rattle.zone_table.proofs.Lists.{some_is}
@@ -42,7 +42,7 @@ returns g c =
       pass = w.pass;
       kind = refl;
       table = refl;
-      zones_go = λ site is s setup first told under.
+      zones_go = λ site is s opened_with first told under.
           let n = site.number in
           let old = zone_known pass n in
           let part : Part = record { command = Block block.weight (asked_view block) block.ending; outcome = outcome } in
@@ -53,12 +53,12 @@ returns g c =
           let same_origin : site.origin ≡ origin = some_is site.origin origin (sym is.origin ∙ ap (slice_get origins) (sym same) ∙ c.origin-origin.ensures) in
           let same_index = some_is is.index index (sym is.there ∙ ap (slice_get c.args.zones.now.zones.items) (sym same) ∙ c.zone-index.ensures.value) in
           let size : site.size ≡ index.shared.table.shared.key = is.size ∙ ap (λ i. i.shared.table.shared.key) same_index in
-          let here : IsSetup s origin index.shared.table.shared.key (known_at seat.seat) =
-          subst (IsSetup s origin index.shared.table.shared.key) (ap (zone_known pass) (sym same) ∙ sym c.zone-place.ensures.known)
-          (subst (λ (z : TableSize). IsSetup s origin z old) size (subst (λ (name : Name). IsSetup s name site.size old) same_origin setup)) in
+          let here : IsOpenedWith s origin index.shared.table.shared.key (known_at seat.seat) =
+          subst (IsOpenedWith s origin index.shared.table.shared.key) (ap (zone_known pass) (sym same) ∙ sym c.zone-place.ensures.known)
+          (subst (λ (z : TableSize). IsOpenedWith s origin z old) size (subst (λ (name : Name). IsOpenedWith s name site.size old) same_origin opened_with)) in
           let ran : BlockRan s (asked_view block) block.ending (zone_known pass zone) (zone_known new zone) outcome =
           went_as (λ v x. BlockRan s (asked_view block) block.ending v x outcome) origins pass zone seat next w c.zone-place.ensures.known (c.in_ok-outcome.ensures.ran s here) in
-          block_goes s outcome old (zone_known new n) first setup.opening (zone_told origins pass c.requires.pass n inside) told under block.weight (asked_view block) block.ending own.0 own.1 c.in_ok-outcome.ensures.ends
+          block_goes s outcome old (zone_known new n) first opened_with.opening (zone_told origins pass c.requires.pass n inside) told under block.weight (asked_view block) block.ending own.0 own.1 c.in_ok-outcome.ensures.ends
           (subst (λ k. BlockRan s (asked_view block) block.ending (zone_known pass k) (zone_known new k) outcome) same ran))
           (λ differs. ap (λ (v : Known). ended v first) (w.others n differs));
     }

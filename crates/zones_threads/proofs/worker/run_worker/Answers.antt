@@ -11,7 +11,7 @@ use Rattle.job_commands.proofs.WorkLaws.{drop_here, take_here}
 use Rattle.zone_table.specs.Passes.{table_known}
 use Rattle.zone_table.proofs.KnownLaws.{seat_told}
 use Rattle.zones_model.specs.Commands.{Command}
-use Rattle.zones_report.specs.declared.outcomes.Done.{Done}
+use Rattle.zones_report.specs.declared.outcomes.CommandEnd.{CommandEnd}
 use Rattle.zones_threads.specs.Sites.{IsSaid}
 use Rattle.zones_threads.specs.Steps.{TableGoes}
 use Rattle.zones_report.specs.Outcomes.{AreOf, done_view, dones_view}
@@ -39,7 +39,7 @@ loop-place-init g c =
       heard = λ place lt. absurd (omega arith);
       said = c.requires.may.said;
       zones = subst (ZonesAt zones first first []) (sym none) (zones_start zones first);
-      table = λ b number same new. subst (λ (ds : List Done). TableWork b number (table_known first) (dones_view [] ds)) (sym none) (table_start b number (table_known first) new);
+      table = λ b number same new. subst (λ (ds : List CommandEnd). TableWork b number (table_known first) (dones_view [] ds)) (sym none) (table_start b number (table_known first) new);
     }
 
 pub enter-entered-requires-clause-free : goal.enter-entered-requires-clause-free
@@ -101,7 +101,7 @@ loop-place-preserved g c =
           (subst (ZonesAt zones first next (cs ++ command_view here ∷ [])) (sym pushed) (zones_next zones first now next cs ds (command_view here) d c.requires.may.pass i.pass alike i.zones goes.zones_go));
       table = λ b number same new.
           subst (λ (l : List Command). TableWork b number (table_known next) (dones_view l c.push.new.self.items)) (sym taken)
-          (subst (λ (l : List Done). TableWork b number (table_known next) (dones_view (cs ++ command_view here ∷ []) l)) (sym pushed)
+          (subst (λ (l : List CommandEnd). TableWork b number (table_known next) (dones_view (cs ++ command_view here ∷ []) l)) (sym pushed)
           (subst (TableWork b number (table_known next)) (sym (dones-push cs ds (command_view here) d alike))
           (table_next b number (table_known now) (table_known next) (dones_view cs ds) (done_view (command_view here) d) (seat_told now.table.seat i.pass.table_here) (i.table b number same new)
           (subst (λ (o : List Name). TableGoes o (done_view (command_view here) d) (table_known now) (table_known next)) (sym same) goes.table))));

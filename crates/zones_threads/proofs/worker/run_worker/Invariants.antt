@@ -6,7 +6,7 @@ use Rattle.zone_table.specs.Passes.{IsPassOf, table_known}
 use Rattle.zones_threads.specs.Sites.{IsSaid, Opens}
 use Rattle.zones_report.specs.Outcomes.{AreOf, dones_view}
 use Rattle.zones_script.specs.Views.{command_view}
-use Rattle.zones_threads.specs.Works.{TableSetup, TableWork}
+use Rattle.zones_threads.specs.Works.{TableOpenedWith, TableWork}
 use Rattle.zones_threads.proofs.WorkLaws.{ZonesAt}
 use Rattle.zones_threads.proofs.worker.run_worker.Given as goal
 
@@ -24,6 +24,6 @@ invariant-loop-place g l = record {
   heard : (place : ℕ) → place < l.place → IsHeard (g.G.Gate.hears l.fn.turnstile.gate.now) l.fn.turnstile.worker (next_number place);
   said : AllByRecursion (IsSaid l.zones.origins.items) (map command_view (drop l.place l.fn.turnstile.commands.now));
   zones : ZonesAt l.zones l.fn.pass l.pass (map command_view (take l.place l.fn.turnstile.commands.now)) l.list.items;
-  table : (b : TableSetup) (number : ℕ) → b.origins ≡ l.zones.origins.items → IsNew number b.opening (table_known l.fn.pass)
+  table : (b : TableOpenedWith) (number : ℕ) → b.origins ≡ l.zones.origins.items → IsNew number b.opening (table_known l.fn.pass)
       → TableWork b number (table_known l.pass) (dones_view (map command_view (take l.place l.fn.turnstile.commands.now)) l.list.items);
 }

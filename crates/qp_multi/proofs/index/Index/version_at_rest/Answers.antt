@@ -14,7 +14,7 @@ pub returns : goal.returns
 returns g c =
     let shared = c.args.self.shared.table.shared in
     let turn = c.in-Some.turn in
-    let seat = turn.desk.seat in
+    let seat = turn.writer.seat in
     let place : turn.place ≡ c.args.self.place = (let n = c.if-turn-place.false in omega arith) in
     let named : Some seat.place.table_id ≡ Some shared.table_id = sym turn.here ∙ ap (λ (p : ℕ). slice_get g.N.Named.tables p) place ∙ c.args.self.here in
     let table : seat.place.table_id ≡ shared.table_id = cc in

@@ -5,7 +5,7 @@ use Rattle.qp_multi.proofs.WorkLaws.{refusal_told, cause_told, crowded_told}
 use Rattle.qp_multi.proofs.transaction.Transaction.delete.Goals as goal
 
 pub returns-in-Err-Refused-clause-deletes : goal.returns-in-Err-Refused-clause-deletes
-returns-in-Err-Refused-clause-deletes g c = refusal_told _ _ c.args.self.now.locked.now.draft c.change.new.self.draft c.change.result c.in-Err-Refused.field-0 NotFound c.in-Err-Refused.is c.in-Err-Refused.field-0-is c.change.ensures.operates
+returns-in-Err-Refused-clause-deletes g c = refusal_told _ _ c.args.self.now.locked.now.working c.change.new.self.working c.change.result c.in-Err-Refused.field-0 NotFound c.in-Err-Refused.is c.in-Err-Refused.field-0-is c.change.ensures.operates
 
 pub returns-in-Err-Full-clause-cause : goal.returns-in-Err-Full-clause-cause
 returns-in-Err-Full-clause-cause g c f e =

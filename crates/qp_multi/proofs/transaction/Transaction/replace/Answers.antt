@@ -6,7 +6,7 @@ use Rattle.qp_multi.proofs.WorkLaws.{refusal_told, cause_told, crowded_told}
 use Rattle.qp_multi.proofs.transaction.Transaction.replace.Goals as goal
 
 pub returns-in-Err-Refused-clause-replaces : goal.returns-in-Err-Refused-clause-replaces
-returns-in-Err-Refused-clause-replaces g c = refusal_told _ _ c.args.self.now.locked.now.draft c.change.new.self.draft c.change.result c.in-Err-Refused.field-0 NotFound c.in-Err-Refused.is c.in-Err-Refused.field-0-is c.change.ensures.operates
+returns-in-Err-Refused-clause-replaces g c = refusal_told _ _ c.args.self.now.locked.now.working c.change.new.self.working c.change.result c.in-Err-Refused.field-0 NotFound c.in-Err-Refused.is c.in-Err-Refused.field-0-is c.change.ensures.operates
 
 pub returns-in-Err-Full-clause-cause : goal.returns-in-Err-Full-clause-cause
 returns-in-Err-Full-clause-cause g c f e =

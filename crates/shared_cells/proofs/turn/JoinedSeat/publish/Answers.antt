@@ -8,5 +8,5 @@ pub store-requires : goal.store-requires
 store-requires g c = (
   c.requires.table,
   some_word _ _ c.args.shared.now.wide,
-  may_publish g.L.Law.applied g.L.Law.lawful g.L.Law.permitted g.L.Law.stands _ _ _ _ _ c.args.root _ _ c.requires.can (c.word_of_version-word.ensures ∙ ap (λ (n : ℕ). current_word (n + 1) c.args.root) c.args.self.now.version_is),
+  may_publish g.L.HistoryLaw.applied g.L.HistoryLaw.lawful g.L.HistoryLaw.permitted g.L.HistoryLaw.stands _ _ _ _ _ c.args.root _ _ c.requires.can (c.word_of_version-word.ensures ∙ ap (λ (n : ℕ). current_word (n + 1) c.args.root) c.args.self.now.version_is),
 )

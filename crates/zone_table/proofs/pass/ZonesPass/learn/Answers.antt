@@ -3,7 +3,7 @@ use Rattle.qp_multi.specs.Passes.{known_at}
 use Rattle.zone_table.specs.Passes.{table_known}
 use Rattle.zone_table.specs.Tables.{IsTable}
 use Rattle.zone_table.proofs.KnownLaws.{opened_same, seat_told}
-use Rattle.zone_table.proofs.RecallLaws.{recalls_later}
+use Rattle.zone_table.proofs.RememberLaws.{remembers_later}
 use Rattle.zone_table.proofs.pass.ZonesPass.learn.Goals as goal
 
 pub returns-clause-pass : goal.returns-clause-pass
@@ -19,5 +19,5 @@ returns-clause-pass g c =
       opening = subst (IsTable origins) (sym (opened_same new (table_known p).seen (seat_told p.table.seat is.table_here) grows)) is.opening;
       zones_here = c.learn_each.ensures.here;
       zone_places = c.learn_each.ensures.places ∙ is.zone_places;
-      recalls = recalls_later origins new (table_known p).seen p.recalled.version p.recalled.attached grows is.recalls;
+      remembers = remembers_later origins new (table_known p).seen p.remembered.version p.remembered.attached grows is.remembers;
     }

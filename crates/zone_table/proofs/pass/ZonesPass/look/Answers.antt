@@ -3,11 +3,11 @@ use Rattle.zone_model.specs.Names.{Name}
 use Rattle.shared_cells.specs.declared.view.Progress.TheVariants as progress
 use Rattle.shared_cells.specs.Views.{with_progress}
 use Rattle.qp_multi.specs.Passes.{Known, known_at, version_seen, Pinned}
-use Rattle.zone_table.specs.Recalled.{AreAttached}
+use Rattle.zone_table.specs.Remembered.{AreAttached}
 use Rattle.zone_table.specs.Tables.{IsAmong}
 use Rattle.zone_table.proofs.KnownLaws.{pinned_left}
 use Rattle.zone_table.proofs.LookLaws.{looked}
-use Rattle.zone_table.proofs.RecallLaws.{still_attached}
+use Rattle.zone_table.proofs.RememberLaws.{still_attached}
 use Rattle.zone_table.proofs.pass.ZonesPass.look.Goals as goal
 
 pub returns : goal.returns
@@ -22,8 +22,8 @@ returns g c =
     let left : known_at new.seat ≡ with_progress q.seat.place.me.0 progress.Idle = c.drop-query.ensures.left ∙ ap (λ x. with_progress x.seat.place.me.0 progress.Idle) same in
     let pinned = pinned_left IsAmong (known_at p.table.seat) q.seat.place.me.0 (known_at new.seat) progress.Idle q.seat.version own left in
     let number = c.version.ensures.number ∙ ap (λ x. x.seat.version) c.look.ensures.same in
-    let looked_at = c.look.ensures.attached es c.query-query.ensures.holds (λ is. subst (λ (names : List Name). AreAttached names es p.recalled.attached) (sym c.deref.ensures.value)
-    (still_attached origins q.seat.place.me.0.seen (known_at p.table.seat).seen p.recalled.version q.seat.version p.recalled.attached c.requires.pass.recalls own.grows own.version is)) in
+    let looked_at = c.look.ensures.attached es c.query-query.ensures.holds (λ is. subst (λ (names : List Name). AreAttached names es p.remembered.attached) (sym c.deref.ensures.value)
+    (still_attached origins q.seat.place.me.0.seen (known_at p.table.seat).seen p.remembered.version q.seat.version p.remembered.attached c.requires.pass.remembers own.grows own.version is)) in
     let are = subst (λ (v : Known). AreAttached origins (version_seen v.seen) c.look.new.self.attached) (sym left)
     (subst (λ (names : List Name). AreAttached names es c.look.new.self.attached) c.deref.ensures.value looked_at) in
     let place = c.drop-query.ensures.place ∙ ap (λ x. x.place) same ∙ c.query-query.ensures.place ∙ c.requires.pass.table_place in

@@ -2,7 +2,7 @@ use Rattle.std.proofs.Common.{rules, ◌≡◌, ◌∙◌, ◌<◌, [], None, le
 use Rattle.dns_name.proofs.WireLemmas.{ended, shorter, stepped, wire_some}
 use Rattle.zone_model.specs.Names.{Name, wire}
 use Rattle.zone_table.specs.Locations.{IsZoneOf}
-use Rattle.zone_table.specs.Recalled.{IsAt}
+use Rattle.zone_table.specs.Remembered.{IsAt}
 use Rattle.zone_table.proofs.OriginLaws.{zone_above, zone_here, zone_none}
 use Rattle.zone_table.proofs.zones.Zones.+deepest.Goals as goal
 

@@ -17,8 +17,8 @@ use Rattle.zone_table.proofs.zones.Zones.attach.Goals as goal
 pub commit-requires-clause-lawful : goal.commit-requires-clause-lawful
 commit-requires-clause-lawful g c =
     may_commit IsThere (Insert (entry_for c.index-origin.result.now)) (λ es. IsAttached es c.index-origin.result.now) c.args.self.now.origins.items c.args.pass.now c.requires.pass
-    c.write-write.result.locked.now.draft c.insert.new.self.locked.now.draft c.write-write.ensures.begins
-    (inserts_as IsThere c.write-write.result.locked.now.draft c.insert.new.self.locked.now.draft (Ok tt) c.of.result (key_of c.index-origin.result.now) c.wire.result.now (wire c.index-origin.result.now) c.of.ensures c.wire.ensures.wire c.in-Ok.ensures.inserts)
+    c.write-write.result.locked.now.working c.insert.new.self.locked.now.working c.write-write.ensures.begins
+    (inserts_as IsThere c.write-write.result.locked.now.working c.insert.new.self.locked.now.working (Ok tt) c.of.result (key_of c.index-origin.result.now) c.wire.result.now (wire c.index-origin.result.now) c.of.ensures c.wire.ensures.wire c.in-Ok.ensures.inserts)
     (let origins = c.args.self.now.origins.items in
     insert_puts _ (entry_for c.index-origin.result.now) (c.requires.pass.opening.all c.index-origin.result.now
     (contains_at origins c.args.zone c.index-origin.result.now (read_at origins c.args.zone c.index-origin.result.now c.requires.zone c.index-origin.ensures))))
@@ -28,8 +28,8 @@ returns-in-Ok g c =
     let old = table_known c.args.pass.now in
     let new = c.commit.new.self.0 in
     let done = committed IsThere (Insert (entry_for c.index-origin.result.now)) (λ es. IsAttached es c.index-origin.result.now) c.args.self.now.origins.items c.args.pass.now c.requires.pass
-    c.write-write.result.locked.now.draft c.insert.new.self.locked.now.draft c.write-write.ensures.begins new c.commit.result
-    (inserts_as IsThere c.write-write.result.locked.now.draft c.insert.new.self.locked.now.draft (Ok tt) c.of.result (key_of c.index-origin.result.now) c.wire.result.now (wire c.index-origin.result.now) c.of.ensures c.wire.ensures.wire c.in-Ok.ensures.inserts)
+    c.write-write.result.locked.now.working c.insert.new.self.locked.now.working c.write-write.ensures.begins new c.commit.result
+    (inserts_as IsThere c.write-write.result.locked.now.working c.insert.new.self.locked.now.working (Ok tt) c.of.result (key_of c.index-origin.result.now) c.wire.result.now (wire c.index-origin.result.now) c.of.ensures c.wire.ensures.wire c.in-Ok.ensures.inserts)
     c.commit.ensures.here (c.commit.ensures.place ∙ c.insert.ensures.place ∙ c.write-write.ensures.place ∙ c.args.self.now.table_place)
     c.commit.ensures.commits c.commit.ensures.version c.commit.ensures.back c.commit.ensures.spent c.commit.ensures.last in
     record {
@@ -37,8 +37,8 @@ returns-in-Ok g c =
       others = refl {a = c.args.pass.now.zones};
       attaches = if_read (λ x. Attaches x old (known_at new.seat) c.committed.result) c.args.self.now.origins.items c.args.zone c.index-origin.result.now c.requires.zone c.index-origin.ensures
           (attached c.index-origin.result.now old (known_at new.seat) c.commit.result c.committed.result c.committed.ensures done.ends);
-      receipt = receipt_told IsThere (Insert (entry_for c.index-origin.result.now)) (λ es. IsAttached es c.index-origin.result.now) c.args.self.now.origins.items c.args.pass.now c.requires.pass c.write-write.result.locked.now.draft c.insert.new.self.locked.now.draft c.write-write.ensures.begins (known_at new.seat) c.commit.result c.committed.result
-          (inserts_as IsThere c.write-write.result.locked.now.draft c.insert.new.self.locked.now.draft (Ok tt) c.of.result (key_of c.index-origin.result.now) c.wire.result.now (wire c.index-origin.result.now) c.of.ensures c.wire.ensures.wire c.in-Ok.ensures.inserts) c.commit.ensures.receipt c.committed.ensures;
+      receipt = receipt_told IsThere (Insert (entry_for c.index-origin.result.now)) (λ es. IsAttached es c.index-origin.result.now) c.args.self.now.origins.items c.args.pass.now c.requires.pass c.write-write.result.locked.now.working c.insert.new.self.locked.now.working c.write-write.ensures.begins (known_at new.seat) c.commit.result c.committed.result
+          (inserts_as IsThere c.write-write.result.locked.now.working c.insert.new.self.locked.now.working (Ok tt) c.of.result (key_of c.index-origin.result.now) c.wire.result.now (wire c.index-origin.result.now) c.of.ensures c.wire.ensures.wire c.in-Ok.ensures.inserts) c.commit.ensures.receipt c.committed.ensures;
     }
 
 pub returns-in-Err-Exists : goal.returns-in-Err-Exists
@@ -47,9 +47,9 @@ returns-in-Err-Exists g c =
     let new = c.drop-write.new.self.0 in
     let number = c.version-version.result in
     let done = refused IsThere (Insert (entry_for c.index-origin.result.now)) (λ es. IsAttached es c.index-origin.result.now) c.args.self.now.origins.items c.args.pass.now c.requires.pass
-    c.write-write.result.locked.now.draft c.insert.new.self.locked.now.draft c.write-write.ensures.begins new number c.insert.new.self.locked.now.place
-    (inserts_as IsThere c.write-write.result.locked.now.draft c.insert.new.self.locked.now.draft (Err IsThere) c.of.result (key_of c.index-origin.result.now) c.wire.result.now (wire c.index-origin.result.now) c.of.ensures c.wire.ensures.wire
-    (subst (λ (x : InsertRefusal). Inserts IsThere c.write-write.result.locked.now.draft c.insert.new.self.locked.now.draft (Err x) c.of.result c.wire.result.now) c.in-Err-Exists.field-0-is c.in-Err-Exists.ensures.inserts))
+    c.write-write.result.locked.now.working c.insert.new.self.locked.now.working c.write-write.ensures.begins new number c.insert.new.self.locked.now.place
+    (inserts_as IsThere c.write-write.result.locked.now.working c.insert.new.self.locked.now.working (Err IsThere) c.of.result (key_of c.index-origin.result.now) c.wire.result.now (wire c.index-origin.result.now) c.of.ensures c.wire.ensures.wire
+    (subst (λ (x : InsertRefusal). Inserts IsThere c.write-write.result.locked.now.working c.insert.new.self.locked.now.working (Err x) c.of.result c.wire.result.now) c.in-Err-Exists.field-0-is c.in-Err-Exists.ensures.inserts))
     c.drop-write.ensures.back c.drop-write.ensures.place (c.insert.ensures.place ∙ c.write-write.ensures.place ∙ c.args.self.now.table_place) c.version-version.ensures in
     record {
       pass = done.pass;
@@ -66,7 +66,7 @@ unreachable-requires g c =
     let most = c.args.self.now.few in
     let few : length c.args.self.now.origins.items ≤ 16 = omega arith in
     has_room IsThere (Insert (entry_for c.index-origin.result.now)) (λ es. IsAttached es c.index-origin.result.now) c.args.self.now.origins.items c.args.pass.now c.requires.pass
-    c.write-write.result.locked.now.draft c.insert.new.self.locked.now.draft c.write-write.ensures.begins c.args.self.now.names few c.write-write.ensures.few_operations
-    (one_and (λ d. d.seat.passes ≡ table.passes) (λ d. d.seat.passes ≤ 17) c.write-write.result.locked.now.draft (λ d is. (let p = c.args.self.now.passes in omega arith)) c.write-write.ensures.passes)
-    (one_and (λ d. length d.usage.given ≡ table.chunks) (λ d. length d.usage.given ≡ 512) c.write-write.result.locked.now.draft (λ d is. is ∙ c.args.self.now.chunks) c.write-write.ensures.chunks)
+    c.write-write.result.locked.now.working c.insert.new.self.locked.now.working c.write-write.ensures.begins c.args.self.now.names few c.write-write.ensures.few_operations
+    (one_and (λ d. d.seat.passes ≡ table.passes) (λ d. d.seat.passes ≤ 17) c.write-write.result.locked.now.working (λ d is. (let p = c.args.self.now.passes in omega arith)) c.write-write.ensures.passes)
+    (one_and (λ d. length d.usage.given ≡ table.chunks) (λ d. length d.usage.given ≡ 512) c.write-write.result.locked.now.working (λ d is. is ∙ c.args.self.now.chunks) c.write-write.ensures.chunks)
     (c.in-Err-Full.ensures.cramped c.in-Err-Full.field-0-0 (ap (λ (x : InsertRefusal). Err x) c.in-Err-Full.field-0-is))

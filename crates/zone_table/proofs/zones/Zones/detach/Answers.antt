@@ -15,8 +15,8 @@ use Rattle.zone_table.proofs.zones.Zones.detach.Goals as goal
 pub commit-requires-clause-lawful : goal.commit-requires-clause-lawful
 commit-requires-clause-lawful g c =
     may_commit NotFound (Delete (key_of c.index-origin.result.now)) (Missing' (key_of c.index-origin.result.now)) c.args.self.now.origins.items c.args.pass.now c.requires.pass
-    c.write-write.result.locked.now.draft c.delete.new.self.locked.now.draft c.write-write.ensures.begins
-    (deletes_as NotFound c.write-write.result.locked.now.draft c.delete.new.self.locked.now.draft (Ok tt) c.of.result (key_of c.index-origin.result.now) c.of.ensures c.in-Ok.ensures.deletes)
+    c.write-write.result.locked.now.working c.delete.new.self.locked.now.working c.write-write.ensures.begins
+    (deletes_as NotFound c.write-write.result.locked.now.working c.delete.new.self.locked.now.working (Ok tt) c.of.result (key_of c.index-origin.result.now) c.of.ensures c.in-Ok.ensures.deletes)
     (delete_puts _ (key_of c.index-origin.result.now))
 
 pub returns-in-Ok : goal.returns-in-Ok
@@ -24,8 +24,8 @@ returns-in-Ok g c =
     let old = table_known c.args.pass.now in
     let new = c.commit.new.self.0 in
     let done = committed NotFound (Delete (key_of c.index-origin.result.now)) (Missing' (key_of c.index-origin.result.now)) c.args.self.now.origins.items c.args.pass.now c.requires.pass
-    c.write-write.result.locked.now.draft c.delete.new.self.locked.now.draft c.write-write.ensures.begins new c.commit.result
-    (deletes_as NotFound c.write-write.result.locked.now.draft c.delete.new.self.locked.now.draft (Ok tt) c.of.result (key_of c.index-origin.result.now) c.of.ensures c.in-Ok.ensures.deletes)
+    c.write-write.result.locked.now.working c.delete.new.self.locked.now.working c.write-write.ensures.begins new c.commit.result
+    (deletes_as NotFound c.write-write.result.locked.now.working c.delete.new.self.locked.now.working (Ok tt) c.of.result (key_of c.index-origin.result.now) c.of.ensures c.in-Ok.ensures.deletes)
     c.commit.ensures.here (c.commit.ensures.place ∙ c.delete.ensures.place ∙ c.write-write.ensures.place ∙ c.args.self.now.table_place)
     c.commit.ensures.commits c.commit.ensures.version c.commit.ensures.back c.commit.ensures.spent c.commit.ensures.last in
     record {
@@ -33,8 +33,8 @@ returns-in-Ok g c =
       others = refl {a = c.args.pass.now.zones};
       detaches = if_read (λ x. Detaches x old (known_at new.seat) c.committed.result) c.args.self.now.origins.items c.args.zone c.index-origin.result.now c.requires.zone c.index-origin.ensures
           (detached c.index-origin.result.now old (known_at new.seat) c.commit.result c.committed.result c.committed.ensures done.ends);
-      receipt = receipt_told NotFound (Delete (key_of c.index-origin.result.now)) (Missing' (key_of c.index-origin.result.now)) c.args.self.now.origins.items c.args.pass.now c.requires.pass c.write-write.result.locked.now.draft c.delete.new.self.locked.now.draft c.write-write.ensures.begins (known_at new.seat) c.commit.result c.committed.result
-          (deletes_as NotFound c.write-write.result.locked.now.draft c.delete.new.self.locked.now.draft (Ok tt) c.of.result (key_of c.index-origin.result.now) c.of.ensures c.in-Ok.ensures.deletes) c.commit.ensures.receipt c.committed.ensures;
+      receipt = receipt_told NotFound (Delete (key_of c.index-origin.result.now)) (Missing' (key_of c.index-origin.result.now)) c.args.self.now.origins.items c.args.pass.now c.requires.pass c.write-write.result.locked.now.working c.delete.new.self.locked.now.working c.write-write.ensures.begins (known_at new.seat) c.commit.result c.committed.result
+          (deletes_as NotFound c.write-write.result.locked.now.working c.delete.new.self.locked.now.working (Ok tt) c.of.result (key_of c.index-origin.result.now) c.of.ensures c.in-Ok.ensures.deletes) c.commit.ensures.receipt c.committed.ensures;
     }
 
 pub returns-in-Err-NotFound : goal.returns-in-Err-NotFound
@@ -43,9 +43,9 @@ returns-in-Err-NotFound g c =
     let new = c.drop-write.new.self.0 in
     let number = c.version-version.result in
     let done = refused NotFound (Delete (key_of c.index-origin.result.now)) (Missing' (key_of c.index-origin.result.now)) c.args.self.now.origins.items c.args.pass.now c.requires.pass
-    c.write-write.result.locked.now.draft c.delete.new.self.locked.now.draft c.write-write.ensures.begins new number c.delete.new.self.locked.now.place
-    (deletes_as NotFound c.write-write.result.locked.now.draft c.delete.new.self.locked.now.draft (Err NotFound) c.of.result (key_of c.index-origin.result.now) c.of.ensures
-    (subst (λ (x : ChangeRefusal). Deletes NotFound c.write-write.result.locked.now.draft c.delete.new.self.locked.now.draft (Err x) c.of.result) c.in-Err-NotFound.field-0-is c.in-Err-NotFound.ensures.deletes))
+    c.write-write.result.locked.now.working c.delete.new.self.locked.now.working c.write-write.ensures.begins new number c.delete.new.self.locked.now.place
+    (deletes_as NotFound c.write-write.result.locked.now.working c.delete.new.self.locked.now.working (Err NotFound) c.of.result (key_of c.index-origin.result.now) c.of.ensures
+    (subst (λ (x : ChangeRefusal). Deletes NotFound c.write-write.result.locked.now.working c.delete.new.self.locked.now.working (Err x) c.of.result) c.in-Err-NotFound.field-0-is c.in-Err-NotFound.ensures.deletes))
     c.drop-write.ensures.back c.drop-write.ensures.place (c.delete.ensures.place ∙ c.write-write.ensures.place ∙ c.args.self.now.table_place) c.version-version.ensures in
     record {
       pass = done.pass;
@@ -62,7 +62,7 @@ unreachable-requires g c =
     let most = c.args.self.now.few in
     let few : length c.args.self.now.origins.items ≤ 16 = omega arith in
     has_room NotFound (Delete (key_of c.index-origin.result.now)) (Missing' (key_of c.index-origin.result.now)) c.args.self.now.origins.items c.args.pass.now c.requires.pass
-    c.write-write.result.locked.now.draft c.delete.new.self.locked.now.draft c.write-write.ensures.begins c.args.self.now.names few c.write-write.ensures.few_operations
-    (one_and (λ d. d.seat.passes ≡ table.passes) (λ d. d.seat.passes ≤ 17) c.write-write.result.locked.now.draft (λ d is. (let p = c.args.self.now.passes in omega arith)) c.write-write.ensures.passes)
-    (one_and (λ d. length d.usage.given ≡ table.chunks) (λ d. length d.usage.given ≡ 512) c.write-write.result.locked.now.draft (λ d is. is ∙ c.args.self.now.chunks) c.write-write.ensures.chunks)
+    c.write-write.result.locked.now.working c.delete.new.self.locked.now.working c.write-write.ensures.begins c.args.self.now.names few c.write-write.ensures.few_operations
+    (one_and (λ d. d.seat.passes ≡ table.passes) (λ d. d.seat.passes ≤ 17) c.write-write.result.locked.now.working (λ d is. (let p = c.args.self.now.passes in omega arith)) c.write-write.ensures.passes)
+    (one_and (λ d. length d.usage.given ≡ table.chunks) (λ d. length d.usage.given ≡ 512) c.write-write.result.locked.now.working (λ d is. is ∙ c.args.self.now.chunks) c.write-write.ensures.chunks)
     (c.in-Err-Full.ensures.cramped c.in-Err-Full.field-0-0 (ap (λ (x : ChangeRefusal). Err x) c.in-Err-Full.field-0-is))

@@ -1,18 +1,18 @@
 use Rattle.std.proofs.Common.{◌∙◌, map, ap}
 use Rattle.std.proofs.lemmas.List.{length-map}
 use Rattle.zone_table.specs.Openings.{places_of}
-use Rattle.zone_table.proofs.DealLaws.{same_sizes}
+use Rattle.zone_table.proofs.HandingLaws.{same_sizes}
 use Rattle.zone_table.proofs.OpeningLaws.{begun_within, begun_fit}
 use Rattle.zone_table.proofs.zones.Zones.open.Goals as goal
 
-pub returns-in-Ok-assemble-clause-sizes : goal.returns-in-Ok-assemble-clause-sizes
-returns-in-Ok-assemble-clause-sizes g c =
-    ap (map (λ z. z.shared.table.shared.key)) c.in-Ok-assemble.ensures.indexes
+pub returns-in-Ok-build-clause-sizes : goal.returns-in-Ok-build-clause-sizes
+returns-in-Ok-build-clause-sizes g c =
+    ap (map (λ z. z.shared.table.shared.key)) c.in-Ok-build.ensures.indexes
     ∙ same_sizes c.args.zones.now (map (λ b. b.shared.table.shared.key) c.args.blanks.items) c.args.table.shared.table.shared.key.passes c.in-Ok.opened.items
     (length-map c.args.blanks.items (λ b. b.shared.table.shared.key) ∙ c.requires.each) c.requires.passes c.in-Ok.ensures
 
-pub returns-in-Err-assemble-clause-refused : goal.returns-in-Err-assemble-clause-refused
-returns-in-Err-assemble-clause-refused g c = begun_fit (places_of c.args.zones.now (map (λ b. b.shared.table.shared.key) c.args.blanks.items)) c.in-Ok.opened.items c.in-Ok.ensures
+pub returns-in-Err-build-clause-refused : goal.returns-in-Err-build-clause-refused
+returns-in-Err-build-clause-refused g c = begun_fit (places_of c.args.zones.now (map (λ b. b.shared.table.shared.key) c.args.blanks.items)) c.in-Ok.opened.items c.in-Ok.ensures
 
-pub returns-in-Ok-assemble-clause-fits : goal.returns-in-Ok-assemble-clause-fits
-returns-in-Ok-assemble-clause-fits g c = begun_within (places_of c.args.zones.now (map (λ b. b.shared.table.shared.key) c.args.blanks.items)) c.in-Ok.opened.items c.in-Ok.ensures
+pub returns-in-Ok-build-clause-fits : goal.returns-in-Ok-build-clause-fits
+returns-in-Ok-build-clause-fits g c = begun_within (places_of c.args.zones.now (map (λ b. b.shared.table.shared.key) c.args.blanks.items)) c.in-Ok.opened.items c.in-Ok.ensures

@@ -1,5 +1,5 @@
 use Rattle.std.specs.Prelude.{◌≡◌, ◌<◌, ℕ, Some, slice_get}
-use Rattle.zone_table.specs.Recalled.{IsAt}
+use Rattle.zone_table.specs.Remembered.{IsAt}
 use Rattle.zone_table.proofs.zones.Zones.zone_at.Given as goal
 
 -- it is none of those before

@@ -1,9 +1,0 @@
-use Rattle.std.proofs.Common.{◌-◌}
-use Rattle.evacuate.specs.Trails.{TrailKept}
-use Rattle.evacuate.proofs.trail.+last_below.Given as goal
-
-abbrev pub decreases-last_below : goal.decreases-last_below
-decreases-last_below g l = 504 - l.low
-
-abbrev pub invariant-loop-i : goal.invariant-loop-i
-invariant-loop-i g l = TrailKept l.fn.cells l.cells l.fn.low l.fn.trail l.trail

@@ -1,4 +1,0 @@
-use Rattle.qp_multi.proofs.desk.Draft.make_room.Given as goal
-
-abbrev pub ghosts-free_unreached : goal.ghosts-free_unreached
-ghosts-free_unreached g a = record { table = a.seat.place.table_id; view = a.seat.place.me.0 }

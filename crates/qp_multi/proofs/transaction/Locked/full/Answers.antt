@@ -1,5 +1,0 @@
-use Rattle.std.proofs.Common.{refl}
-use Rattle.qp_multi.proofs.transaction.Locked.full.Goals as goal
-
-pub returns : goal.returns
-returns g c = (c.kept.result, c.kept.ensures, refl)
