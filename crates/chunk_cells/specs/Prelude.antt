@@ -4,4 +4,4 @@ pub use Rattle.packed_node.specs.declared.Cell.{Cell}
 pub use Rattle.trie_model.specs.Extents.{HasItem, IsBeside, ItemLies, LiesAt, content_cells, first_of, item_cell, link_cell, linked_cells, links}
 pub use Rattle.trie_model.specs.Keys.{AreOctets, IsItem}
 pub use Rattle.chunk_cells.specs.Chunks.{IsGiven}
-pub use Rattle.chunk_cells.specs.Laying.{AreBlank, extents_at, extents_in}
+pub use Rattle.chunk_cells.specs.Laying.{AreBlank, CanCopyAmong, CanLayAt, CanLayCells, CanReadCells, CanReadLast, extents_at, extents_in}

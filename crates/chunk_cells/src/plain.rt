@@ -1,7 +1,7 @@
 //! Cells of one thread, in a vector.
 
-ghost use Rattle.std.specs.Prelude.{◌≡◌, ◌≢◌, ◌+◌, ◌<◌, ◌≤◌, ◌*◌, ◌^◌, ℕ, List, [], false, Some, IfOk, length, replicate, slice_get};
-ghost use Rattle.packed_node.specs.declared.Cell.{Cell};
+ghost use Rattle.std.specs.Prelude.{◌≡◌, ◌≢◌, ◌+◌, ◌<◌, ◌≤◌, ◌*◌, ℕ, List, [], false, Some, IfOk, length, replicate, slice_get};
+ghost use Rattle.chunk_cells.specs.Prelude.{Cell, CanCopyAmong};
 
 use super::{CellRead, CellWrite};
 use packed_node::{CHUNK_CELLS, Cell, Ref};
@@ -73,11 +73,7 @@ impl CellWrite for PlainCells {
 
 /// Copies n of some cells to others.
 fn copy_among(cells: &mut [Cell], from: Ref, to: Ref, n: u32)
-    requires inside { from + n ≤ 2 ^ 22 }
-    requires within { to + n ≤ 2 ^ 22 }
-    requires there { (i : ℕ) → i < n → from + i < length cells.old }
-    requires room { (i : ℕ) → i < n → to + i < length cells.old }
-    requires apart { (i j : ℕ) → i < n → j < n → from + i ≢ to + j }
+    requires { CanCopyAmong (length cells.old) from to n }
     ensures copied { (i : ℕ) (c : Cell) → i < n → slice_get cells.old (from + i) ≡ Some c → slice_get cells.new (to + i) ≡ Some c }
     ensures others { (q : ℕ) (c : Cell) → ((i : ℕ) → i < n → q ≢ to + i) → slice_get cells.old q ≡ Some c → slice_get cells.new q ≡ Some c }
     ensures length { length cells.new ≡ length cells.old }

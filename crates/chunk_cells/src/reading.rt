@@ -1,7 +1,7 @@
 //! Items read.
 
-ghost use Rattle.std.specs.Prelude.{◌≡◌, ◌+◌, ◌*◌, ◌^◌, ◌<◌, ◌≤◌, ℕ, List, length, min, take, drop, slice_index};
-ghost use Rattle.chunk_cells.specs.Prelude.{w64, from_le_bytes, to_le_bytes, Cell, HasItem, content_cells, item_cell, AreOctets, IsItem};
+ghost use Rattle.std.specs.Prelude.{◌≡◌, ◌+◌, ◌*◌, ◌<◌, ◌≤◌, ℕ, List, length, min, take, drop, slice_index};
+ghost use Rattle.chunk_cells.specs.Prelude.{w64, from_le_bytes, to_le_bytes, Cell, HasItem, content_cells, item_cell, AreOctets, IsItem, CanReadCells, CanReadLast};
 
 use super::CellRead;
 use super::extents::{LAST_OCTETS, LINK_PLACE, LINKED_OCTETS, content_cells_for, next_extent};
@@ -43,10 +43,7 @@ fn read_extents<C: CellRead>(cells: &mut C, at: Ref, len: u16, out: &mut [u8])
 
 /// Reads octets that lie side by side. Where `out` ends before the last cell does, that one is read octet by octet.
 fn read_last<C: CellRead>(cells: &mut C, at: Ref, len: u16, out: &mut [u8])
-    requires room { len ≤ length out.old }
-    requires short { len ≤ 4096 }
-    requires inside { at + content_cells len ≤ 2 ^ 22 }
-    requires there { (k : ℕ) → k < content_cells len → (c : Cell) × C.has cells.old (at + k) c }
+    requires { CanReadLast (C.has cells.old) at len (length out.old) }
     ensures same { cells.new ≡ cells.old }
     ensures octets { (item : List ℕ) → AreOctets item → ((k : ℕ) → k < content_cells len → C.has cells.old (at + k) (item_cell item k))
         → (i : ℕ) → i < len → slice_index out.new i ≡ slice_index item i }
@@ -75,9 +72,7 @@ pub fn read_front<C: CellRead>(cells: &mut C, leaf: Leaf, out: &mut [u8; 256]) -
 
 /// Reads the octets of so many cells, from `at` on, into the beginning of `out`.
 fn read_cells<C: CellRead>(cells: &mut C, at: Ref, count: u32, out: &mut [u8])
-    requires room { 16 * count ≤ length out.old }
-    requires inside { at + count ≤ 2 ^ 22 }
-    requires there { (k : ℕ) → k < count → (c : Cell) × C.has cells.old (at + k) c }
+    requires { CanReadCells (C.has cells.old) at count (length out.old) }
     ensures same { cells.new ≡ cells.old }
     ensures octets { (item : List ℕ) → AreOctets item → ((k : ℕ) → k < count → C.has cells.old (at + k) (item_cell item k))
         → (i : ℕ) → i < 16 * count → slice_index out.new i ≡ slice_index item i }

@@ -1,8 +1,8 @@
 //! Items written: 16 octets a cell, the last one filled up with zeros.
 
-ghost use Rattle.std.specs.Prelude.{◌≡◌, ◌≢◌, ◌+◌, ◌*◌, ◌/◌, ◌^◌, ◌<◌, ◌≤◌, ℕ, Contains, length, drop, slice_index};
+ghost use Rattle.std.specs.Prelude.{◌≡◌, ◌≢◌, ◌+◌, ◌*◌, ◌<◌, ◌≤◌, ℕ, length, drop, slice_index};
 ghost use Rattle.chunk_cells.specs.Prelude.{w64, from_le_bytes, Cell, IsBeside, ItemLies, item_cell};
-ghost use Rattle.chunk_cells.specs.Prelude.{links, IsGiven, AreBlank, extents_at, extents_in};
+ghost use Rattle.chunk_cells.specs.Prelude.{CanLayAt, CanLayCells, links, AreBlank, extents_at, extents_in};
 
 use super::CellWrite;
 use super::extents::{Extents, LAST_OCTETS, LINK_PLACE, LINKED_OCTETS, content_cells_for, link_to};
@@ -24,8 +24,7 @@ pub fn write_item<C: CellWrite>(cells: &mut C, extents: &Extents, item: &[u8])
 
 /// Writes octets into extents, the last one first.
 fn write_extents<C: CellWrite>(cells: &mut C, at: &[Ref], item: &[u8])
-    requires enough { links (length item.now) < length at.now }
-    requires blank { AreBlank (C.kept cells.old) (C.given cells.old) (length item.now) (extents_at (links (length item.now)) at.now) }
+    requires { CanLayAt (C.kept cells.old) (C.given cells.old) at.now (length item.now) }
     ensures lies { ItemLies (C.has cells.new) (extents_at (links (length item.now)) at.now) item.now }
     ensures others { (q : ℕ) (c : Cell) → IsBeside q (length item.now) (extents_at (links (length item.now)) at.now) → C.has cells.old q c → C.has cells.new q c }
     ensures given { C.given cells.new ≡ C.given cells.old }
@@ -41,10 +40,7 @@ fn write_extents<C: CellWrite>(cells: &mut C, at: &[Ref], item: &[u8])
 
 /// Writes the first octets of an item into so many cells, from `at` on.
 fn write_cells<C: CellWrite>(cells: &mut C, at: Ref, count: u32, item: &[u8])
-    requires few { count ≤ 256 }
-    requires inside { at + count ≤ 2 ^ 22 }
-    requires given { (k : ℕ) → k < count → IsGiven (C.given cells.old) ((at + k) / 1024) }
-    requires unkept { (k : ℕ) → k < count → ¬ Contains (C.kept cells.old) (at + k) }
+    requires { CanLayCells (C.kept cells.old) (C.given cells.old) at count }
     ensures lies { (k : ℕ) → k < count → C.has cells.new (at + k) (item_cell item.now k) }
     ensures others { (q : ℕ) (c : Cell) → ((k : ℕ) → k < count → q ≢ at + k) → C.has cells.old q c → C.has cells.new q c }
     ensures given { C.given cells.new ≡ C.given cells.old }

@@ -1,6 +1,7 @@
 -- How many cells of each chunk count, and which chunks are sparse.
-use Rattle.std.specs.Prelude.{ℕ, nat_lt, nat_le, Bool, false, not, ◌&&◌, if◌then◌else◌, Option, None, Some, List, map, length, count_by, slice_index, slice_index_or}
+use Rattle.std.specs.Prelude.{◌≡◌, ℕ, ◌<◌, ◌≤◌, nat_lt, nat_le, Bool, false, not, ◌&&◌, if◌then◌else◌, Option, None, Some, List, map, length, count_by, slice_index, slice_index_or}
 use Rattle.std.specs.List.{range_with_len}
+use Rattle.chunk_sets.specs.ChunkSets.{has}
 use Rattle.chunk_usage.specs.declared.bump.Bump.{Bump}
 use Rattle.chunk_usage.specs.Ledger.{Ledger, is_given, is_bump, filled}
 
@@ -37,3 +38,13 @@ sparse_count l = count_by (is_sparse l) (range_with_len 0 (length l.given))
 abbrev pub bump_low : List ℕ → Option Bump → ℕ
 bump_low live None = 0
 bump_low live (Some o) = if is_low (slice_index live o.chunk) then 1 else 0
+
+-- a chunk of which so many cells count, among the chunks with a cell that counts, and how many these are
+pub record IsMarked (counted : List Bool) (used chunk before : ℕ) : Type 0 where
+  pub inside : chunk < length counted
+  -- it is one of them just where some do
+  pub was : has counted chunk ≡ nat_lt 0 before
+  -- they are no more than a table's chunks
+  pub few : used ≤ 4096
+  -- it is counted where it is one
+  pub some : (if nat_lt 0 before then 1 else 0) ≤ used

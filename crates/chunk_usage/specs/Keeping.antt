@@ -1,8 +1,10 @@
 -- Kept versions, and chunks that nothing reaches: what each call makes of a ledger.
-use Rattle.std.specs.Prelude.{ℕ, ◌<◌, nat_lt, ◌==◌, Bool, false, not, ◌&&◌, ◌||◌, Option, None, Some, List, [], ◌∷◌, ◌++◌, length, map, filter, replicate, slice_index}
+use Rattle.std.specs.Prelude.{◌≡◌, ℕ, ◌+◌, ◌/◌, ◌<◌, ◌≤◌, true, nat_lt, ◌==◌, Bool, false, not, ◌&&◌, ◌||◌, Option, None, Some, List, [], ◌∷◌, ◌++◌, length, map, filter, replicate, slice_index, take, Contains}
 use Rattle.std.specs.List.{AllByRecursion, list_any, range_with_len}
+use Rattle.packed_node.specs.declared.Cell.{Cell}
+use Rattle.chunk_sets.specs.ChunkSets.{has}
 use Rattle.chunk_usage.specs.declared.bump.Bump.{Bump}
-use Rattle.chunk_usage.specs.Ledger.{Ledger, Row, row_of, is_in_row, is_given, is_bump}
+use Rattle.chunk_usage.specs.Ledger.{Ledger, Row, Rising, row_of, is_in_row, is_given, is_bump, free_count}
 
 -- the bump chunk counts as filled
 abbrev pub full : Option Bump → Option Bump
@@ -43,6 +45,12 @@ without_row version rows = filter (λ r. not (is_row_of version r)) rows
 abbrev pub dropped : Ledger → ℕ → Ledger
 dropped l version = record l { rows = without_row version l.rows }
 
+-- the version is in one of the first slots, which come in the order of their versions
+pub record CanForget (slots : List Row) (rows version : ℕ) : Type 0 where
+  pub within : rows ≤ length slots
+  pub kept : is_kept (take rows slots) version ≡ true
+  pub rising : Rising (take rows slots)
+
 -- the version is one of these; the rows of these versions; and the ledger that has no others
 abbrev pub is_among : List ℕ → ℕ → Bool
 is_among versions version = list_any (λ v. v == version) versions
@@ -72,3 +80,29 @@ is_unreached l chunk = is_given l chunk && not (is_needed l chunk)
 -- each such chunk is free
 abbrev pub freed : Ledger → Ledger
 freed l = record l { given = map (λ chunk. is_given l chunk && is_needed l chunk) (range_with_len 0 (length l.given)) }
+
+-- the usage afterwards, of which so many chunks more are free
+pub record FreesUnreached (old new : Ledger) (count : ℕ) : Type 0 where
+  pub after : new ≡ freed old
+  -- by chunk: what was given and is needed still is
+  pub by_chunk : (k : ℕ) → is_given new k ≡ (is_given old k && is_needed old k)
+  pub more : free_count new ≡ free_count old + count
+
+-- these of the given chunks can be freed
+pub record CanFree {S : Type 0} (kept : S → List ℕ) (given : S → List Bool) (chunks all : List Bool) (s : S) : Type 0 where
+  -- they are no more than a table's
+  pub few : length chunks ≤ 4096
+  -- the cells know the same chunks as given
+  pub same : given s ≡ all
+  pub within : (k : ℕ) → has chunks k ≡ true → has all k ≡ true
+  -- no kept version reaches into one
+  pub unkept : (q : ℕ) → Contains (kept s) q → has chunks (q / 1024) ≡ false
+
+-- chunks are freed
+pub record FreesChunks {S : Type 0} (has : S → ℕ → Cell → Type 0) (kept : S → List ℕ) (given : S → List Bool) (gone : ℕ → Bool) (s s_new : S) (left : List Bool) : Type 0 where
+  -- the cells know as given what is left
+  pub same : given s_new ≡ left
+  -- all others stay as they are
+  pub others : (q : ℕ) (c : Cell) → gone (q / 1024) ≡ false → has s q c → has s_new q c
+  -- what is kept is kept
+  pub keeps : kept s_new ≡ kept s

@@ -1,8 +1,10 @@
 -- Cells that are handed out, and what stays as it is while they are.
-use Rattle.std.specs.Prelude.{◌≡◌, ◌⊎◌, ℕ, ◌+◌, ◌/◌, ◌<◌, Bool, true, false, List, Option, Some, None, slice_set, slice_index}
+use Rattle.std.specs.Prelude.{◌≡◌, ◌⊎◌, ℕ, ◌+◌, ◌/◌, ◌<◌, ◌≤◌, Bool, true, false, List, Option, Some, None, slice_set, slice_index}
 use Rattle.trie_model.specs.Extents.{IsRow, row}
 use Rattle.trie_model.specs.Reach.{in_chunk}
 use Rattle.chunk_cells.specs.Chunks.{IsGiven, IsFree}
+use Rattle.chunk_usage.specs.declared.space.Grant.{Grant}
+use Rattle.chunk_usage.specs.declared.space.Shortage.{Shortage}
 use Rattle.chunk_usage.specs.Ledger.{Ledger, Frozen, is_bump, is_used, is_mutable, frozen_part, reserved}
 use Rattle.chunk_usage.specs.Handing.{consumed}
 
@@ -69,3 +71,33 @@ OpensFree given opened new = (k : ℕ) → new k ≡ true → (opened k ≡ true
 -- a chunk with a cell that counts had one before, was the bump chunk, or wasn't given
 abbrev pub Meets : Account → Account → Type 0
 Meets old new = (k : ℕ) → 0 < new.live k → (0 < old.live k) ⊎ ((old.opened k ≡ true) ⊎ (IsGiven old.given k → ⊥))
+
+-- ---- what a call that hands out n cells comes to
+
+-- they are handed out, and the chunk that was taken for them is given
+pub record Grants (old new : Account) (n : ℕ) (g : Grant) : Type 0 where
+  pub handed : Handed old new g.at n
+  pub gives : GivesChunk old.given new.given g.given
+
+-- however it goes
+pub record Leaves (old new : Account) (n : ℕ) : Type 0 where
+  -- a chunk that becomes the bump chunk was not given
+  pub opens : OpensFree old.given old.opened new.opened
+  -- a chunk with a cell that counts had one before, was the bump chunk, or wasn't given
+  pub meets : Meets old new
+  -- what is in use stays so
+  pub grows : Grows old.used new.used old.mutable new.mutable
+  -- n cells are consumed at most
+  pub consumes : new.consumed ≤ old.consumed + n
+  -- where a chunk is given, more are free than are kept free
+  pub spares : new.reserved ≡ old.reserved
+  -- what was kept at freezes is kept
+  pub frozen : new.frozen ≡ old.frozen
+
+-- There is no room.
+pub record Refuses {A : Type 0} (lacks : A → Shortage → Type 0) (a a_new : A) (n : ℕ) (f : Shortage) : Type 0 where
+  -- the numbers say why
+  pub full : lacks a_new f
+  pub needed : f.needed ≡ n
+  -- nothing is changed
+  pub same : a_new ≡ a

@@ -1,7 +1,7 @@
 //! Of each chunk, how many of its cells count: now, and at the last freeze.
 
 ghost use Rattle.std.specs.Prelude.{◌≡◌, ◌≤◌, ◌<◌, ◌+◌, IfOk, false, true, count_by, if◌then◌else◌, length, nat_lt, replicate, slice_index, slice_set};
-ghost use Rattle.chunk_usage.specs.Prelude.{row_of, has, is_low, is_thin, thin_row};
+ghost use Rattle.chunk_usage.specs.Prelude.{IsMarked, row_of, has, is_low, is_thin, thin_row};
 
 use chunk_sets::ChunkSet;
 use std::alloc::{AllocError, Global};
@@ -165,10 +165,7 @@ fn note(noted: &mut [u32], changed: &mut ChunkSet, chunk: u32, count: u32)
 /// Where a chunk's count leaves 0, or comes to it, the chunk is put in the set of those with a cell that counts, or taken out.
 #[inline]
 fn mark(counted: &mut ChunkSet, used: &mut u32, chunk: u32, before: u32, count: u32)
-    requires inside { chunk < length counted.old }
-    requires was { has counted.old chunk ≡ nat_lt 0 before }
-    requires few { used.old ≤ 4096 }
-    requires some { (if nat_lt 0 before then 1 else 0) ≤ used.old }
+    requires { IsMarked counted.old used.old chunk before }
     ensures counted { counted.new ≡ slice_set counted.old chunk (nat_lt 0 count) }
     ensures used { used.new + (if nat_lt 0 before then 1 else 0) ≡ used.old + (if nat_lt 0 count then 1 else 0) }
 {

@@ -29,12 +29,12 @@ pub struct Shortage {
 
 /// Hands out cells, and counts those that the trie reaches. The crates that change a trie know it by this alone.
 pub trait Space {
-    ghost use Rattle.std.specs.Prelude.{◌≡◌, ◌+◌, ◌/◌, ◌%◌, ◌<◌, ◌≤◌, ℕ, Bool, true, List, IfOk, OnErr, IfErr, IsTrue};
+    ghost use Rattle.std.specs.Prelude.{◌≡◌, ◌+◌, ◌/◌, ◌%◌, ◌<◌, ◌≤◌, ℕ, Bool, true, IfOk, IfErr};
     ghost use Rattle.trie_model.specs.Extents.{row};
     ghost use Rattle.trie_model.specs.Reach.{in_chunk};
     ghost use Rattle.chunk_cells.specs.Chunks.{IsGiven};
     ghost use Rattle.chunk_usage.specs.declared.space.Shortage.{Shortage};
-    ghost use Rattle.chunk_usage.specs.Rooms.{Account, Handed, GivesChunk, OpensFree, Grows, Meets};
+    ghost use Rattle.chunk_usage.specs.Rooms.{Account, Grants, Leaves, Refuses};
 
     // What is known of the cells.
     ghost account: { Self → Account };
@@ -46,18 +46,9 @@ pub trait Space {
     fn alloc(&mut self, n: u32) -> Result<Grant, Shortage>
         requires some { 0 < n }
         requires few { n ≤ 256 }
-        ensures handed { IfOk result (λ g. Handed (account self.old) (account self.new) g.at n) }
-        ensures gives { IfOk result (λ g. GivesChunk (account self.old).given (account self.new).given g.given) }
-        ensures opens { OpensFree (account self.old).given (account self.old).opened (account self.new).opened }
-        ensures meets { Meets (account self.old) (account self.new) }
-        ensures grows { Grows (account self.old).used (account self.new).used (account self.old).mutable (account self.new).mutable }
-        ensures consumes { (account self.new).consumed ≤ (account self.old).consumed + n }
-        // Where a chunk is given, more are free than are kept free.
-        ensures spares { (account self.new).reserved ≡ (account self.old).reserved }
-        ensures frozen { (account self.new).frozen ≡ (account self.old).frozen }
-        ensures full { IfErr result (λ f. lacks self.new f) }
-        ensures needed { IfErr result (λ f. f.needed ≡ n) }
-        ensures refused { OnErr result (self.new ≡ self.old) };
+        ensures grants { IfOk result (λ g. Grants (account self.old) (account self.new) n g) }
+        ensures leaves { Leaves (account self.old) (account self.new) n }
+        ensures refuses { IfErr result (λ f. Refuses lacks self.old self.new n f) };
 
     /// Whether no version that was frozen has a cell, so that it may be written.
     fn is_mutable(&self, at: Ref) -> bool

@@ -58,7 +58,8 @@ fn serve<R: Wait, N: Named, G: Gate>(
     requires ready { IsReady origin.now index.now.place feed.now pass seat }
     ensures back { IfOk result (IsBack index.now.place feed.now) }
     ensures ran { (s : OpenedWith) (number : ℕ) → IsOpenedWith s origin.now (table_size index.now) (known_at pass.seat)
-        → IsNew number s.opening (known_at pass.seat) → IfOk result (WorkerEndRan s number (known_at pass.seat) (map command_view turnstile.old.commands.now)) }
+        → IsNew number s.opening (known_at pass.seat)
+        → IfOk result (WorkerEndRan s number (known_at pass.seat) (map command_view turnstile.old.commands.now)) }
     // It has left the turnstile, which has told of all that it took.
     ensures heard { IfOk result (λ d. AllByRecursion (IsHeard (G.hears turnstile.old.gate.now) turnstile.old.worker) d.served.numbers.items
         × (turnstile.new.entered ≡ None) × (turnstile.new.told ≡ length d.served.numbers.items)) }

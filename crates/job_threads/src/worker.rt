@@ -35,7 +35,8 @@ pub fn run_command<'i, R: Wait, N: Named>(
     requires can { CanRun origin.now index.now.place (holds_one passes.old) passes.old }
     requires may { MayCome (holds_one passes.old) (command_view entered.command.now) }
     requires said { AllAsked origin.now (command_view entered.command.now) }
-    ensures can { IfOk result (λ _. CanRun origin.now index.now.place (held_after (holds_one passes.old) (command_view entered.entry.command.now)) passes.new) }
+    ensures can { IfOk result
+        (λ _. CanRun origin.now index.now.place (held_after (holds_one passes.old) (command_view entered.entry.command.now)) passes.new) }
     ensures steps { (s : OpenedWith) → IsOpenedWith s origin.now (table_size index.now) (known_at passes.old.asks.seat)
         → IsUnder (known_at passes.old.asks.seat) (holder_of passes.old)
         → IfOk result (λ o. Step s (command_view entered.entry.command.now) o (worker_passes_of passes.old) (worker_passes_of passes.new)) }

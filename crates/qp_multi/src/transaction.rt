@@ -431,7 +431,8 @@ impl<L: Law, N: Named, K> Transaction<'_, '_, L, N, K> {
         ensures spares { Between SparesReserve self.old.locked.now.working self.new.locked.now.working }
         ensures full { (f : _) → result ≡ Err (InsertRefusal.Full f) → IsSomeAnd self.new.locked.now.working (λ d. IsFull d f) }
         ensures cause { (f : _) → result ≡ Err (InsertRefusal.Full f)
-            → Between (λ d e. CausedFrom d e key.now (3 + cells_in item.now) (insert_asks item.now) f) self.old.locked.now.working self.new.locked.now.working }
+            → Between (λ d e. CausedFrom d e key.now (3 + cells_in item.now) (insert_asks item.now) f)
+            self.old.locked.now.working self.new.locked.now.working }
         // Nor does it come where the table has room for what was published and done.
         ensures cramped { (f : _) → result ≡ Err (InsertRefusal.Full f) → IsSomeAnd self.old.locked.now.working IsCramped }
         ensures crowded { (f : _) → result ≡ Err (InsertRefusal.Full f)

@@ -191,7 +191,7 @@ with_last (e ∷ (f ∷ es)) never = let x = with_last (f ∷ es) (some_list f e
 some_list : (e : Entry) (es : List Entry) → e ∷ es ≡ [] → ⊥
 some_list e es h = cc
 
-no_last : (e : Entry) (es : List Entry) → es ++ (e ∷ []) ≡ [] → ⊥
+pub no_last : (e : Entry) (es : List Entry) → es ++ (e ∷ []) ≡ [] → ⊥
 no_last e [] h = some_list e [] h
 no_last e (x ∷ es) h = some_list x (es ++ (e ∷ [])) h
 

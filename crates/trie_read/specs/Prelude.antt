@@ -13,9 +13,9 @@ pub use Rattle.trie_model.specs.Trees.{IsTree, Tree, entries_of}
 pub use Rattle.trie_model.specs.Trees.Tree.{leaf as leaf_tree}
 pub use Rattle.trie_read.specs.Above.{AreAncestors, HasEnding, IsAtOrAbove, Passes, labels_of_met}
 pub use Rattle.trie_read.specs.Finds.{IsKind, kind_of}
-pub use Rattle.trie_read.specs.Readings.{AtSplit, MeetsNearest}
-pub use Rattle.trie_read.specs.Reads.{EachTells, FindsLeaf, Gives, IsLeafOf, IsNamed, IsTop, LeadsKey}
-pub use Rattle.trie_read.specs.Walks.{AnyStep, Approached, CutAt, Faces, Guided, HangsAtLevel, HangsBy, HasNode, HasPassed, IsPath, IsStart, LeadsTo}
-pub use Rattle.trie_read.specs.Walks.{LeadsToCell, LeadsToFirst, LeadsToLast, Meets, StandsBetween, StandsSomewhere, TurnsBack, TurnsNext, step_of}
+pub use Rattle.trie_read.specs.Readings.{AtSplit, MeetsNearest, Whichever}
+pub use Rattle.trie_read.specs.Reads.{EachTells, IsBlank, FindsLeaf, Gives, IsLeafOf, IsNamed, IsTop, LeadsKey}
+pub use Rattle.trie_read.specs.Walks.{AnyStep, Approached, CanMeet, CutAt, FacesFirst, FacesNext, Guided, HangsAtLevel, HangsBy, HasNode, HasPassedLast, InVersion, IsPath, IsStart, LeadsTo}
+pub use Rattle.trie_read.specs.Walks.{LeadsToCell, LeadsToFirst, LeadsToLast, Meets, PassesLast, StandsBetween, StandsSomewhere, StepsBack, StepsNext, TurnsBack, TurnsNext, Wherever, step_of}
 pub use Rattle.trie_read.specs.declared.ancestors.Ancestor.{Ancestor}
 pub use Rattle.trie_read.specs.declared.iter.Cursor.TheVariants.{Facing, Past}

@@ -1,5 +1,5 @@
 -- What the calls of one version give.
-use Rattle.std.specs.Prelude.{◌≡◌, ℕ, suc, List, [], length, take, Option, Some, None}
+use Rattle.std.specs.Prelude.{◌≡◌, ℕ, suc, List, [], ◌∷◌, ◌++◌, length, take, Option, Some, None}
 use Rattle.packed_node.specs.declared.Cell.{Cell}
 use Rattle.packed_node.specs.declared.Leaf.{Leaf}
 use Rattle.zone_model.specs.Keys.{Leads}
@@ -19,9 +19,46 @@ IsHeld holds = (version : List Entry) × holds version
 abbrev pub Told : (ℕ → Cell → Type 0) → Option ℕ → List Entry → Type 0
 Told has root version = Stands has root version × EachTells Leads version
 
+-- whichever it is, this holds of it
+abbrev pub Whichever : (ℕ → Cell → Type 0) → Option ℕ → (List Entry → Type 0) → Type 0
+Whichever has root holds = (version : List Entry) → Stands has root version → EachTells Leads version → holds version
+
 -- an iterator stands somewhere
 abbrev pub IsStanding : (List Entry → List Entry → Type 0) → Type 0
 IsStanding stands = (before : List Entry) × ((after : List Entry) × stands before after)
+
+-- wherever it stands, this holds of the entries before it and after it
+abbrev pub Everywhere : (List Entry → List Entry → Type 0) → (List Entry → List Entry → Type 0) → Type 0
+Everywhere stands holds = (before after : List Entry) → stands before after → holds before after
+
+-- of the whole version this holds
+abbrev pub OfVersion : (List Entry → List Entry → Type 0) → (List Entry → Type 0) → Type 0
+OfVersion stands holds = (before after : List Entry) → stands before after → holds (before ++ after)
+
+-- the next entry is told of; the previous one is
+abbrev pub TellsNext : (List Entry → List Entry → Type 0) → (Entry → Type 0) → Type 0
+TellsNext stands told = (before after : List Entry) (e : Entry) → stands before (e ∷ after) → told e
+
+abbrev pub TellsLast : (List Entry → List Entry → Type 0) → (Entry → Type 0) → Type 0
+TellsLast stands told = (before after : List Entry) (e : Entry) → stands (before ++ e ∷ []) after → told e
+
+-- A step of an iterator to the next entry, of which something is told.
+pub record GoesNext (stands stands_new : List Entry → List Entry → Type 0) (told : Entry → Type 0) (none : Type 0) : Type 0 where
+  -- where there is one it is told of, and the iterator stands right after it
+  pub next : (before after : List Entry) (e : Entry) → stands before (e ∷ after) → told e
+  pub passed : (before after : List Entry) (e : Entry) → stands before (e ∷ after) → stands_new (before ++ e ∷ []) after
+  -- at the end nothing is told, and the iterator stays
+  pub end : (before : List Entry) → stands before [] → none
+  pub stays : (before : List Entry) → stands before [] → stands_new before []
+
+-- A step to the previous one.
+pub record GoesBack (stands stands_new : List Entry → List Entry → Type 0) (told : Entry → Type 0) (none : Type 0) : Type 0 where
+  -- where there is one it is told of, and the iterator stands right before it
+  pub prev : (before after : List Entry) (e : Entry) → stands (before ++ e ∷ []) after → told e
+  pub passed : (before after : List Entry) (e : Entry) → stands (before ++ e ∷ []) after → stands_new before (e ∷ after)
+  -- at the beginning nothing is told, and the iterator stays
+  pub beginning : (after : List Entry) → stands [] after → none
+  pub stays : (after : List Entry) → stands [] after → stands_new [] after
 
 -- it stands where the key splits the version
 pub record AtSplit (stands : List Entry → List Entry → Type 0) (key : List ℕ) (version : List Entry) : Type 0 where

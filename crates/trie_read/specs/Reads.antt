@@ -1,5 +1,5 @@
 -- What a search goes by, and what it gives.
-use Rattle.std.specs.Prelude.{◌≡◌, ℕ, List, Option, Some, None}
+use Rattle.std.specs.Prelude.{◌≡◌, ℕ, ◌<◌, List, Option, Some, None}
 use Rattle.packed_node.specs.declared.Cell.{Cell}
 use Rattle.packed_node.specs.declared.Leaf.{Leaf}
 use Rattle.zone_model.specs.Keys.{Leads}
@@ -41,3 +41,9 @@ LeadsKey has key es (Some l) = (e : Entry) × InList e es × IsLeafOf has e l ×
 abbrev pub FindsLeaf : (Leaf → Entry → Type 0) → List ℕ → List Entry → Option Leaf → Type 0
 FindsLeaf lies key es None = (e : Entry) → InList e es → e.key ≡ key → ⊥
 FindsLeaf lies key es (Some l) = (e : Entry) × InList e es × (e.key ≡ key) × lies l e
+
+-- nothing is noted in what counts steps, by its name and its parts
+pub record IsBlank {N : Type 0} (name : N) (parts : ℕ) (blank_name : N) (blank_parts : ℕ) : Type 0 where
+  pub named : blank_name ≡ name
+  pub whole : blank_parts ≡ parts
+  pub some : 0 < parts

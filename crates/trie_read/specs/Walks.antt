@@ -1,5 +1,5 @@
 -- Where an iterator stands: between two entries of a version, at the end of a path of steps from the root down.
-use Rattle.std.specs.Prelude.{◌≡◌, ℕ, zero, suc, ◌+◌, ◌≤◌, List, [], ◌∷◌, ◌++◌, Bool, true, false, Option, Some, None, slice_get, count_ones}
+use Rattle.std.specs.Prelude.{◌≡◌, ℕ, zero, suc, ◌+◌, ◌≤◌, List, [], ◌∷◌, ◌++◌, Bool, true, false, Option, Some, None, MatchOption, slice_get, count_ones}
 use Rattle.packed_node.specs.declared.Cell.{Cell}
 use Rattle.packed_node.specs.declared.Leaf.{Leaf}
 use Rattle.packed_node.specs.declared.Branch.{Branch}
@@ -13,6 +13,7 @@ use Rattle.trie_model.specs.Trees.Tree.{leaf, branch}
 use Rattle.trie_model.specs.Trees.Twigs.{twig}
 use Rattle.trie_model.specs.Memory.{top_cell, Beneath, IsTrieAt, Stands}
 use Rattle.trie_read.specs.Reads.{IsLeafOf, EachTells}
+use Rattle.trie_read.specs.declared.ancestors.Ancestor.{Ancestor}
 use Rattle.trie_read.specs.declared.path.Step.{Step}
 use Rattle.trie_read.specs.declared.path.Path.{Path}
 use Rattle.trie_read.specs.declared.iter.Cursor.{Cursor}
@@ -172,6 +173,22 @@ pub record HasPassed (has : ℕ → Cell → Type 0) (root : Option ℕ) (path :
   pub is : before ≡ rest ++ (entry ∷ [])
   pub on : OnLeaf has root path l rest entry after
 
+-- the leaf of the next entry is faced, or there is none; the previous one's was passed, or there is none
+abbrev pub FacesNext : (ℕ → Cell → Type 0) → Path → Option Leaf → Option ℕ → List Entry → List Entry → Type 0
+FacesNext has path answer root before after = MatchOption answer (after ≡ []) (λ l. Faces has root path l before after)
+
+abbrev pub HasPassedLast : (ℕ → Cell → Type 0) → Path → Option Leaf → Option ℕ → List Entry → List Entry → Type 0
+HasPassedLast has path answer root before after = MatchOption answer (before ≡ []) (λ l. HasPassed has root path l before after)
+
+-- from a tree that a path leads to, the leaf of its first entry is faced, or that of its last was passed
+abbrev pub FacesFirst : (ℕ → Cell → Type 0) → ℕ → Path → Path → Leaf → Type 0
+FacesFirst has root path path_new l = (version : List Entry) (whole t : Tree) (before after : List Entry) → IsTrieAt has root whole version
+    → LeadsTo AnyStep has path whole t before after → Faces has (Some root) path_new l before (entries_of t ++ after)
+
+abbrev pub PassesLast : (ℕ → Cell → Type 0) → ℕ → Path → Path → Leaf → Type 0
+PassesLast has root path path_new l = (version : List Entry) (whole t : Tree) (before after : List Entry) → IsTrieAt has root whole version
+    → LeadsTo AnyStep has path whole t before after → HasPassed has (Some root) path_new l (before ++ entries_of t) after
+
 abbrev pub IsAt : (ℕ → Cell → Type 0) → Option ℕ → Path → Cursor → List Entry → List Entry → Type 0
 IsAt has root path Start before after = (path.depth ≡ 0) × (before ≡ [])
 IsAt has root path (Facing l) before after = Faces has root path l before after
@@ -190,6 +207,32 @@ pub record StandsSomewhere (has : ℕ → Cell → Type 0) (iter : Iter) : Type 
   pub before : List Entry
   pub after : List Entry
   pub standing : StandsBetween has root iter before after
+
+-- wherever it stands, this holds of the root, and of the entries before it and after it
+abbrev pub Wherever : (ℕ → Cell → Type 0) → Iter → (Option ℕ → List Entry → List Entry → Type 0) → Type 0
+Wherever has iter holds = (root : Option ℕ) (before after : List Entry) → StandsBetween has root iter before after → holds root before after
+
+-- of the whole version this holds
+abbrev pub InVersion : (ℕ → Cell → Type 0) → Iter → (Option ℕ → List Entry → Type 0) → Type 0
+InVersion has iter holds = (root : Option ℕ) (before after : List Entry) → StandsBetween has root iter before after → holds root (before ++ after)
+
+-- A step of an iterator to the next entry, of which something is told.
+pub record StepsNext (has : ℕ → Cell → Type 0) (iter iter_new : Iter) (told : Entry → Type 0) (none : Type 0) : Type 0 where
+  -- where there is one it is told of, and the iterator stands right after it
+  pub next : (root : Option ℕ) (before after : List Entry) (e : Entry) → StandsBetween has root iter before (e ∷ after) → told e
+  pub passed : (root : Option ℕ) (before after : List Entry) (e : Entry) → StandsBetween has root iter before (e ∷ after) → StandsBetween has root iter_new (before ++ e ∷ []) after
+  -- at the end nothing is told, and the iterator stays
+  pub end : (root : Option ℕ) (before : List Entry) → StandsBetween has root iter before [] → none
+  pub stays : (root : Option ℕ) (before : List Entry) → StandsBetween has root iter before [] → StandsBetween has root iter_new before []
+
+-- A step to the previous one.
+pub record StepsBack (has : ℕ → Cell → Type 0) (iter iter_new : Iter) (told : Entry → Type 0) (none : Type 0) : Type 0 where
+  -- where there is one it is told of, and the iterator stands right before it
+  pub prev : (root : Option ℕ) (before after : List Entry) (e : Entry) → StandsBetween has root iter (before ++ e ∷ []) after → told e
+  pub passed : (root : Option ℕ) (before after : List Entry) (e : Entry) → StandsBetween has root iter (before ++ e ∷ []) after → StandsBetween has root iter_new before (e ∷ after)
+  -- at the beginning nothing is told, and the iterator stays
+  pub beginning : (root : Option ℕ) (after : List Entry) → StandsBetween has root iter [] after → none
+  pub stays : (root : Option ℕ) (after : List Entry) → StandsBetween has root iter [] after → StandsBetween has root iter_new [] after
 
 -- the iterator at the beginning
 pub record IsStart (root : Option ℕ) (iter : Iter) : Type 0 where
@@ -213,3 +256,9 @@ pub record Meets (has : ℕ → Cell → Type 0) (key : List ℕ) (root : ℕ) (
   pub leaf_of : IsLeafOf has entry met.leaf
   pub differs : IsDifference key entry.key met.difference
   pub leads : LeadsToMet has key path whole entry met.leaf met.difference
+
+-- an iterator that stands somewhere below this root can meet a key's leaf; no name was put in yet
+pub record CanMeet (has : ℕ → Cell → Type 0) (root : ℕ) (iter : Iter) (above : List Ancestor) : Type 0 where
+  pub stands : StandsSomewhere has iter
+  pub root_is : iter.root ≡ Some root
+  pub empty : above ≡ []

@@ -1,7 +1,7 @@
 //! What there is of a name, of the names above it, and the last name that isn't after it.
 
 ghost use Rattle.std.specs.Prelude.{◌≡◌, ◌≤◌, List, Bool, is_some, map, take};
-ghost use Rattle.trie_read.specs.Prelude.{Leads, Entry, Stands, IsPredecessor, chain_labels, EachTells, IsKind, kind_of, Ancestor};
+ghost use Rattle.trie_read.specs.Prelude.{Leads, Entry, Stands, IsPredecessor, chain_labels, EachTells, Whichever, IsKind, kind_of, Ancestor};
 
 use super::ancestors::Ancestors;
 use super::iter::Iter;
@@ -70,12 +70,9 @@ pub struct Found {
 pub fn find<C: CellRead>(cells: &mut C, root: Root, key: &Key) -> Found
     requires { (version : List Entry) × Stands (C.has cells.old) root version × EachTells Leads version }
     ensures same { cells.new ≡ cells.old }
-    ensures kind { (version : List Entry) → Stands (C.has cells.old) root version → EachTells Leads version
-        → IsKind key.now version result.kind }
-    ensures chain { (version : List Entry) → Stands (C.has cells.old) root version → EachTells Leads version
-        → take result.chain.len result.chain.labels ≡ chain_labels key.now version }
-    ensures pred { (version : List Entry) → Stands (C.has cells.old) root version → EachTells Leads version
-        → IsPredecessor key.now version result.pred }
+    ensures kind { Whichever (C.has cells.old) root (λ version. IsKind key.now version result.kind) }
+    ensures chain { Whichever (C.has cells.old) root (λ version. take result.chain.len result.chain.labels ≡ chain_labels key.now version) }
+    ensures pred { Whichever (C.has cells.old) root (λ version. IsPredecessor key.now version result.pred) }
 {
     let mut place = Iter::start(root);
     let mut above = Ancestors::new();

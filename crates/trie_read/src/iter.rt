@@ -1,9 +1,9 @@
 //! Walks through the names of a trie, in order.
 
-ghost use Rattle.std.specs.Prelude.{◌≡◌, ◌<◌, ◌++◌, ◌∷◌, [], ℕ, List, Option, Some, None, MatchOption, IsSomeAnd, length};
-ghost use Rattle.trie_read.specs.Prelude.{Entry, chain, Tree, entries_of, IsTrieAt, IsNamed, FindsLeaf, AreAncestors};
-ghost use Rattle.trie_read.specs.Prelude.{IsAtOrAbove, labels_of_met, Ancestor, Facing, Past, AtSplit, MeetsNearest, AnyStep};
-ghost use Rattle.trie_read.specs.Prelude.{LeadsTo, HasNode, Meets, IsStart, StandsBetween, StandsSomewhere, Faces, HasPassed};
+ghost use Rattle.std.specs.Prelude.{◌≡◌, ◌<◌, ◌++◌, ◌∷◌, [], List, Some, None, IsSomeAnd, length};
+ghost use Rattle.trie_read.specs.Prelude.{Entry, chain, IsNamed, FindsLeaf, AreAncestors, IsAtOrAbove, labels_of_met, Ancestor, Facing, Past, AtSplit};
+ghost use Rattle.trie_read.specs.Prelude.{CanMeet, HasNode, Meets, MeetsNearest, IsStart, StandsBetween, StandsSomewhere, InVersion, Wherever};
+ghost use Rattle.trie_read.specs.Prelude.{FacesFirst, FacesNext, HasPassedLast, PassesLast, StepsBack, StepsNext};
 
 use super::ancestors::{Ancestor, Ancestors};
 use super::labels::{ends_at, labels_of, labels_to};
@@ -59,13 +59,7 @@ impl Iter {
     pub fn next<C: CellRead>(&mut self, cells: &mut C) -> Option<Key>
         requires { StandsSomewhere (C.has cells.old) self.old }
         ensures same { cells.new ≡ cells.old }
-        ensures next { (root : Option ℕ) (before after : List Entry) (e : Entry) → StandsBetween (C.has cells.old) root self.old before (e ∷ after)
-            → result ≡ Some e.key }
-        ensures passed { (root : Option ℕ) (before after : List Entry) (e : Entry) → StandsBetween (C.has cells.old) root self.old before (e ∷ after)
-            → StandsBetween (C.has cells.old) root self.new (before ++ e ∷ []) after }
-        ensures end { (root : Option ℕ) (before : List Entry) → StandsBetween (C.has cells.old) root self.old before [] → result ≡ None }
-        ensures stays { (root : Option ℕ) (before : List Entry) → StandsBetween (C.has cells.old) root self.old before []
-            → StandsBetween (C.has cells.old) root self.new before [] }
+        ensures step { StepsNext (C.has cells.old) self.old self.new (λ e. result ≡ Some e.key) (result ≡ None) }
     {
         match self.next_leaf(cells) {
             None => None,
@@ -77,13 +71,7 @@ impl Iter {
     pub fn next_leaf<C: CellRead>(&mut self, cells: &mut C) -> Option<Leaf>
         requires { StandsSomewhere (C.has cells.old) self.old }
         ensures same { cells.new ≡ cells.old }
-        ensures next { (root : Option ℕ) (before after : List Entry) (e : Entry) → StandsBetween (C.has cells.old) root self.old before (e ∷ after)
-            → IsSomeAnd result (λ leaf. IsNamed (C.has cells.old) leaf e) }
-        ensures passed { (root : Option ℕ) (before after : List Entry) (e : Entry) → StandsBetween (C.has cells.old) root self.old before (e ∷ after)
-            → StandsBetween (C.has cells.old) root self.new (before ++ e ∷ []) after }
-        ensures end { (root : Option ℕ) (before : List Entry) → StandsBetween (C.has cells.old) root self.old before [] → result ≡ None }
-        ensures stays { (root : Option ℕ) (before : List Entry) → StandsBetween (C.has cells.old) root self.old before []
-            → StandsBetween (C.has cells.old) root self.new before [] }
+        ensures step { StepsNext (C.has cells.old) self.old self.new (λ e. IsSomeAnd result (λ leaf. IsNamed (C.has cells.old) leaf e)) (result ≡ None) }
     {
         let leaf = self.ahead(cells)?;
         self.place = Cursor::Past(leaf);
@@ -94,10 +82,8 @@ impl Iter {
     pub fn ahead<C: CellRead>(&mut self, cells: &mut C) -> Option<Leaf>
         requires { StandsSomewhere (C.has cells.old) self.old }
         ensures same { cells.new ≡ cells.old }
-        ensures stays { (root : Option ℕ) (before after : List Entry) → StandsBetween (C.has cells.old) root self.old before after
-            → StandsBetween (C.has cells.old) root self.new before after }
-        ensures faces { (root : Option ℕ) (before after : List Entry) → StandsBetween (C.has cells.old) root self.old before after
-            → MatchOption result (after ≡ []) (λ leaf. Faces (C.has cells.old) root self.new.path leaf before after) }
+        ensures stays { Wherever (C.has cells.old) self.old (λ root. StandsBetween (C.has cells.old) root self.new) }
+        ensures faces { Wherever (C.has cells.old) self.old (FacesNext (C.has cells.old) self.new.path result) }
     {
         match self.root {
             None => None,
@@ -121,9 +107,7 @@ impl Iter {
         ensures same { cells.new ≡ cells.old }
         ensures root { self.new.root ≡ self.old.root }
         ensures place { self.new.place ≡ Facing result }
-        ensures faces { (version : List Entry) (whole t : Tree) (before after : List Entry) → IsTrieAt (C.has cells.old) root whole version
-            → LeadsTo AnyStep (C.has cells.old) self.old.path whole t before after
-            → Faces (C.has cells.old) (Some root) self.new.path result before (entries_of t ++ after) }
+        ensures faces { FacesFirst (C.has cells.old) root self.old.path self.new.path result }
     {
         let cell = self.path.node(cells, root, self.path.depth);
         let leaf = self.path.enter_first(cells, cell);
@@ -135,13 +119,7 @@ impl Iter {
     pub fn prev<C: CellRead>(&mut self, cells: &mut C) -> Option<Key>
         requires { StandsSomewhere (C.has cells.old) self.old }
         ensures same { cells.new ≡ cells.old }
-        ensures prev { (root : Option ℕ) (before after : List Entry) (e : Entry) → StandsBetween (C.has cells.old) root self.old (before ++ e ∷ []) after
-            → result ≡ Some e.key }
-        ensures passed { (root : Option ℕ) (before after : List Entry) (e : Entry) → StandsBetween (C.has cells.old) root self.old (before ++ e ∷ []) after
-            → StandsBetween (C.has cells.old) root self.new before (e ∷ after) }
-        ensures beginning { (root : Option ℕ) (after : List Entry) → StandsBetween (C.has cells.old) root self.old [] after → result ≡ None }
-        ensures stays { (root : Option ℕ) (after : List Entry) → StandsBetween (C.has cells.old) root self.old [] after
-            → StandsBetween (C.has cells.old) root self.new [] after }
+        ensures step { StepsBack (C.has cells.old) self.old self.new (λ e. result ≡ Some e.key) (result ≡ None) }
     {
         match self.prev_leaf(cells) {
             None => None,
@@ -153,13 +131,7 @@ impl Iter {
     pub fn prev_leaf<C: CellRead>(&mut self, cells: &mut C) -> Option<Leaf>
         requires { StandsSomewhere (C.has cells.old) self.old }
         ensures same { cells.new ≡ cells.old }
-        ensures prev { (root : Option ℕ) (before after : List Entry) (e : Entry) → StandsBetween (C.has cells.old) root self.old (before ++ e ∷ []) after
-            → IsSomeAnd result (λ leaf. IsNamed (C.has cells.old) leaf e) }
-        ensures passed { (root : Option ℕ) (before after : List Entry) (e : Entry) → StandsBetween (C.has cells.old) root self.old (before ++ e ∷ []) after
-            → StandsBetween (C.has cells.old) root self.new before (e ∷ after) }
-        ensures beginning { (root : Option ℕ) (after : List Entry) → StandsBetween (C.has cells.old) root self.old [] after → result ≡ None }
-        ensures stays { (root : Option ℕ) (after : List Entry) → StandsBetween (C.has cells.old) root self.old [] after
-            → StandsBetween (C.has cells.old) root self.new [] after }
+        ensures step { StepsBack (C.has cells.old) self.old self.new (λ e. IsSomeAnd result (λ leaf. IsNamed (C.has cells.old) leaf e)) (result ≡ None) }
     {
         let leaf = self.behind(cells)?;
         self.place = Cursor::Facing(leaf);
@@ -170,10 +142,8 @@ impl Iter {
     pub fn behind<C: CellRead>(&mut self, cells: &mut C) -> Option<Leaf>
         requires { StandsSomewhere (C.has cells.old) self.old }
         ensures same { cells.new ≡ cells.old }
-        ensures stays { (root : Option ℕ) (before after : List Entry) → StandsBetween (C.has cells.old) root self.old before after
-            → StandsBetween (C.has cells.old) root self.new before after }
-        ensures passed { (root : Option ℕ) (before after : List Entry) → StandsBetween (C.has cells.old) root self.old before after
-            → MatchOption result (before ≡ []) (λ leaf. HasPassed (C.has cells.old) root self.new.path leaf before after) }
+        ensures stays { Wherever (C.has cells.old) self.old (λ root. StandsBetween (C.has cells.old) root self.new) }
+        ensures passed { Wherever (C.has cells.old) self.old (HasPassedLast (C.has cells.old) self.new.path result) }
     {
         match self.root {
             None => None,
@@ -197,9 +167,7 @@ impl Iter {
         ensures same { cells.new ≡ cells.old }
         ensures root { self.new.root ≡ self.old.root }
         ensures place { self.new.place ≡ Past result }
-        ensures passed { (version : List Entry) (whole t : Tree) (before after : List Entry) → IsTrieAt (C.has cells.old) root whole version
-            → LeadsTo AnyStep (C.has cells.old) self.old.path whole t before after
-            → HasPassed (C.has cells.old) (Some root) self.new.path result (before ++ entries_of t) after }
+        ensures passed { PassesLast (C.has cells.old) root self.old.path self.new.path result }
     {
         let cell = self.path.node(cells, root, self.path.depth);
         let leaf = self.path.enter_last(cells, cell);
@@ -211,8 +179,7 @@ impl Iter {
     pub fn seek<C: CellRead>(&mut self, cells: &mut C, key: &Key)
         requires { StandsSomewhere (C.has cells.old) self.old }
         ensures same { cells.new ≡ cells.old }
-        ensures split { (root : Option ℕ) (before after : List Entry) → StandsBetween (C.has cells.old) root self.old before after
-            → AtSplit (StandsBetween (C.has cells.old) root self.new) key.now (before ++ after) }
+        ensures split { InVersion (C.has cells.old) self.old (λ root version. AtSplit (StandsBetween (C.has cells.old) root self.new) key.now version) }
     {
         match self.root {
             None => {}
@@ -233,12 +200,9 @@ impl Iter {
     ) -> Option<Leaf>
         requires { StandsSomewhere (C.has cells.old) self.old }
         ensures same { cells.new ≡ cells.old }
-        ensures split { (root : Option ℕ) (before after : List Entry) → StandsBetween (C.has cells.old) root self.old before after
-            → AtSplit (StandsBetween (C.has cells.old) root self.new) key.now (before ++ after) }
-        ensures leaf { (root : Option ℕ) (before after : List Entry) → StandsBetween (C.has cells.old) root self.old before after
-            → FindsLeaf (IsNamed (C.has cells.old)) key.now (before ++ after) result }
-        ensures above { (root : Option ℕ) (before after : List Entry) → StandsBetween (C.has cells.old) root self.old before after
-            → AreAncestors (IsNamed (C.has cells.old)) (chain key.now (before ++ after)) above.new }
+        ensures split { InVersion (C.has cells.old) self.old (λ root version. AtSplit (StandsBetween (C.has cells.old) root self.new) key.now version) }
+        ensures leaf { InVersion (C.has cells.old) self.old (λ root version. FindsLeaf (IsNamed (C.has cells.old)) key.now version result) }
+        ensures above { InVersion (C.has cells.old) self.old (λ root version. AreAncestors (IsNamed (C.has cells.old)) (chain key.now version) above.new) }
     {
         above.clear();
         match self.root {
@@ -264,12 +228,9 @@ impl Iter {
     ) -> Option<Met>
         requires { StandsSomewhere (C.has cells.old) self.old }
         ensures same { cells.new ≡ cells.old }
-        ensures start { (root : Option ℕ) (before after : List Entry) → StandsBetween (C.has cells.old) root self.old before after
-            → StandsBetween (C.has cells.old) root self.new [] (before ++ after) }
-        ensures nearest { (root : Option ℕ) (before after : List Entry) → StandsBetween (C.has cells.old) root self.old before after
-            → MeetsNearest (IsNamed (C.has cells.old)) key.now (before ++ after) result }
-        ensures above { (root : Option ℕ) (before after : List Entry) → StandsBetween (C.has cells.old) root self.old before after
-            → AreAncestors (IsNamed (C.has cells.old)) (chain key.now (before ++ after)) above.new }
+        ensures start { InVersion (C.has cells.old) self.old (λ root version. StandsBetween (C.has cells.old) root self.new [] version) }
+        ensures nearest { InVersion (C.has cells.old) self.old (λ root version. MeetsNearest (IsNamed (C.has cells.old)) key.now version result) }
+        ensures above { InVersion (C.has cells.old) self.old (λ root version. AreAncestors (IsNamed (C.has cells.old)) (chain key.now version) above.new) }
     {
         above.clear();
         match self.root {
@@ -293,15 +254,11 @@ impl Iter {
         key: &Key,
         above: &mut Ancestors,
     ) -> Met
-        requires stands { StandsSomewhere (C.has cells.old) self.old }
-        requires root { self.old.root ≡ Some root }
-        requires empty { above.old ≡ [] }
+        requires { CanMeet (C.has cells.old) root self.old above.old }
         ensures same { cells.new ≡ cells.old }
         ensures root { self.new.root ≡ Some root }
-        ensures meets { (any : Option ℕ) (before after : List Entry) → StandsBetween (C.has cells.old) any self.old before after
-            → Meets (C.has cells.old) key.now root self.new.path result (before ++ after) }
-        ensures above { (any : Option ℕ) (before after : List Entry) → StandsBetween (C.has cells.old) any self.old before after
-            → AreAncestors (IsNamed (C.has cells.old)) (chain key.now (before ++ after)) above.new }
+        ensures meets { InVersion (C.has cells.old) self.old (λ any version. Meets (C.has cells.old) key.now root self.new.path result version) }
+        ensures above { InVersion (C.has cells.old) self.old (λ any version. AreAncestors (IsNamed (C.has cells.old)) (chain key.now version) above.new) }
     {
         let met = self.meet(cells, root, key);
         self.path.gather(cells, root, key, above);
@@ -316,8 +273,7 @@ impl Iter {
         requires root { self.old.root ≡ Some root }
         ensures same { cells.new ≡ cells.old }
         ensures root { self.new.root ≡ Some root }
-        ensures meets { (any : Option ℕ) (before after : List Entry) → StandsBetween (C.has cells.old) any self.old before after
-            → Meets (C.has cells.old) key.now root self.new.path result (before ++ after) }
+        ensures meets { InVersion (C.has cells.old) self.old (λ any version. Meets (C.has cells.old) key.now root self.new.path result version) }
     {
         self.path.depth = 0;
         let cell = cells.cell(root);

@@ -1,7 +1,7 @@
 //! The leaf of a key, and how many cells are read for it.
 
 ghost use Rattle.std.specs.Prelude.{◌≡◌, ◌+◌, ◌<◌, ◌≤◌, ℕ, List, Some, length, IsTrue, ◌↔◌};
-ghost use Rattle.trie_read.specs.Prelude.{Cell, Leads, Entry, Stands, EachTells, Gives, IsLeafOf, LeadsKey};
+ghost use Rattle.trie_read.specs.Prelude.{Cell, Leads, Entry, Stands, EachTells, IsBlank, Whichever, Gives, IsLeafOf, LeadsKey};
 
 use super::leaf::is_of;
 use super::steps::Steps;
@@ -17,8 +17,7 @@ use std::sync::ledger::{Blank, Ledger};
 pub fn get<C: CellRead>(cells: &mut C, root: Root, key: &Key) -> Option<Leaf>
     requires { (version : List Entry) × Stands (C.has cells.old) root version × EachTells Leads version }
     ensures same { cells.new ≡ cells.old }
-    ensures value { (version : List Entry) → Stands (C.has cells.old) root version → EachTells Leads version
-        → Gives (C.has cells.old) key.now version result }
+    ensures value { Whichever (C.has cells.old) root (λ version. Gives (C.has cells.old) key.now version result) }
 {
     get_from::<C, Brand>(cells, root, key, Blank::new(1))
 }
@@ -31,12 +30,9 @@ fn get_from<C: CellRead, L: Ledger>(
     blank: Blank,
 ) -> Option<Leaf>
     requires stands { (version : List Entry) × Stands (C.has cells.old) root version × EachTells Leads version }
-    requires name { blank.name ≡ L.name }
-    requires parts { blank.parts ≡ L.parts }
-    requires some { 0 < L.parts }
+    requires blank { IsBlank L.name L.parts blank.name blank.parts }
     ensures same { cells.new ≡ cells.old }
-    ensures value { (version : List Entry) → Stands (C.has cells.old) root version → EachTells Leads version
-        → Gives (C.has cells.old) key.now version result }
+    ensures value { Whichever (C.has cells.old) root (λ version. Gives (C.has cells.old) key.now version result) }
 {
     let mut steps = Steps::<L>::new(blank);
     get_counted(cells, root, key, &mut steps)
@@ -51,8 +47,7 @@ pub fn get_counted<C: CellRead, L: Ledger>(
 ) -> Option<Leaf>
     requires { (version : List Entry) × Stands (C.has cells.old) root version × EachTells Leads version }
     ensures same { cells.new ≡ cells.old }
-    ensures value { (version : List Entry) → Stands (C.has cells.old) root version → EachTells Leads version
-        → Gives (C.has cells.old) key.now version result }
+    ensures value { Whichever (C.has cells.old) root (λ version. Gives (C.has cells.old) key.now version result) }
     ensures counted { (at : ℕ) → root ≡ Some at → steps.old < steps.new }
     ensures few { steps.new ≤ steps.old + (length key.now + 18) }
 {

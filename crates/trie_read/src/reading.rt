@@ -17,7 +17,7 @@ use shift_key::Key;
 
 /// A version of the trie: what it has under which number. All calls are of that one version, and change nothing.
 pub trait Reading {
-    ghost use Rattle.std.specs.Prelude.{◌≡◌, ◌≤◌, ◌++◌, ◌∷◌, [], ℕ, List, length, take, Some, None, IsSomeAnd};
+    ghost use Rattle.std.specs.Prelude.{◌≡◌, ◌≤◌, [], ℕ, List, length, take, Some, None, IsSomeAnd};
     ghost use Rattle.zone_model.specs.Names.{IsName};
     ghost use Rattle.zone_model.specs.Keys.{key_of, most_item_octets};
     ghost use Rattle.trie_model.specs.Keys.{Entry};
@@ -29,6 +29,7 @@ pub trait Reading {
     ghost use Rattle.trie_read.specs.Finds.{IsKind};
     ghost use Rattle.trie_read.specs.Above.{AreAncestors};
     ghost use Rattle.trie_read.specs.Readings.{Fetched, IsHeld, IsStanding, AtSplit, MeetsNearest};
+    ghost use Rattle.trie_read.specs.Readings.{Everywhere, OfVersion, TellsNext, TellsLast, GoesNext, GoesBack};
 
     // The version's number.
     ghost number: { Self → ℕ };
@@ -59,8 +60,7 @@ pub trait Reading {
         requires { IsHeld (holds self.old) }
         ensures same { self.new ≡ self.old }
         ensures kind { (version : List Entry) → holds self.old version → IsKind key.now version result.kind }
-        ensures chain { (version : List Entry) → holds self.old version
-            → take result.chain.len result.chain.labels ≡ chain_labels key.now version }
+        ensures chain { (version : List Entry) → holds self.old version → take result.chain.len result.chain.labels ≡ chain_labels key.now version }
         ensures pred { (version : List Entry) → holds self.old version → IsPredecessor key.now version result.pred };
 
     /// An iterator before the first name.
@@ -80,91 +80,65 @@ pub trait Reading {
     fn seek(&mut self, iter: &mut Iter, key: &Key)
         requires { IsStanding (stands self.old iter.old) }
         ensures same { self.new ≡ self.old }
-        ensures split { (before after : List Entry) → stands self.old iter.old before after
-            → AtSplit (stands self.old iter.new) key.now (before ++ after) };
+        ensures split { OfVersion (stands self.old iter.old) (λ version. AtSplit (stands self.old iter.new) key.now version) };
 
     /// The next name's key; the iterator is then after it. `None` exactly at the end, and the iterator stays.
     fn next(&mut self, iter: &mut Iter) -> Option<Key>
         requires { IsStanding (stands self.old iter.old) }
         ensures same { self.new ≡ self.old }
-        ensures next { (before after : List Entry) (e : Entry) → stands self.old iter.old before (e ∷ after) → result ≡ Some e.key }
-        ensures passed { (before after : List Entry) (e : Entry) → stands self.old iter.old before (e ∷ after)
-            → stands self.old iter.new (before ++ e ∷ []) after }
-        ensures end { (before : List Entry) → stands self.old iter.old before [] → result ≡ None }
-        ensures stays { (before : List Entry) → stands self.old iter.old before [] → stands self.old iter.new before [] };
+        ensures step { GoesNext (stands self.old iter.old) (stands self.old iter.new) (λ e. result ≡ Some e.key) (result ≡ None) };
 
     /// The previous name's key; the iterator is then before it. `None` exactly at the beginning, and the iterator stays.
     fn prev(&mut self, iter: &mut Iter) -> Option<Key>
         requires { IsStanding (stands self.old iter.old) }
         ensures same { self.new ≡ self.old }
-        ensures prev { (before after : List Entry) (e : Entry) → stands self.old iter.old (before ++ e ∷ []) after → result ≡ Some e.key }
-        ensures passed { (before after : List Entry) (e : Entry) → stands self.old iter.old (before ++ e ∷ []) after
-            → stands self.old iter.new before (e ∷ after) }
-        ensures beginning { (after : List Entry) → stands self.old iter.old [] after → result ≡ None }
-        ensures stays { (after : List Entry) → stands self.old iter.old [] after → stands self.old iter.new [] after };
+        ensures step { GoesBack (stands self.old iter.old) (stands self.old iter.new) (λ e. result ≡ Some e.key) (result ≡ None) };
 
     /// Stands the iterator before the first name at or after the key's, and gives the leaf of the key if it is there. The names at or above the key's that
     /// are there are written into `above`.
     fn lookup(&mut self, iter: &mut Iter, key: &Key, above: &mut Ancestors) -> Option<Leaf>
         requires { IsStanding (stands self.old iter.old) }
         ensures same { self.new ≡ self.old }
-        ensures split { (before after : List Entry) → stands self.old iter.old before after
-            → AtSplit (stands self.old iter.new) key.now (before ++ after) }
-        ensures leaf { (before after : List Entry) → stands self.old iter.old before after
-            → FindsLeaf (lies self.old) key.now (before ++ after) result }
-        ensures above { (before after : List Entry) → stands self.old iter.old before after
-            → AreAncestors (lies self.old) (chain key.now (before ++ after)) above.new };
+        ensures split { OfVersion (stands self.old iter.old) (λ version. AtSplit (stands self.old iter.new) key.now version) }
+        ensures leaf { OfVersion (stands self.old iter.old) (λ version. FindsLeaf (lies self.old) key.now version result) }
+        ensures above { OfVersion (stands self.old iter.old) (λ version. AreAncestors (lies self.old) (chain key.now version) above.new) };
 
     /// The leaf that the key is nearest to: its own, or else one whose key has the longest beginning in common with it; `None` exactly where there is no
     /// name. The names at or above the key's that are there are written into `above`. The iterator stands before the first name then.
     fn reach(&mut self, iter: &mut Iter, key: &Key, above: &mut Ancestors) -> Option<Met>
         requires { IsStanding (stands self.old iter.old) }
         ensures same { self.new ≡ self.old }
-        ensures start { (before after : List Entry) → stands self.old iter.old before after → stands self.old iter.new [] (before ++ after) }
-        ensures nearest { (before after : List Entry) → stands self.old iter.old before after
-            → MeetsNearest (lies self.old) key.now (before ++ after) result }
-        ensures above { (before after : List Entry) → stands self.old iter.old before after
-            → AreAncestors (lies self.old) (chain key.now (before ++ after)) above.new };
+        ensures start { OfVersion (stands self.old iter.old) (λ version. stands self.old iter.new [] version) }
+        ensures nearest { OfVersion (stands self.old iter.old) (λ version. MeetsNearest (lies self.old) key.now version result) }
+        ensures above { OfVersion (stands self.old iter.old) (λ version. AreAncestors (lies self.old) (chain key.now version) above.new) };
 
     /// The leaf of the next name; the iterator is then after it. `None` exactly at the end, and the iterator stays.
     fn next_leaf(&mut self, iter: &mut Iter) -> Option<Leaf>
         requires { IsStanding (stands self.old iter.old) }
         ensures same { self.new ≡ self.old }
-        ensures next { (before after : List Entry) (e : Entry) → stands self.old iter.old before (e ∷ after)
-            → IsSomeAnd result (λ leaf. lies self.old leaf e) }
-        ensures passed { (before after : List Entry) (e : Entry) → stands self.old iter.old before (e ∷ after)
-            → stands self.old iter.new (before ++ e ∷ []) after }
-        ensures end { (before : List Entry) → stands self.old iter.old before [] → result ≡ None }
-        ensures stays { (before : List Entry) → stands self.old iter.old before [] → stands self.old iter.new before [] };
+        ensures step { GoesNext (stands self.old iter.old) (stands self.old iter.new) (λ e. IsSomeAnd result (λ leaf. lies self.old leaf e)) (result ≡ None) };
 
     /// The leaf of the previous name; the iterator is then before it. `None` exactly at the beginning, and the iterator stays.
     fn prev_leaf(&mut self, iter: &mut Iter) -> Option<Leaf>
         requires { IsStanding (stands self.old iter.old) }
         ensures same { self.new ≡ self.old }
-        ensures prev { (before after : List Entry) (e : Entry) → stands self.old iter.old (before ++ e ∷ []) after
-            → IsSomeAnd result (λ leaf. lies self.old leaf e) }
-        ensures passed { (before after : List Entry) (e : Entry) → stands self.old iter.old (before ++ e ∷ []) after
-            → stands self.old iter.new before (e ∷ after) }
-        ensures beginning { (after : List Entry) → stands self.old iter.old [] after → result ≡ None }
-        ensures stays { (after : List Entry) → stands self.old iter.old [] after → stands self.old iter.new [] after };
+        ensures step { GoesBack (stands self.old iter.old) (stands self.old iter.new) (λ e. IsSomeAnd result (λ leaf. lies self.old leaf e)) (result ≡ None) };
 
     /// The leaf of the next name; the iterator stays. `None` exactly at the end.
     fn ahead(&mut self, iter: &mut Iter) -> Option<Leaf>
         requires { IsStanding (stands self.old iter.old) }
         ensures same { self.new ≡ self.old }
-        ensures next { (before after : List Entry) (e : Entry) → stands self.old iter.old before (e ∷ after)
-            → IsSomeAnd result (λ leaf. lies self.old leaf e) }
+        ensures next { TellsNext (stands self.old iter.old) (λ e. IsSomeAnd result (λ leaf. lies self.old leaf e)) }
         ensures end { (before : List Entry) → stands self.old iter.old before [] → result ≡ None }
-        ensures stays { (before after : List Entry) → stands self.old iter.old before after → stands self.old iter.new before after };
+        ensures stays { Everywhere (stands self.old iter.old) (stands self.old iter.new) };
 
     /// The leaf of the previous name; the iterator stays. `None` exactly at the beginning.
     fn behind(&mut self, iter: &mut Iter) -> Option<Leaf>
         requires { IsStanding (stands self.old iter.old) }
         ensures same { self.new ≡ self.old }
-        ensures prev { (before after : List Entry) (e : Entry) → stands self.old iter.old (before ++ e ∷ []) after
-            → IsSomeAnd result (λ leaf. lies self.old leaf e) }
+        ensures prev { TellsLast (stands self.old iter.old) (λ e. IsSomeAnd result (λ leaf. lies self.old leaf e)) }
         ensures beginning { (after : List Entry) → stands self.old iter.old [] after → result ≡ None }
-        ensures stays { (before after : List Entry) → stands self.old iter.old before after → stands self.old iter.new before after };
+        ensures stays { Everywhere (stands self.old iter.old) (stands self.old iter.new) };
 
     /// Reads the item of a leaf into the beginning of `out`, and gives its length.
     fn read(&mut self, leaf: Leaf, out: &mut [u8]) -> usize

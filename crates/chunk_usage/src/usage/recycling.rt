@@ -1,7 +1,7 @@
 //! Chunks that nothing reaches, given back.
 
-ghost use Rattle.std.specs.Prelude.{◌≡◌, ◌&&◌, ◌+◌, ◌/◌, ◌<◌, ◌≤◌, ℕ, true, false, not, count_by, length, All, Contains, IfSome};
-ghost use Rattle.chunk_usage.specs.Prelude.{Cell, Without, has, Row, free_count, is_given, is_bump, freed, is_in_rows, is_needed, is_unreached};
+ghost use Rattle.std.specs.Prelude.{◌≡◌, ◌+◌, ◌/◌, ◌<◌, ℕ, true, false, not, count_by, length, All, Contains, IfSome};
+ghost use Rattle.chunk_usage.specs.Prelude.{Without, has, Row, is_bump, is_in_rows, is_unreached, CanFree, FreesChunks, FreesUnreached};
 
 use super::Usage;
 use crate::bump::Bump;
@@ -18,12 +18,8 @@ impl Usage {
     pub fn free_unreached<C: CellWrite>(&mut self, cells: &mut C) -> u32
         requires same { C.given cells.old ≡ self.old.given }
         requires in_rows { (q : ℕ) → Contains (C.kept cells.old) q → is_in_rows self.old.rows (q / 1024) ≡ true }
-        ensures after { self.new ≡ freed self.old }
-        ensures by_chunk { (k : ℕ) → is_given self.new k ≡ (is_given self.old k && is_needed self.old k) }
-        ensures count { free_count self.new ≡ free_count self.old + result }
-        ensures given { C.given cells.new ≡ self.new.given }
-        ensures others { (q : ℕ) (c : Cell) → is_unreached self.old (q / 1024) ≡ false → C.has cells.old q c → C.has cells.new q c }
-        ensures kept { C.kept cells.new ≡ C.kept cells.old }
+        ensures usage { FreesUnreached self.old self.new result }
+        ensures cells { FreesChunks C.has C.kept C.given (is_unreached self.old) cells.old cells.new self.new.given }
     {
         // Mostly so, and no set is gone through.
         if self.all_used() {
@@ -71,15 +67,10 @@ fn leave_out(found: &mut ChunkSet, bump: Option<Bump>)
 
 /// Frees each chunk of a set. Tells how many.
 fn free_all<C: CellWrite>(chunks: &ChunkSet, given: &mut ChunkSet, cells: &mut C) -> u32
-    requires few { length chunks.now ≤ 4096 }
-    requires same { C.given cells.old ≡ given.old }
-    requires given { (k : ℕ) → has chunks.now k ≡ true → has given.old k ≡ true }
-    requires unkept { (q : ℕ) → Contains (C.kept cells.old) q → has chunks.now (q / 1024) ≡ false }
+    requires { CanFree C.kept C.given chunks.now given.old cells.old }
     ensures left { Without given.old given.new (has chunks.now) }
     ensures count { count_by not given.new ≡ count_by not given.old + result }
-    ensures given { C.given cells.new ≡ given.new }
-    ensures others { (q : ℕ) (c : Cell) → has chunks.now (q / 1024) ≡ false → C.has cells.old q c → C.has cells.new q c }
-    ensures kept { C.kept cells.new ≡ C.kept cells.old }
+    ensures cells { FreesChunks C.has C.kept C.given (has chunks.now) cells.old cells.new given.new }
 {
     let mut count = 0;
     let mut from = 0;

@@ -1,7 +1,7 @@
 //! Kept versions.
 
 ghost use Rattle.std.specs.Prelude.{◌≡◌, ◌≢◌, ◌<◌, ◌≤◌, ◌+◌, ◌-◌, ℕ, true, false, length, IfSome, take};
-ghost use Rattle.chunk_usage.specs.Prelude.{All, position_or_len, Row, Rising, is_used, is_mutable, newest, AreOlder, dropped};
+ghost use Rattle.chunk_usage.specs.Prelude.{All, position_or_len, Row, Rising, is_used, is_mutable, newest, AreOlder, CanForget, dropped};
 ghost use Rattle.chunk_usage.specs.Prelude.{frozen, is_among, is_kept, is_row_of, narrowed, restored, rows_of, without_row};
 
 use super::Usage;
@@ -85,9 +85,7 @@ fn gather(slots: &mut [KeptVersion], rows: usize, versions: &[u64]) -> usize
 
 /// Takes a version from those in the first slots. Its slot is then the last of theirs.
 fn forget(slots: &mut [KeptVersion], rows: usize, version: u64)
-    requires slots { rows ≤ length slots.old }
-    requires kept { is_kept (take rows slots.old) version ≡ true }
-    requires rising { Rising (take rows slots.old) }
+    requires { CanForget slots.old rows version }
     ensures length { length slots.new ≡ length slots.old }
     ensures rows { take (rows - 1) slots.new ≡ without_row version (take rows slots.old) }
     ensures wide { (n : ℕ) → All (λ (r : Row). length r.chunks ≡ n) slots.old → All (λ (r : Row). length r.chunks ≡ n) slots.new }

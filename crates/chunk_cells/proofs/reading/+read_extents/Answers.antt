@@ -8,25 +8,28 @@ use Rattle.trie_model.proofs.ExtentLaws.{linked_is, LiesOn, lies_in_row, lies_on
 use Rattle.chunk_cells.proofs.ItemLaws.{put_mid_at, put_mid_before, put_mid_past}
 use Rattle.chunk_cells.proofs.reading.+read_extents.Goals as goal
 
-pub read_last-requires-clause-there : goal.read_last-requires-clause-there
-read_last-requires-clause-there g t c k l =
-    let x = c.requires.there in
-    (item_cell x.0 k, (lies_in_row (g.C.CellRead.has c.args.cells.now) c.args.at c.args.len x.0 x.2 (omega arith)).cells k l)
+pub read_last-requires : goal.read_last-requires
+read_last-requires g t c = record {
+  room = search rules;
+  short = search rules;
+  inside =
+      let x = c.requires.there in
+      (lies_in_row (g.C.CellRead.has c.args.cells.now) c.args.at c.args.len x.0 x.2 (omega arith)).row.inside;
+  there = λ k l.
+      let x = c.requires.there in
+      (item_cell x.0 k, (lies_in_row (g.C.CellRead.has c.args.cells.now) c.args.at c.args.len x.0 x.2 (omega arith)).cells k l);
+}
 
-pub read_last-requires-clause-inside : goal.read_last-requires-clause-inside
-read_last-requires-clause-inside g t c =
-    let x = c.requires.there in
-    (lies_in_row (g.C.CellRead.has c.args.cells.now) c.args.at c.args.len x.0 x.2 (omega arith)).row.inside
-
-pub read_cells-requires-clause-there : goal.read_cells-requires-clause-there
-read_cells-requires-clause-there g t c k l =
-    let x = c.requires.there in
-    (item_cell x.0 k, (lies_on (g.C.CellRead.has c.args.cells.now) c.args.at c.args.len x.0 x.2 (omega arith)).cells k l)
-
-pub read_cells-requires-clause-inside : goal.read_cells-requires-clause-inside
-read_cells-requires-clause-inside g t c =
-    let x = c.requires.there in
-    let r = (lies_on (g.C.CellRead.has c.args.cells.now) c.args.at c.args.len x.0 x.2 (omega arith)).row.inside in let e = linked_is in omega arith
+pub read_cells-requires : goal.read_cells-requires
+read_cells-requires g t c = record {
+  room = search rules;
+  inside =
+      let x = c.requires.there in
+      let r = (lies_on (g.C.CellRead.has c.args.cells.now) c.args.at c.args.len x.0 x.2 (omega arith)).row.inside in let e = linked_is in omega arith;
+  there = λ k l.
+      let x = c.requires.there in
+      (item_cell x.0 k, (lies_on (g.C.CellRead.has c.args.cells.now) c.args.at c.args.len x.0 x.2 (omega arith)).cells k l);
+}
 
 pub next_extent-next-requires-clause-inside : goal.next_extent-next-requires-clause-inside
 next_extent-next-requires-clause-inside g t c =

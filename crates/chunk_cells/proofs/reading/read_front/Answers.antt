@@ -1,17 +1,18 @@
-use Rattle.std.proofs.Common.{take, get_or-take, length-take, length-take-le, ext_get_or, sym, ◌∙◌, arith}
+use Rattle.std.proofs.Common.{take, get_or-take, length-take, length-take-le, ext_get_or, sym, ◌∙◌, arith, rules}
 use Rattle.trie_model.specs.Extents.{item_cell}
 use Rattle.trie_model.proofs.ExtentLaws.{front_lies, front_inside}
 use Rattle.chunk_cells.proofs.reading.read_front.Goals as goal
 
-pub read_cells-requires-clause-inside : goal.read_cells-requires-clause-inside
-read_cells-requires-clause-inside g c =
-    let x = c.requires.there in let e = c.content_cells_for.ensures in let m = c.min-len.ensures in
-    front_inside (g.C.CellRead.has c.args.cells.now) c.args.leaf.at c.args.leaf.len x.0 x.1 c.content_cells_for.result (omega arith) (omega arith)
-
-pub read_cells-requires-clause-there : goal.read_cells-requires-clause-there
-read_cells-requires-clause-there g c k l =
-    let x = c.requires.there in let e = c.content_cells_for.ensures in let m = c.min-len.ensures in
-    (item_cell x.0 k, front_lies (g.C.CellRead.has c.args.cells.now) c.args.leaf.at c.args.leaf.len x.0 x.1 k (omega arith) (omega arith))
+pub read_cells-requires : goal.read_cells-requires
+read_cells-requires g c = record {
+  room = search rules;
+  inside =
+      let x = c.requires.there in let e = c.content_cells_for.ensures in let m = c.min-len.ensures in
+      front_inside (g.C.CellRead.has c.args.cells.now) c.args.leaf.at c.args.leaf.len x.0 x.1 c.content_cells_for.result (omega arith) (omega arith);
+  there = λ k l.
+      let x = c.requires.there in let e = c.content_cells_for.ensures in let m = c.min-len.ensures in
+      (item_cell x.0 k, front_lies (g.C.CellRead.has c.args.cells.now) c.args.leaf.at c.args.leaf.len x.0 x.1 k (omega arith) (omega arith));
+}
 
 pub returns-clause-front : goal.returns-clause-front
 returns-clause-front g c item octets lies =

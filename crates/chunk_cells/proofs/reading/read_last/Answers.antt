@@ -1,14 +1,22 @@
-use Rattle.std.proofs.Common.{◌≡◌, ◌+◌, ◌-◌, ◌*◌, inl, inr, sym, ap, subst, ◌∙◌, arith}
+use Rattle.std.proofs.Common.{◌≡◌, ◌+◌, ◌-◌, ◌*◌, inl, inr, sym, ap, subst, ◌∙◌, arith, rules}
 use Rattle.std.proofs.lemmas.Bool.{cases_lt}
 use Rattle.packed_node.specs.declared.Cell.{Cell}
 use Rattle.trie_model.specs.Extents.{item_cell}
 use Rattle.chunk_cells.proofs.reading.read_last.Goals as goal
 
-pub read_cells-requires-clause-there : goal.read_cells-requires-clause-there
-read_cells-requires-clause-there g c k l = c.requires.there k (let e = c.content_cells_for-count.ensures in omega arith)
+pub read_cells-requires : goal.read_cells-requires
+read_cells-requires g c = record {
+  room = search rules;
+  inside = search rules;
+  there = λ k l. c.requires.there k (let e = c.content_cells_for-count.ensures in omega arith);
+}
 
-pub read_cells-requires-2-clause-there : goal.read_cells-requires-2-clause-there
-read_cells-requires-2-clause-there g c k l = c.requires.there k (let e = c.content_cells_for-count.ensures in omega arith)
+pub read_cells-requires-2 : goal.read_cells-requires-2
+read_cells-requires-2 g c = record {
+  room = search rules;
+  inside = search rules;
+  there = λ k l. c.requires.there k (let e = c.content_cells_for-count.ensures in omega arith);
+}
 
 -- an octet of the cells before the last one, and of that one
 pub returns-clause-octets : goal.returns-clause-octets

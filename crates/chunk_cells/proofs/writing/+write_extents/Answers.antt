@@ -8,18 +8,15 @@ use Rattle.chunk_cells.proofs.LayingLaws.{BlankRows, blank_row, blank_rows, one_
 use Rattle.chunk_cells.proofs.writing.+write_extents.Goals as goal
 
 -- ---- one extent
-pub write_cells-requires-clause-inside : goal.write_cells-requires-clause-inside
-write_cells-requires-clause-inside g t c =
-    let b = (blank_row _ _ (length c.args.item.now) c.args.at.now (omega arith) (let e = c.requires.enough in omega arith) c.requires.blank).row.inside in
-    let e = c.content_cells_for.ensures in omega arith
-
-pub write_cells-requires-clause-given : goal.write_cells-requires-clause-given
-write_cells-requires-clause-given g t c k l =
-    (blank_row _ _ (length c.args.item.now) c.args.at.now (omega arith) (let e = c.requires.enough in omega arith) c.requires.blank).in_given k (let e = c.content_cells_for.ensures in omega arith)
-
-pub write_cells-requires-clause-unkept : goal.write_cells-requires-clause-unkept
-write_cells-requires-clause-unkept g t c k l =
-    (blank_row _ _ (length c.args.item.now) c.args.at.now (omega arith) (let e = c.requires.enough in omega arith) c.requires.blank).unkept k (let e = c.content_cells_for.ensures in omega arith)
+pub write_cells-requires : goal.write_cells-requires
+write_cells-requires g t c = record {
+  few = search rules;
+  inside =
+      let b = (blank_row _ _ (length c.args.item.now) c.args.at.now (omega arith) (let e = c.requires.enough in omega arith) c.requires.blank).row.inside in
+      let e = c.content_cells_for.ensures in omega arith;
+  given = λ k l. (blank_row _ _ (length c.args.item.now) c.args.at.now (omega arith) (let e = c.requires.enough in omega arith) c.requires.blank).in_given k (let e = c.content_cells_for.ensures in omega arith);
+  unkept = λ k l. (blank_row _ _ (length c.args.item.now) c.args.at.now (omega arith) (let e = c.requires.enough in omega arith) c.requires.blank).unkept k (let e = c.content_cells_for.ensures in omega arith);
+}
 
 pub returns-then-item-le-LAST_OCTETS-clause-lies : goal.returns-then-item-le-LAST_OCTETS-clause-lies
 returns-then-item-le-LAST_OCTETS-clause-lies g t c =
@@ -45,21 +42,19 @@ write_extents-requires g t c κs within =
     let blank = subst (λ (n : ℕ). AreBlank (g.C.CellWrite.kept c.args.cells.now) (g.C.CellWrite.given c.args.cells.now) n (extents_at (links n) (take (length c.args.at.now - 1) (drop 1 c.args.at.now)))) (sym item_is) behind in
     let fewer : links (length (take (length c.args.item.now - 4080) (drop 4080 c.args.item.now))) < length (take (length c.args.at.now - 1) (drop 1 c.args.at.now)) = let l = ap length at_is in omega arith in
     let less : length (take (length c.args.item.now - 4080) (drop 4080 c.args.item.now)) < length c.args.item.now = omega arith in
-    (search (rules, less), (within, (fewer, blank)))
+    (search (rules, less), (within, record { enough = fewer; blank = blank }))
 
-pub write_cells-requires-2-clause-inside : goal.write_cells-requires-2-clause-inside
-write_cells-requires-2-clause-inside g t c =
-    let i = (blank_rows _ _ (length c.args.item.now) c.args.at.now (omega arith) (let e = c.requires.enough in omega arith) c.requires.blank).first.row.inside in let e = linked_is in omega arith
-
-pub write_cells-requires-2-clause-given : goal.write_cells-requires-2-clause-given
-write_cells-requires-2-clause-given g t c k l =
-    subst (λ (gs : List Bool). IsGiven gs ((slice_index c.args.at.now 0 + k) / 1024)) (sym c.write_extents.ensures.given)
-    ((blank_rows _ _ (length c.args.item.now) c.args.at.now (omega arith) (let e = c.requires.enough in omega arith) c.requires.blank).first.in_given k (let e = linked_is in omega arith))
-
-pub write_cells-requires-2-clause-unkept : goal.write_cells-requires-2-clause-unkept
-write_cells-requires-2-clause-unkept g t c k l h =
-    (blank_rows _ _ (length c.args.item.now) c.args.at.now (omega arith) (let e = c.requires.enough in omega arith) c.requires.blank).first.unkept k (let e = linked_is in omega arith)
-    (subst (λ (ks : List ℕ). Contains ks (slice_index c.args.at.now 0 + k)) c.write_extents.ensures.kept h)
+pub write_cells-requires-2 : goal.write_cells-requires-2
+write_cells-requires-2 g t c = record {
+  few = search rules;
+  inside = let i = (blank_rows _ _ (length c.args.item.now) c.args.at.now (omega arith) (let e = c.requires.enough in omega arith) c.requires.blank).first.row.inside in let e = linked_is in omega arith;
+  given = λ k l.
+      subst (λ (gs : List Bool). IsGiven gs ((slice_index c.args.at.now 0 + k) / 1024)) (sym c.write_extents.ensures.given)
+      ((blank_rows _ _ (length c.args.item.now) c.args.at.now (omega arith) (let e = c.requires.enough in omega arith) c.requires.blank).first.in_given k (let e = linked_is in omega arith));
+  unkept = λ k l h.
+      (blank_rows _ _ (length c.args.item.now) c.args.at.now (omega arith) (let e = c.requires.enough in omega arith) c.requires.blank).first.unkept k (let e = linked_is in omega arith)
+      (subst (λ (ks : List ℕ). Contains ks (slice_index c.args.at.now 0 + k)) c.write_extents.ensures.kept h);
+}
 
 pub put-requires-clause-given : goal.put-requires-clause-given
 put-requires-clause-given g t c =

@@ -3,9 +3,8 @@ use Rattle.trie_model.specs.Extents.{links}
 use Rattle.chunk_cells.specs.Laying.{AreBlank, extents_at}
 use Rattle.chunk_cells.proofs.writing.write_item.Goals as goal
 
-pub write_extents-requires-clause-enough : goal.write_extents-requires-clause-enough
-write_extents-requires-clause-enough g c = let b = c.requires.short in let few : links (length c.args.item.now) < 17 = omega arith in search (rules, few)
-
-pub write_extents-requires-clause-blank : goal.write_extents-requires-clause-blank
-write_extents-requires-clause-blank g c =
-    subst (λ (n : ℕ). AreBlank (g.C.CellWrite.kept c.args.cells.now) (g.C.CellWrite.given c.args.cells.now) (length c.args.item.now) (extents_at (links n) c.args.extents.now.at)) c.requires.size c.requires.blank
+pub write_extents-requires : goal.write_extents-requires
+write_extents-requires g c = record {
+  enough = let b = c.requires.short in let few : links (length c.args.item.now) < 17 = omega arith in search (rules, few);
+  blank = subst (λ (n : ℕ). AreBlank (g.C.CellWrite.kept c.args.cells.now) (g.C.CellWrite.given c.args.cells.now) (length c.args.item.now) (extents_at (links n) c.args.extents.now.at)) c.requires.size c.requires.blank;
+}

@@ -12,5 +12,5 @@ loop-names-preserved g c =
     let h = c.loop-names.invariant.standing in record {
       same = c.next.ensures.same ∙ c.loop-names.invariant.same;
       standing = subst (λ v. IsStanding (g.V.Reading.stands v c.next.new.iter)) (sym c.next.ensures.same)
-          (moved (g.V.Reading.stands c.loop-names.reading c.loop-names.iter) (g.V.Reading.stands c.loop-names.reading c.next.new.iter) h.0 h.1.0 h.1.1 c.next.ensures.passed c.next.ensures.stays);
+          (moved (g.V.Reading.stands c.loop-names.reading c.loop-names.iter) (g.V.Reading.stands c.loop-names.reading c.next.new.iter) h.0 h.1.0 h.1.1 c.next.ensures.step.passed c.next.ensures.step.stays);
     }

@@ -29,14 +29,14 @@ pub returns-clause-agrees : goal.returns-clause-agrees
 returns-clause-agrees g c =
     let u = c.args.usage.now in
     let seat = c.args.seat in
-    let after = c.free_unreached-count.ensures.after in
+    let after = c.free_unreached-count.ensures.usage.after in
     let lent = c.free_unreached-count.new.cells in
     let view : c.into_joined.result.place.me.0 ≡ with_words seat.place.me.0 lent.words = c.into_joined.ensures.seat ∙ ap (λ (v : Known). with_words v lent.words) (sym c.requires.lent.1) in
     let count : lent.chunks ≡ length (freed u).given = same_chunks _ _ _ _ c.into_joined.ensures.size c.requires.wide (same_words _ _ (sym c.requires.lent.0)) ∙ sym (freed_chunks u) in
     subst (λ (l : Ledger). Agrees (cells_with l c.into_joined.result.place.me.0.turn) l seat.passes) (sym after)
     (agrees_freed (cells_with u seat.place.me.0.turn) (cells_with (freed u) c.into_joined.result.place.me.0.turn) u seat.passes c.known.ensures refl (freed_chunks u)
     (ap (λ (v : Known). kept_in v.turn) view ∙ words_kept seat.place.me.0.turn lent.words)
-    (given_after (length (freed u).given) c.into_joined.result.place.me.0.turn lent (kept_in g.B.Lent.view.turn) (freed u).given count c.into_joined.ensures.cells (c.free_unreached-count.ensures.given ∙ ap (λ (l : Ledger). l.given) after))
+    (given_after (length (freed u).given) c.into_joined.result.place.me.0.turn lent (kept_in g.B.Lent.view.turn) (freed u).given count c.into_joined.ensures.cells (c.free_unreached-count.ensures.cells.same ∙ ap (λ (l : Ledger). l.given) after))
     c.requires.agrees)
 
 pub returns-clause-stands : goal.returns-clause-stands
@@ -46,11 +46,11 @@ returns-clause-stands g c root es stands =
     let lent = c.free_unreached-count.new.cells in
     let back = c.into_joined.ensures in
     let now = c.free_unreached-count.new.self in
-    let after : now ≡ freed u = c.free_unreached-count.ensures.after in
+    let after : now ≡ freed u = c.free_unreached-count.ensures.usage.after in
     let first : c.lend-cells.result ≡ cells_with u seat.place.me.0.turn = lent_begins _ _ _ _ _ _ _ c.lend-cells.ensures.cells c.requires.lent.1 c.requires.wide c.args.shared.now.wide (same_words _ _ c.requires.table) in
     let count : lent.chunks ≡ length (freed u).given = same_chunks _ _ _ _ back.size c.requires.wide (same_words _ _ (sym c.requires.lent.0)) ∙ sym (freed_chunks u) in
     let words : words_of c.into_joined.result.place.me.0.turn ≡ lent.words = ap (λ (k : Cells). k.words) back.cells in
     rooted_there lent (cells_with now c.into_joined.result.place.me.0.turn) (ap (λ (l : Ledger). length l.given) after ∙ sym count) words now root es
     (subst (λ (l : Ledger). IsRooted (HasCell lent) l root es) (sym after)
-    (rooted_freed (HasCell c.lend-cells.result) (HasCell lent) u root es c.free_unreached-count.ensures.others
+    (rooted_freed (HasCell c.lend-cells.result) (HasCell lent) u root es c.free_unreached-count.ensures.cells.others
     (subst (λ (k : Cells). IsRooted (HasCell k) u root es) (sym first) stands)))

@@ -50,6 +50,6 @@ returns-clause-pred g c version stands told =
           subst (IsPredecessor k version) (sym w.pred-is) (last_there (IsNamed has) k version w.in-Some.leaf w.key_at.result (stands_rises has c.args.root version stands) finds (key ∙ finds.2))
           )
       | in-None w ↦ subst (IsPredecessor k version) (sym w.pred-is) (last_before (StandsBetween has c.args.root c.lookup-leaf.new.self) k version w.prev-pred.result (c.lookup-leaf.ensures.split c.args.root [] version at) (w.in-None.ensures.leaf c.args.root [] version at)
-          (λ before after e s. w.prev-pred.ensures.prev c.args.root before after e (subst (λ t. StandsBetween (g.C.CellRead.has t) c.args.root c.lookup-leaf.new.self (before ++ (e ∷ [])) after) (sym c.lookup-leaf.ensures.same) s))
-          (λ after s. w.prev-pred.ensures.beginning c.args.root after (subst (λ t. StandsBetween (g.C.CellRead.has t) c.args.root c.lookup-leaf.new.self [] after) (sym c.lookup-leaf.ensures.same) s)))
+          (λ before after e s. w.prev-pred.ensures.step.prev c.args.root before after e (subst (λ t. StandsBetween (g.C.CellRead.has t) c.args.root c.lookup-leaf.new.self (before ++ (e ∷ [])) after) (sym c.lookup-leaf.ensures.same) s))
+          (λ after s. w.prev-pred.ensures.step.beginning c.args.root after (subst (λ t. StandsBetween (g.C.CellRead.has t) c.args.root c.lookup-leaf.new.self [] after) (sym c.lookup-leaf.ensures.same) s)))
     ]

@@ -11,4 +11,4 @@ pub loop-item-preserved : goal.loop-item-preserved
 loop-item-preserved g c =
     let h = c.loop-item.invariant in
     subst (λ v. IsStanding (g.R.Reading.stands v c.next-key.new.iter)) (sym c.next-key.ensures.same)
-    (moved (g.R.Reading.stands c.loop-item.reading c.loop-item.iter) (g.R.Reading.stands c.loop-item.reading c.next-key.new.iter) h.0 h.1.0 h.1.1 c.next-key.ensures.passed c.next-key.ensures.stays)
+    (moved (g.R.Reading.stands c.loop-item.reading c.loop-item.iter) (g.R.Reading.stands c.loop-item.reading c.next-key.new.iter) h.0 h.1.0 h.1.1 c.next-key.ensures.step.passed c.next-key.ensures.step.stays)
