@@ -5,6 +5,9 @@ KIND is `one`, questions one at a time; `pipe`, the same through a pipe; `commit
 a pipe; `memory`, the same; `slowest`, the slowest of so many questions one at a time while another session of the same program has a full
 pipe to answer; `copied`, so many lines one at a time through `cat`, which is what the two pipes alone take. Prints microseconds each, of
 `slowest` also the middle one, and of `memory` the most KiB that the program had.
+
+With `one` and `copied` both ends are kept on one processor, since one of them waits while the other works, and waking another processor takes longer
+than an answer.
 """
 import os
 import subprocess
@@ -13,11 +16,14 @@ import threading
 import time
 
 
+AT_ONCE = 1 << 16
+
+
 def start(program, zone):
     process = subprocess.Popen([program, "live", "--origin", "example.", "--chunks", "4096"], stdin=subprocess.PIPE, stdout=subprocess.PIPE, bufsize=0)
-    threading.Thread(target=process.stdin.write, args=(zone,)).run()
-    out = os.fdopen(process.stdout.fileno(), "rb", closefd=False)
-    out.readline()
+    process.stdin.write(zone)
+    out = process.stdout.fileno()
+    os.read(out, AT_ONCE)
     return process, out
 
 
@@ -30,7 +36,7 @@ def through(program, zone, lines):
     writer = threading.Thread(target=lambda: (process.stdin.write(b"".join(lines)), process.stdin.close()))
     begun = time.perf_counter()
     writer.start()
-    for _ in out:
+    while os.read(out, AT_ONCE):
         pass
     taken = time.perf_counter() - begun
     writer.join()
@@ -38,15 +44,24 @@ def through(program, zone, lines):
     return taken, used.ru_maxrss
 
 
+# A reply's first line tells how many follow it.
+def is_whole(reply):
+    lines = reply.count(b"\n")
+    if not lines:
+        return False
+    head = reply[: reply.index(b"\n")].split()
+    return lines == 1 + (int(head[3]) if len(head) > 3 else 0)
+
+
 def one_by_one(program, zone, lines):
     process, out = start(program, zone)
-    times = []
+    into, times = process.stdin.fileno(), []
     for line in lines:
         begun = time.perf_counter()
-        process.stdin.write(line)
-        head = out.readline().split()
-        for _ in range(int(head[3]) if len(head) > 3 else 0):
-            out.readline()
+        os.write(into, line)
+        reply = os.read(out, AT_ONCE)
+        while not is_whole(reply):
+            reply += os.read(out, AT_ONCE)
         times.append(time.perf_counter() - begun)
     process.stdin.close()
     process.wait()
@@ -55,11 +70,11 @@ def one_by_one(program, zone, lines):
 
 def copied(count):
     process = subprocess.Popen(["cat"], stdin=subprocess.PIPE, stdout=subprocess.PIPE, bufsize=0)
-    out = os.fdopen(process.stdout.fileno(), "rb", closefd=False)
+    into, out = process.stdin.fileno(), process.stdout.fileno()
     begun = time.perf_counter()
     for line in questions(count, count):
-        process.stdin.write(line)
-        out.readline()
+        os.write(into, line)
+        os.read(out, AT_ONCE)
     taken = time.perf_counter() - begun
     process.stdin.close()
     process.wait()
@@ -71,6 +86,8 @@ def main(name, program, kind, count):
         text = file.read()
     zone = text[: text.index(b"\n%%\n") + 4]
     hosts, count = zone.count(b" A 10."), int(count)
+    if kind in ("one", "copied"):
+        os.sched_setaffinity(0, {min(os.sched_getaffinity(0))})
     if kind == "one":
         print(f"{sum(one_by_one(program, zone, questions(hosts, count))) / count * 1e6:.2f}")
     elif kind == "copied":
