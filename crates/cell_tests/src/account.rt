@@ -1,6 +1,6 @@
 //! An account that two passes pay into: version n is the sum after the first n payments.
-ghost use Rattle.std.specs.Prelude.{◌≡◌, ◌+◌, ◌<◌, [], ◌∷◌, ◌++◌, None};
-ghost use Rattle.cell_tests.specs.Prelude.{IsPartOf, entry_of, CanPublish, Published};
+ghost use Rattle.std.specs.Prelude.{◌≡◌, ◌+◌, ◌<◌, None};
+ghost use Rattle.cell_tests.specs.Prelude.{IsPartOf, CanPublish, Pays, Published};
 
 use shared_cells::{
     HistoryLaw, JoinedSeat, NewPassSeat, NewTurnSeat, Opening, PassSeat, Payload, SeatNote, Shared,
@@ -112,8 +112,7 @@ fn pay(
     requires room { turn.version < 1000 }
     ensures version { result.0.version ≡ turn.version + 1 }
     ensures tables { (result.0.place.table_id ≡ account.now.table.shared.table_id) × (result.1.place.table_id ≡ account.now.table.shared.table_id) }
-    ensures told { IsPartOf turn.place.me.0.seen pass.place.me.0.seen }
-    ensures paid { result.0.place.me.0.seen.history ≡ turn.place.me.0.seen.history ++ entry_of pass.number amount ∷ [] }
+    ensures pays { Pays pass.number amount pass.place.me.0.seen turn.place.me.0.seen result.0.place.me.0.seen }
 {
     let mut joined = turn.join(account, pass);
     let word = joined.look(account);

@@ -1,8 +1,8 @@
 //! One writer and two readers, each in a thread of its own, on an index of six chunks. Version n is the number n, in one cell of
 //! the chunk n modulo 6, so each chunk is freed, given again and written over and over.
-ghost use Rattle.std.specs.Prelude.{◌≡◌, ◌+◌, ◌*◌, ◌%◌, ◌^◌, ◌<◌, ◌≤◌, ◌==◌, not, true, false, length, replicate, Some, [], ◌∷◌};
-ghost use Rattle.cell_tests.specs.Prelude.{list_any, OnTrue, words_of, unopened_view, pinned_image, pinned_root, cells_of, given_chunks};
-ghost use Rattle.cell_tests.specs.Prelude.{kept_references, with_words, HasCell, CanPublish, Published, place_of, cell_of, IsVersion, AreOf, IsTold};
+ghost use Rattle.std.specs.Prelude.{◌≡◌, ◌+◌, ◌%◌, ◌≤◌, ◌==◌, not, true, Some, []};
+ghost use Rattle.cell_tests.specs.Prelude.{list_any, OnTrue, pinned_image, pinned_root};
+ghost use Rattle.cell_tests.specs.Prelude.{CanPublish, Published, place_of, IsVersion, IsTold, KnowsChunks, KnowsTurn, Writes, CanGoOn, IsFresh};
 
 use chunk_cells::{CellRead, CellWrite};
 use packed_node::Cell;
@@ -55,9 +55,7 @@ fn is_in_use(versions: &[u64], chunk: u32) -> bool
 
 /// Writes the next version into its chunk, if no version that is kept is there. A chunk that is given is freed and given anew.
 fn lay<C: CellWrite>(cells: &mut C, versions: &[u64], given: &mut [bool], next: u64) -> bool
-    requires six { length given.old ≡ 6 }
-    requires given { C.given cells.old ≡ given.old }
-    requires kept { AreOf versions.now (C.kept cells.old) }
+    requires knows { KnowsChunks given.old versions.now (C.given cells.old) (C.kept cells.old) }
     ensures given { C.given cells.new ≡ given.new }
     ensures kept { C.kept cells.new ≡ C.kept cells.old }
     ensures answer { result ≡ not (list_any (λ v. v % 6 == next % 6) versions.now) }
@@ -88,13 +86,9 @@ fn write_first<B: Lent<u64, u64>>(
 ) -> NewTurnSeat<u64, u64>
     requires table { turn.place.table_id ≡ index.now.table.shared.table_id }
     requires lent { (turn.place.table_id ≡ B.table) × (turn.place.me.0 ≡ B.view) }
-    requires six { length given.old ≡ 6 }
-    requires given { given_chunks (cells_of index.now.table.shared.key.chunks turn.place.me.0.turn) ≡ given.old }
-    requires kept { AreOf [] (kept_references (cells_of index.now.table.shared.key.chunks turn.place.me.0.turn)) }
+    requires knows { KnowsTurn given.old [] index.now.table.shared.key.chunks turn.place.me.0.turn }
     ensures table { result.place.table_id ≡ turn.place.table_id }
-    ensures same { result.place.me.0 ≡ with_words turn.place.me.0 (words_of result.place.me.0.turn) }
-    ensures given { given_chunks (cells_of index.now.table.shared.key.chunks result.place.me.0.turn) ≡ given.new }
-    ensures written { HasCell (cells_of index.now.table.shared.key.chunks result.place.me.0.turn) (place_of 0) (record { big = 0; small = 0 }) }
+    ensures writes { Writes index.now.table.shared.key.chunks 0 true turn.place.me.0 result.place.me.0 given.new }
 {
     let mut cells = turn.lend::<Numbers, B>(index);
     lay(&mut cells, &[], given, 0);
@@ -111,14 +105,9 @@ fn write_next<B: Lent<u64, u64>>(
 ) -> (JoinedSeat<u64, u64>, bool)
     requires table { turn.place.table_id ≡ index.now.table.shared.table_id }
     requires lent { (turn.place.table_id ≡ B.table) × (turn.place.me.0 ≡ B.view) }
-    requires six { length given.old ≡ 6 }
-    requires given { given_chunks (cells_of index.now.table.shared.key.chunks turn.place.me.0.turn) ≡ given.old }
-    requires kept { AreOf versions.now (kept_references (cells_of index.now.table.shared.key.chunks turn.place.me.0.turn)) }
+    requires knows { KnowsTurn given.old versions.now index.now.table.shared.key.chunks turn.place.me.0.turn }
     ensures table { result.0.place.table_id ≡ turn.place.table_id }
-    ensures same { result.0.place.me.0 ≡ with_words turn.place.me.0 (words_of result.0.place.me.0.turn) }
-    ensures given { given_chunks (cells_of index.now.table.shared.key.chunks result.0.place.me.0.turn) ≡ given.new }
-    ensures written { OnTrue result.1 (HasCell (cells_of index.now.table.shared.key.chunks result.0.place.me.0.turn) (place_of next)
-        (record { big = next; small = next })) }
+    ensures writes { Writes index.now.table.shared.key.chunks next result.1 turn.place.me.0 result.0.place.me.0 given.new }
 {
     let mut cells = turn.lend::<Numbers, B>(index);
     let is_written = lay(&mut cells, versions, given, next);
@@ -150,9 +139,7 @@ fn transact(
     given: &mut [bool],
 ) -> (TurnSeat<u64, u64>, PassSeat<u64, u64>, KeptVersions)
     requires tables { (turn.place.table_id ≡ index.now.table.shared.table_id) × (pass.place.table_id ≡ index.now.table.shared.table_id) }
-    requires six { length given.old ≡ 6 }
-    requires told { IsTold index.now.table.shared.key.chunks turn.place.me.0 given.old kept.now }
-    requires room { turn.version < 2 ^ 39 }
+    requires can { CanGoOn index.now.table.shared.key.chunks turn.version turn.place.me.0 given.old kept.now }
     ensures tables { (result.0.place.table_id ≡ index.now.table.shared.table_id) × (result.1.place.table_id ≡ index.now.table.shared.table_id) }
     ensures told { IsTold index.now.table.shared.key.chunks result.0.place.me.0 given.new result.2 }
     ensures version { result.0.version ≤ turn.version + 1 }
@@ -252,9 +239,7 @@ fn open(
     given: &mut [bool],
 ) -> (TurnSeat<u64, u64>, KeptVersions)
     requires table { turn.place.table_id ≡ index.now.table.shared.table_id }
-    requires size { index.now.table.shared.key.chunks ≡ 6 }
-    requires first { turn.place.me.0 ≡ unopened_view index.now.table.shared.key 3 }
-    requires given { given.old ≡ replicate 6 false }
+    requires fresh { IsFresh index.now.table.shared.key turn.place.me.0 given.old }
     ensures table { result.0.place.table_id ≡ index.now.table.shared.table_id }
     ensures told { IsTold index.now.table.shared.key.chunks result.0.place.me.0 given.new result.1 }
 {

@@ -1,5 +1,11 @@
--- What a sink holds, and what a write does to that.
+-- What a source gives, what a sink holds, and what a write does to that.
 use Rattle.std.specs.Prelude.{◌≡◌, ℕ, ◌≤◌, List, ◌++◌, length, take, ⊤, Option, None, Some}
+use Rattle.std.specs.Io.KnownBytes.{Consumes}
+
+-- A source gave so many bytes: they were taken from those that it has left, where it tells these, and come behind those that it gave before.
+abbrev pub GivesBytes : {S : Type 0} → (S → Option (List ℕ)) → (S → List ℕ) → S → S → ℕ → Type 0
+GivesBytes left given before after n =
+    (bytes : List ℕ) × Consumes (left before) (left after) bytes × (given after ≡ given before ++ bytes) × (length bytes ≡ n)
 
 -- What a sink tells. One that has never told its bytes may begin to. One that told them may spill over, and then tells them no more.
 pub data Told : Type 0 where

@@ -1,5 +1,5 @@
-ghost use Rattle.std.specs.Prelude.{◌≡◌, ◌+◌, ◌≤◌, ◌^◌, ◌<◌, ◌++◌, ℕ, List, length, vec_len, IsTrue, OnOk, IfOk, IsErrOf};
-ghost use Rattle.outer_io.specs.Prelude.{Consumes, IsAtEnd, Rose, Memory, Fault};
+ghost use Rattle.std.specs.Prelude.{◌≡◌, ◌+◌, ◌≤◌, ◌^◌, ◌<◌, ◌++◌, ℕ, vec_len, IsTrue, OnOk, IfOk, IsErrOf};
+ghost use Rattle.outer_io.specs.Prelude.{Consumes, GivesBytes, IsAtEnd, Rose, Memory, Fault};
 
 use crate::schedule::Failed;
 use crate::sources::Source;
@@ -52,8 +52,7 @@ pub fn read_all<S: Source>(
     ensures within { IfOk result (λ v. vec_len v ≤ limit) }
 
     ensures fault { IsErrOf result ReadRefusal.Fault → Rose (S.faults source.old) (S.faults source.new) }
-    ensures too_long { IsErrOf result (ReadRefusal.TooLong limit)
-        → (bytes : List ℕ) × Consumes (S.left source.old) (S.left source.new) bytes × (S.given source.new ≡ S.given source.old ++ bytes) × (length bytes ≡ limit + 1) }
+    ensures too_long { IsErrOf result (ReadRefusal.TooLong limit) → GivesBytes S.left S.given source.old source.new (limit + 1) }
     ensures told_limit { (n : ℕ) → IsErrOf result (ReadRefusal.TooLong n) → n ≡ limit }
     ensures quiet { (IsErrOf result ReadRefusal.Fault → ⊥) → S.faults source.new ≡ S.faults source.old }
     ensures later { S.faults source.old ≤ S.faults source.new }

@@ -1,4 +1,5 @@
-ghost use Rattle.std.specs.Prelude.{◌≡◌, ◌<◌, ◌≤◌, ◌↔◌, ℕ, List, [], ◌++◌, ◌==◌, Bool, IsTrue, Option, Some, take, length, min, IsErr, IfOk, OnOk, IsOkAnd, OnErr, Contains};
+ghost use Rattle.std.specs.Prelude.{◌≡◌, ◌<◌, ◌≤◌, ◌↔◌, ℕ, List, [], ◌++◌, ◌==◌, Bool, IsTrue, Option, Some, take, length, min};
+ghost use Rattle.std.specs.Prelude.{IsErr, IfOk, OnOk, IsOkAnd, OnErr, Contains};
 ghost use Rattle.outer_io.specs.Prelude.{Consumes, IsAtEnd, Keeps, Rose, next_count};
 
 use crate::feed::Feed;

@@ -1,6 +1,6 @@
 -- The machine: what each event does, where it is allowed, and what it answers. The events are this project's own protocol;
 -- what they are for is BIND's: readers that never wait beside one writer (doc/design/qp-trie.md).
-use Rattle.std.specs.Prelude.{ℕ, ◌+◌, ◌-◌, ◌*◌, ◌^◌, ◌==◌, nat_lt, nat_le, max, List, [], ◌∷◌, ◌++◌, map, filter, slice_index, slice_set, replicate, Bool, true, false, not, ◌&&◌, ◌||◌, if◌then◌else◌, Option, Some, None}
+use Rattle.std.specs.Prelude.{◌≡◌, ℕ, ◌+◌, ◌-◌, ◌*◌, ◌^◌, ◌==◌, nat_lt, nat_le, max, List, [], ◌∷◌, ◌++◌, map, filter, slice_index, slice_set, replicate, Bool, true, false, not, ◌&&◌, ◌||◌, if◌then◌else◌, Option, Some, None}
 use Rattle.std.specs.List.{list_any, list_all, fold}
 use Rattle.pin_core.specs.declared.kept.CellAt.{CellAt}
 use Rattle.pin_core.specs.declared.kept.Kept.{Kept}
@@ -211,6 +211,12 @@ next s (event.Give chunk) = given s chunk
 next s (event.Free chunk) = freed s chunk
 next s (event.Write at half value) = written s at half value
 next s (event.Publish root cells) = published s root cells
+
+-- the machine went on by an event
+pub record IsStep (old : Core) (e : Event) (new : Core) (told : Step) : Type 0 where
+  pub after : new ≡ (next old e).0
+  -- it answered so
+  pub answer : told ≡ (next old e).1
 
 -- an event that takes no memory
 abbrev pub IsInPlace : Event → Type 0

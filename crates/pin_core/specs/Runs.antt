@@ -88,3 +88,14 @@ RoundsKeepFew = (o : Opening) → CanOpen o → (events : List Event) (marks : L
 -- From each opening: what a pass has seen never falls, whatever more events come.
 abbrev pub NoPassGoesBack : Type 0
 NoPassGoesBack = (o : Opening) → CanOpen o → (events more : List Event) (p : ℕ) → p < o.size.passes → slice_index (run_of o events).seen p ≤ slice_index (run_of o (events ++ more)).seen p
+
+-- what holds of every run, from each opening and whatever the events are
+pub record EveryRunHolds : Type 0 where
+  -- between any two events
+  pub sound : IsAlwaysSound
+  -- of what a pinned pass reads
+  pub reads : EachReadsItsVersion
+  -- of the versions that a round keeps
+  pub rounds : RoundsKeepFew
+  -- of what a pass has seen
+  pub forward : NoPassGoesBack

@@ -1,7 +1,6 @@
 //! Whole runs of the machine.
 ghost use Rattle.std.specs.Prelude.{◌≡◌, IfOk};
-ghost use Rattle.pin_core.specs.Prelude.{size_of, started, IsWithinLimits, answers, IsAlwaysSound};
-ghost use Rattle.pin_core.specs.Prelude.{EachReadsItsVersion, RoundsKeepFew, NoPassGoesBack};
+ghost use Rattle.pin_core.specs.Prelude.{size_of, started, IsWithinLimits, answers, EveryRunHolds};
 
 use crate::event::{Event, Step};
 use crate::state::State;
@@ -9,7 +8,7 @@ use std::alloc::{AllocError, Global};
 
 /// What the events answer, one after another, from the state in which version 0 is empty.
 ///
-/// The last four clauses are of every run, from each opening and whatever the events are.
+/// The last clause is of every run, from each opening and whatever the events are.
 pub fn drive(
     alloc: Global,
     passes: u32,
@@ -18,10 +17,7 @@ pub fn drive(
 ) -> Result<Vec<Step>, AllocError>
     requires { IsWithinLimits (size_of passes chunks) }
     ensures answers { IfOk result (λ steps. steps.items ≡ answers (started (size_of passes chunks)) events.now) }
-    ensures sound { IsAlwaysSound }
-    ensures reads { EachReadsItsVersion }
-    ensures rounds { RoundsKeepFew }
-    ensures forward { NoPassGoesBack }
+    ensures every_run { EveryRunHolds }
 {
     let mut state = State::start(alloc, passes, chunks)?;
     state.play(alloc, events)

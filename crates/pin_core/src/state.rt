@@ -1,6 +1,6 @@
 //! The machine.
 ghost use Rattle.std.specs.Prelude.{◌≡◌, IfOk, OnOk, OnErr, IsOk};
-ghost use Rattle.pin_core.specs.Prelude.{IsSound, IsInPlace, next, after, answers, StoppedWithin};
+ghost use Rattle.pin_core.specs.Prelude.{IsSound, IsInPlace, IsStep, next, after, answers, StoppedWithin};
 
 mod cells;
 mod opening;
@@ -42,8 +42,7 @@ impl Model for State {
 impl State {
     /// One event. One that isn't allowed changes nothing; only a publish takes memory.
     pub fn step(&mut self, alloc: Global, event: &Event) -> Result<Step, AllocError>
-        ensures after { OnOk result (self.new ≡ (next self.old event.now).0) }
-        ensures answer { IfOk result (λ answer. answer ≡ (next self.old event.now).1) }
+        ensures step { IfOk result (λ answer. IsStep self.old event.now self.new answer) }
         ensures refused { result ≡ Ok Step.Refused → self.new ≡ self.old }
         ensures err { OnErr result (self.new ≡ self.old) }
         ensures in_place { IsInPlace event.now → IsOk result }

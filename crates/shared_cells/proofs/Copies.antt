@@ -223,3 +223,11 @@ module _ {O E : Type 0} (chunks : ℕ) (m : Knower O E) (cells : Cells) (is : ce
 
 pub lent_turn : {O E : Type 0} {table at_table : TableId} {view : View O E} {m : Knower O E} {current joined passes : ℕ} → IsLent table view at_table m current joined passes → has_turn m.0.turn ≡ true
 lent_turn {O} {E} {view = view} {m = m} lent = ap (λ (v : View O E). has_turn v.turn) lent.frame ∙ turn_stays view.turn (words_of m.0.turn) ∙ lent.turn
+
+stored_stays : (t : Option TurnView) (i x : ℕ) → has_turn (stored_in t i x) ≡ has_turn t
+stored_stays None i x = refl
+stored_stays (Some turn) i x = refl
+
+-- a seat has the turn still when it has stored a word
+pub turn_stored : {O E : Type 0} (m now : Knower O E) (i x : ℕ) → now ≡ (stored_view m.0 i x, m.1) → has_turn m.0.turn ≡ true → has_turn now.0.turn ≡ true
+turn_stored {O} {E} m now i x e has = ap (λ (y : Knower O E). has_turn y.0.turn) e ∙ stored_stays m.0.turn i x ∙ has

@@ -1,5 +1,5 @@
 -- The cells of the table as the turn knows them, in the terms of the traits by which the trie's crates know cells.
-use Rattle.std.specs.Prelude.{◌≡◌, ◌≢◌, ℕ, ◌+◌, ◌*◌, ◌/◌, ◌<◌, ◌≤◌, ◌==◌, List, [], length, map, replicate, slice_index, true, false, Bool, Option, Some, None}
+use Rattle.std.specs.Prelude.{◌≡◌, ◌≢◌, ℕ, ◌+◌, ◌*◌, ◌^◌, ◌/◌, ◌<◌, ◌≤◌, ◌==◌, List, [], length, map, replicate, slice_index, true, false, Bool, Option, Some, None}
 use Rattle.std.specs.List.{flat_map, range_with_len}
 use Rattle.atomic_table.specs.Seated.{TableId}
 use Rattle.atomic_table.specs.Table.{Me}
@@ -102,6 +102,13 @@ module _ {O E : Type 0} where
     pub inside : (k : ℕ) → k < n → from + k < words
     pub apart : (i j : ℕ) → i < n → j < n → from + i ≢ to + j
     pub blank : (k : ℕ) → k < n → IsBlankWord chunks (kept_in me.0.turn) (to + k)
+
+  -- the turn may copy so many cells
+  pub record MayCopyCells (chunks words : ℕ) (me : Me (Unit {0}) (View O E)) (from to cells : ℕ) : Type 0 where
+    -- no place is so high that it can't be counted
+    pub small : (from + 2 * cells ≤ 2 ^ 24) × (to + 2 * cells ≤ 2 ^ 24)
+    -- the two words of each
+    pub all : MayCopy chunks words me from to (2 * cells)
 
   -- it has copied them, and done nothing else
   pub record HasCopied (before after : Me (Unit {0}) (View O E)) (from to n : ℕ) : Type 0 where

@@ -111,9 +111,13 @@ module _ {O E : Type 0} (applied : O → E → O) (lawful : O → O → Type 0) 
     -- each kept image is its version
     pub images : (o : O) → v.seen.opening ≡ Some o → All (λ k. stands k.image k.root (version_after applied o (take k.version v.seen.history))) turn.kept
 
+  -- so does a look of a seat
+  abbrev pub Confirms : View O E → ℕ → Type 0
+  Confirms v word = (turn : TurnView) × (v.turn ≡ Some turn) × Confirmed v turn word
+
   -- the turn looks at CUR
   abbrev pub looked : WordStep → Knower O E → ℕ → Knower O E → Type 0
-  looked step m word m' = (m' ≡ m) × ((turn : TurnView) × (m.0.turn ≡ Some turn) × Confirmed m.0 turn word)
+  looked step m word m' = (m' ≡ m) × Confirms m.0 word
 
 module _ {O E : Type 0} where
   -- the view after the opening

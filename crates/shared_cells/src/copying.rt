@@ -2,7 +2,7 @@
 //!
 //! The table stays the same for all of them, where a cell that is read or written by itself asks for it each time.
 ghost use Rattle.std.specs.Prelude.{◌≡◌, ◌+◌, ◌*◌, ◌^◌, ◌≤◌, true};
-ghost use Rattle.shared_cells.specs.Prelude.{has_turn, kept_in, stored_view, IsBlankWord, MayCopy, HasCopied};
+ghost use Rattle.shared_cells.specs.Prelude.{has_turn, kept_in, stored_view, IsBlankWord, MayCopy, MayCopyCells, HasCopied};
 
 use crate::law::HistoryLaw;
 use crate::plays::{Recall, Store};
@@ -107,9 +107,8 @@ fn copy_few<O, E, L: HistoryLaw<O, E>>(
     cells: usize,
 )
     requires few { cells ≤ 3 }
-    requires small { (from + 2 * cells ≤ 2 ^ 24) × (to + 2 * cells ≤ 2 ^ 24) }
     requires table { place.old.table_id ≡ shared.now.table.shared.table_id }
-    requires may { MayCopy shared.now.table.shared.key.chunks shared.now.table.shared.table_id.words place.old.me from to (2 * cells) }
+    requires may { MayCopyCells shared.now.table.shared.key.chunks shared.now.table.shared.table_id.words place.old.me from to cells }
     ensures table { place.new.table_id ≡ place.old.table_id }
     ensures copied { HasCopied place.old.me place.new.me from to (2 * cells) }
 {
@@ -131,9 +130,8 @@ pub(crate) fn copy_words<O, E, L: HistoryLaw<O, E>>(
     to: usize,
     cells: usize,
 )
-    requires small { (from + 2 * cells ≤ 2 ^ 24) × (to + 2 * cells ≤ 2 ^ 24) }
     requires table { place.old.table_id ≡ shared.now.table.shared.table_id }
-    requires may { MayCopy shared.now.table.shared.key.chunks shared.now.table.shared.table_id.words place.old.me from to (2 * cells) }
+    requires may { MayCopyCells shared.now.table.shared.key.chunks shared.now.table.shared.table_id.words place.old.me from to cells }
     ensures table { place.new.table_id ≡ place.old.table_id }
     ensures copied { HasCopied place.old.me place.new.me from to (2 * cells) }
 {

@@ -2,8 +2,8 @@
 //!
 //! A crate that is generic over cells says of them what they have, which chunks are given and what is kept, and nothing of the
 //! seat behind them. So the rest of what the seat knew is in the type of the cells: `Lent` names it.
-ghost use Rattle.std.specs.Prelude.{◌≡◌, ◌+◌, ◌*◌, ◌/◌, ◌<◌, ◌≤◌, [], true, false, slice_index};
-ghost use Rattle.shared_cells.specs.Prelude.{half_at, status_at, words_for, is_kept_cell, is_kept_chunk, has_turn};
+ghost use Rattle.std.specs.Prelude.{◌≡◌, ◌<◌, true, slice_index};
+ghost use Rattle.shared_cells.specs.Prelude.{half_at, status_at, words_for, has_turn, MayFree, MayWrite};
 ghost use Rattle.shared_cells.specs.Prelude.{words_of, kept_in, stored_view, cells_of, with_words, IsNewTurn, IsJoined};
 
 use crate::copying::copy_words;
@@ -65,7 +65,8 @@ impl<'a, O, E, L: HistoryLaw<O, E>, B: Lent<O, E>> Model for TurnCells<'a, O, E,
 
     ghost view = { λ s. cells_of s.shared.now.table.shared.key.chunks s.place.me.0.turn };
 
-    ghost invariant = { λ s. IsLent B.table B.view s.place.table_id s.place.me s.version s.number s.passes × (s.shared.now.table.shared.table_id ≡ B.table) };
+    ghost invariant = { λ s. IsLent B.table B.view s.place.table_id s.place.me s.version s.number s.passes
+        × (s.shared.now.table.shared.table_id ≡ B.table) };
 }
 
 impl<O, E, L: HistoryLaw<O, E>, B: Lent<O, E>> CellRead for TurnCells<'_, O, E, L, B> {
@@ -234,9 +235,7 @@ fn write_half<O, E, L: HistoryLaw<O, E>>(
     value: u64,
 )
     requires table { place.old.table_id ≡ shared.now.table.shared.table_id }
-    requires turn { has_turn place.old.me.0.turn ≡ true }
-    requires inside { at / 1024 < shared.now.table.shared.key.chunks }
-    requires unkept { is_kept_cell (kept_in place.old.me.0.turn) at ≡ false }
+    requires may { MayWrite shared.now.table.shared.key.chunks place.old.me.0.turn at }
     ensures table { place.new.table_id ≡ place.old.table_id }
     ensures stored { place.new.me ≡ (stored_view place.old.me.0 (half_at at half) value, place.old.me.1) }
 {
@@ -267,9 +266,7 @@ fn mark_free<O, E, L: HistoryLaw<O, E>>(
     chunk: u32,
 )
     requires table { place.old.table_id ≡ shared.now.table.shared.table_id }
-    requires turn { has_turn place.old.me.0.turn ≡ true }
-    requires inside { chunk < shared.now.table.shared.key.chunks }
-    requires unkept { is_kept_chunk (kept_in place.old.me.0.turn) chunk ≡ false }
+    requires may { MayFree shared.now.table.shared.key.chunks place.old.me.0.turn chunk }
     ensures table { place.new.table_id ≡ place.old.table_id }
     ensures stored { place.new.me ≡ (stored_view place.old.me.0 (status_at chunk) 0, place.old.me.1) }
 {

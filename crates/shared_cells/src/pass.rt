@@ -1,6 +1,7 @@
 //! The seats of passes, and the notes by which one tells another what it has seen.
-ghost use Rattle.std.specs.Prelude.{◌≡◌, ℕ, ◌+◌, ◌*◌, ◌<◌, ◌≤◌, length, true, false, []};
-ghost use Rattle.shared_cells.specs.Prelude.{words_for, number_of, has_turn, is_told, is_idle, chunks_of, with_note, note_of, Learns, Accounts};
+ghost use Rattle.std.specs.Prelude.{◌≡◌, ℕ, ◌+◌, ◌<◌, true, false, []};
+ghost use Rattle.shared_cells.specs.Prelude.{words_for, number_of, has_turn, is_told, is_idle, chunks_of, with_note, note_of};
+ghost use Rattle.shared_cells.specs.Prelude.{Learns, Accounts, LooksBeside};
 
 use crate::law::{Counted, HistoryLaw};
 use crate::plays::{Account, Hear, Learn, Tell};
@@ -106,8 +107,7 @@ impl<O, E> PassSeat<O, E> {
         requires passes { M.passes ≡ shared.now.table.shared.key.passes }
         ensures table { self.new.place.table_id ≡ self.old.place.table_id }
         ensures number { self.new.number ≡ self.old.number }
-        ensures told { self.new.place.me.0 ≡ with_note self.old.place.me.0 note.place.me.0 }
-        ensures accounted { (all : _) × Accounts M.passes (with_note self.old.place.me.0 note.place.me.0) all }
+        ensures looked { LooksBeside M.passes self.old.place.me.0 self.new.place.me.0 note.place.me.0 }
     {
         let SeatNote { place: told } = note;
         shared.table.shared.join_seat::<Hear>(&mut self.place, told);

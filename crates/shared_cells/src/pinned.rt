@@ -1,8 +1,9 @@
 //! A pass that is pinned at a version, which it reads whatever is published and freed meanwhile.
-ghost use Rattle.std.specs.Prelude.{◌≡◌, ◌+◌, ◌-◌, ◌*◌, ◌%◌, ◌^◌, ◌<◌, ◌≤◌, All, length, true, false, []};
+ghost use Rattle.std.specs.Prelude.{◌≡◌, ◌+◌, ◌-◌, ◌*◌, ◌%◌, ◌^◌, ◌<◌, ◌≤◌, All, true, false, []};
 ghost use Rattle.std.proofs.Props.{props};
-ghost use Rattle.shared_cells.specs.Prelude.{words_for, IsPartOf, number_of, has_turn, is_told, is_idle, is_pinned, pinned_version};
-ghost use Rattle.shared_cells.specs.Prelude.{pinned_root, pinned_image, chunks_of, root_of, with_note, with_progress, note_of, Accounts, IsWordOf, Pins, Settles};
+ghost use Rattle.shared_cells.specs.Prelude.{words_for, number_of, has_turn, is_told, is_idle, is_pinned, pinned_version, pinned_root};
+ghost use Rattle.shared_cells.specs.Prelude.{pinned_image, chunks_of, root_of, with_progress, note_of, IsWordOf, Pins, Settles};
+ghost use Rattle.shared_cells.specs.Prelude.{IsPass, LooksBeside, SeesUpTo};
 ghost use Rattle.shared_cells.specs.declared.view.Progress.TheVariants as progress;
 
 use crate::law::{Counted, HistoryLaw};
@@ -44,9 +45,7 @@ impl<O, E> PassSeat<O, E> {
         requires { self.place.table_id ≡ shared.now.table.shared.table_id }
         ensures table { result.place.table_id ≡ self.place.table_id }
         ensures number { result.number ≡ self.number }
-        ensures version { result.version ≡ length result.place.me.0.seen.history }
-        ensures no_older { length self.place.me.0.seen.history ≤ result.version }
-        ensures grows { IsPartOf result.place.me.0.seen self.place.me.0.seen }
+        ensures seen { SeesUpTo result.version self.place.me.0 result.place.me.0 }
         ensures pinned { Pins L.applied L.lawful L.permitted L.stands self.place.me.0 result.place.me.0 }
     {
         let PassSeat { mut place, number } = self;
@@ -110,8 +109,7 @@ impl<O, E> PinnedSeat<O, E> {
         requires passes { M.passes ≡ shared.now.table.shared.key.passes }
         ensures table { self.new.place.table_id ≡ self.old.place.table_id }
         ensures same { (self.new.number ≡ self.old.number) × (self.new.version ≡ self.old.version) × (self.new.root ≡ self.old.root) }
-        ensures told { self.new.place.me.0 ≡ with_note self.old.place.me.0 note.place.me.0 }
-        ensures accounted { (all : _) × Accounts M.passes (with_note self.old.place.me.0 note.place.me.0) all }
+        ensures looked { LooksBeside M.passes self.old.place.me.0 self.new.place.me.0 note.place.me.0 }
     {
         let SeatNote { place: told } = note;
         shared.table.shared.join_seat::<Hear>(&mut self.place, told);
@@ -129,10 +127,7 @@ fn take_pin<O, E, L: HistoryLaw<O, E>>(
     number: u32,
 ) -> u64
     requires table { place.old.table_id ≡ shared.now.table.shared.table_id }
-    requires few { number < 64 }
-    requires pass { number_of place.old.me.0.pass ≡ number + 1 }
-    requires off_turn { has_turn place.old.me.0.turn ≡ false }
-    requires told { is_told place.old.me.0.seen.opening ≡ true }
+    requires pass { IsPass number place.old.me.0 }
     requires idle { is_idle place.old.me.0.progress ≡ true }
     ensures table { (place.new.table_id ≡ place.old.table_id) × (place.new.me.1 ≡ place.old.me.1) }
     ensures settled { Settles L.applied L.lawful L.permitted L.stands place.old.me.0 result place.new.me.0 }
@@ -150,10 +145,7 @@ fn take_pin<O, E, L: HistoryLaw<O, E>>(
 /// A pinned pass is idle again.
 fn leave<O, E, L: HistoryLaw<O, E>>(shared: &Shared<O, E, L>, place: &mut Place<O, E>, number: u32)
     requires table { place.old.table_id ≡ shared.now.table.shared.table_id }
-    requires few { number < 64 }
-    requires pass { number_of place.old.me.0.pass ≡ number + 1 }
-    requires off_turn { has_turn place.old.me.0.turn ≡ false }
-    requires told { is_told place.old.me.0.seen.opening ≡ true }
+    requires pass { IsPass number place.old.me.0 }
     requires pinned { is_pinned place.old.me.0.progress ≡ true }
     ensures table { place.new.table_id ≡ place.old.table_id }
     ensures left { place.new.me ≡ (with_progress place.old.me.0 progress.Idle, place.old.me.1) }

@@ -1,6 +1,7 @@
 //! What each step tells its seat, and how seats are split and joined.
 ghost use Rattle.shared_cells.specs.Views.{with_new_pass, new_pass_of, note_of, pass_of, without_pass, with_pass, with_note, spent_view};
-ghost use Rattle.shared_cells.specs.Steps.{looked, learnt, opened, published, accounted, entered, glanced, settled, left, read, stored, recalled, scanned, assigned};
+ghost use Rattle.shared_cells.specs.Steps.{looked, learnt, opened, published, accounted, entered, glanced, settled, left, read, stored};
+ghost use Rattle.shared_cells.specs.Steps.{recalled, scanned, assigned};
 
 use crate::law::{Counted, HistoryLaw, Opening, Payload};
 use crate::view::View;

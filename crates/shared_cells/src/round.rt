@@ -1,8 +1,6 @@
 //! The turn's rounds: which versions stay kept.
-ghost use Rattle.std.specs.Prelude.{◌≡◌, ◌⊎◌, ◌∷◌, ℕ, ◌+◌, ◌^◌, ◌<◌, ◌≤◌, All, AllPairs, Contains, length, map, replicate, true, []};
-ghost use Rattle.pin_core.specs.declared.kept.Mark.TheVariants as mark;
-ghost use Rattle.shared_cells.specs.Prelude.{mark_of, is_settled, has_turn, is_told, kept_in};
-ghost use Rattle.shared_cells.specs.Prelude.{marks_of, Marks, IsCurrent, IsNamed, Rounded, Confirmed};
+ghost use Rattle.std.specs.Prelude.{◌≡◌, ◌∷◌, ◌<◌, AllPairs, length, true, []};
+ghost use Rattle.shared_cells.specs.Prelude.{mark_of, is_settled, Adds, CanMark, CanRound, KeepsNamed, Marks, Rounded};
 
 use crate::law::HistoryLaw;
 use crate::plays::{Assign, Look, Scan};
@@ -60,10 +58,7 @@ impl KeptVersions {
     /// Adds a version, if it isn't there.
     fn add(&mut self, version: u64)
         requires { length self.old < 65 }
-        ensures has { Contains self.new version }
-        ensures keeps { (v : ℕ) → Contains self.old v → Contains self.new v }
-        ensures only { (v : ℕ) → Contains self.new v → (v ≡ version) ⊎ Contains self.old v }
-        ensures few { length self.new ≤ length self.old + 1 }
+        ensures adds { Adds version self.old self.new }
         ensures rising { AllPairs (λ v w. v < w) self.new }
     {
         if let Err(place) = self.versions.binary_search(&version) {
@@ -80,8 +75,7 @@ impl<O, E> TurnSeat<O, E> {
         ensures table { self.new.place.table_id ≡ self.old.place.table_id }
         ensures numbers { (self.new.version ≡ self.old.version) × (self.new.passes ≡ self.old.passes) }
         ensures rounded { Rounded self.old.place.me.0 self.new.place.me.0 kept.new }
-        ensures few { length kept.new ≤ self.old.passes + 1 }
-        ensures named { (v : ℕ) → Contains kept.new v → (v ≡ self.old.version) ⊎ IsNamed self.new.place.me.0 v }
+        ensures kept { KeepsNamed self.old.passes self.old.version self.new.place.me.0 kept.new }
     {
         let passes = self.passes;
         let version = self.version;
@@ -97,8 +91,7 @@ impl<O, E> JoinedSeat<O, E> {
         ensures table { self.new.place.table_id ≡ self.old.place.table_id }
         ensures numbers { (self.new.version ≡ self.old.version) × (self.new.passes ≡ self.old.passes) × (self.new.number ≡ self.old.number) }
         ensures rounded { Rounded self.old.place.me.0 self.new.place.me.0 kept.new }
-        ensures few { length kept.new ≤ self.old.passes + 1 }
-        ensures named { (v : ℕ) → Contains kept.new v → (v ≡ self.old.version) ⊎ IsNamed self.new.place.me.0 v }
+        ensures kept { KeepsNamed self.old.passes self.old.version self.new.place.me.0 kept.new }
     {
         let passes = self.passes;
         let version = self.version;
@@ -115,15 +108,10 @@ fn make_round<O, E, L: HistoryLaw<O, E>>(
     kept: &mut KeptVersions,
 )
     requires table { place.old.table_id ≡ shared.now.table.shared.table_id }
-    requires turn { has_turn place.old.me.0.turn ≡ true }
-    requires told { is_told place.old.me.0.seen.opening ≡ true }
-    requires passes { (1 ≤ passes) × (passes ≤ 64) }
-    requires blank { marks_of place.old.me.0.turn ≡ replicate passes mark.Blank }
-    requires version { version ≡ length place.old.me.0.seen.history }
+    requires can { CanRound passes version place.old.me.0 }
     ensures table { (place.new.table_id ≡ place.old.table_id) × (place.new.me.1 ≡ place.old.me.1) }
     ensures rounded { Rounded place.old.me.0 place.new.me.0 kept.new }
-    ensures few { length kept.new ≤ passes + 1 }
-    ensures named { (v : ℕ) → Contains kept.new v → (v ≡ version) ⊎ IsNamed place.new.me.0 v }
+    ensures kept { KeepsNamed passes version place.new.me.0 kept.new }
 {
     let word = shared.table.shared.load::<Look<L>>(place, CUR);
     kept.begin(version);
@@ -147,11 +135,7 @@ fn mark_pass<O, E, L: HistoryLaw<O, E>>(
     word: u64,
 ) -> u64
     requires table { place.old.table_id ≡ shared.now.table.shared.table_id }
-    requires told { is_told place.old.me.0.seen.opening ≡ true }
-    requires pass { pass < length (marks_of place.old.me.0.turn) }
-    requires few { pass < 64 }
-    requires current { IsCurrent place.old.me.0 word }
-    requires word { word + 2 < 2 ^ 64 }
+    requires can { CanMark pass word place.old.me.0 }
     ensures table { (place.new.table_id ≡ place.old.table_id) × (place.new.me.1 ≡ place.old.me.1) }
     ensures marked { Marks place.old.me.0 pass result place.new.me.0 }
     ensures settled { is_settled (mark_of result) ≡ true }

@@ -1,6 +1,7 @@
 //! The table, and how it is made with all its seats.
-ghost use Rattle.std.specs.Prelude.{◌≡◌, ◌+◌, ◌*◌, ◌≤◌, IfOk, All, map, []};
-ghost use Rattle.shared_cells.specs.Prelude.{range_with_len, words_for, started, core_size, unopened_view, pass_view};
+ghost use Rattle.std.specs.Prelude.{◌≡◌, ◌≤◌, IfOk, []};
+ghost use Rattle.shared_cells.specs.Prelude.{words_for, started, core_size, unopened_view};
+ghost use Rattle.shared_cells.specs.Seats.{AreNewPasses, IsFirstTurn, MakesPasses};
 
 use crate::law::HistoryLaw;
 use crate::pass::NewPassSeat;
@@ -28,10 +29,8 @@ impl<O, E, L: HistoryLaw<O, E>> Shared<O, E, L> {
         requires passes { (1 ≤ passes) × (passes ≤ 64) }
         requires chunks { (1 ≤ chunks) × (chunks ≤ 4096) }
         ensures size { IfOk result (λ made. (made.0.table.shared.key.passes ≡ passes) × (made.0.table.shared.key.chunks ≡ chunks)) }
-        ensures passes { IfOk result (λ made. map (λ seat. seat.place.me.0) made.1.items ≡ map (λ number. pass_view number chunks) (range_with_len 0 passes)) }
-        ensures places { IfOk result (λ made. All (λ seat. seat.place.table_id ≡ made.0.table.shared.table_id) made.1.items) }
-        ensures turn { IfOk result (λ made. (made.2.place.table_id ≡ made.0.table.shared.table_id)
-            × (made.2.place.me.0 ≡ unopened_view made.0.table.shared.key passes) × (made.2.passes ≡ passes)) }
+        ensures passes { IfOk result (λ made. AreNewPasses made.0.table.shared.table_id chunks passes made.1.items) }
+        ensures turn { IfOk result (λ made. IsFirstTurn made.0.table.shared.table_id made.0.table.shared.key passes made.2) }
     {
         let size = TableSize { passes, chunks };
         let words = first_words(alloc, size)?;
@@ -63,10 +62,7 @@ fn pass_seats<O, E, L: HistoryLaw<O, E>>(
     requires passes { passes ≡ shared.now.table.shared.key.passes }
     requires first { place.old.me ≡ (unopened_view shared.now.table.shared.key 0, []) }
     ensures table { place.new.table_id ≡ place.old.table_id }
-    ensures turn { IfOk result (λ seats. place.new.me ≡ (unopened_view shared.now.table.shared.key passes, [])) }
-    ensures passes { IfOk result (λ seats. map (λ seat. seat.place.me.0) seats.items
-        ≡ map (λ number. pass_view number shared.now.table.shared.key.chunks) (range_with_len 0 passes)) }
-    ensures places { IfOk result (λ seats. All (λ seat. seat.place.table_id ≡ shared.now.table.shared.table_id) seats.items) }
+    ensures passes { IfOk result (λ seats. MakesPasses shared.now.table.shared.table_id shared.now.table.shared.key passes place.new.me seats.items) }
 {
     let mut seats = Vec::new(alloc);
     for number in 0..passes {

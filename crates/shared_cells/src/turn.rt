@@ -1,7 +1,7 @@
 //! The seat that has the turn: the one by which versions are made.
-ghost use Rattle.std.specs.Prelude.{◌≡◌, ◌+◌, ◌*◌, ◌<◌, ◌≤◌, length, replicate, true, false, [], Some};
+ghost use Rattle.std.specs.Prelude.{◌≡◌, ◌+◌, ◌<◌, ◌≤◌, length, replicate, true, false, []};
 ghost use Rattle.shared_cells.specs.Prelude.{words_for, number_of, marks_of, words_of, has_turn, is_told, chunks_of, note_of};
-ghost use Rattle.shared_cells.specs.Prelude.{pass_of, without_pass, with_pass, CanOpen, Opened, CanPublish, Published, Confirmed};
+ghost use Rattle.shared_cells.specs.Prelude.{pass_of, without_pass, with_pass, CanOpen, Opened, CanPublish, Published, Confirms};
 ghost use Rattle.pin_core.specs.declared.kept.Mark.TheVariants as mark;
 
 use crate::law::{HistoryLaw, Opening, Payload};
@@ -140,7 +140,7 @@ impl<O, E> JoinedSeat<O, E> {
         ensures table { self.new.place.table_id ≡ self.old.place.table_id }
         ensures same { (self.new.place.me.0 ≡ self.old.place.me.0) × (self.new.version ≡ self.old.version) × (self.new.number ≡ self.old.number)
             × (self.new.passes ≡ self.old.passes) }
-        ensures confirmed { (turn : _) × (self.old.place.me.0.turn ≡ Some turn) × Confirmed L.applied L.lawful L.permitted L.stands self.old.place.me.0 turn result }
+        ensures confirmed { Confirms L.applied L.lawful L.permitted L.stands self.old.place.me.0 result }
     {
         shared.table.shared.load::<Look<L>>(&mut self.place, CUR)
     }
@@ -153,8 +153,7 @@ impl<O, E> JoinedSeat<O, E> {
     ) -> u64
         requires table { self.old.place.table_id ≡ shared.now.table.shared.table_id }
         requires can { CanPublish L.applied L.lawful L.permitted L.stands shared.now.table.shared.key self.old.place.me.0 M.change root M.image }
-        ensures table { self.new.place.table_id ≡ self.old.place.table_id }
-        ensures numbers { (self.new.number ≡ self.old.number) × (self.new.passes ≡ self.old.passes) }
+        ensures same { (self.new.place.table_id ≡ self.old.place.table_id) × (self.new.number ≡ self.old.number) × (self.new.passes ≡ self.old.passes) }
         ensures version { result ≡ self.old.version + 1 }
         ensures published { Published self.old.place.me.0 M.change root M.image self.new.place.me.0 }
     {

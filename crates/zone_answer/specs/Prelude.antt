@@ -19,4 +19,4 @@ pub use Rattle.zone_answer.specs.Neighbours.{Names}
 pub use Rattle.zone_answer.specs.Parts.{Adds, Gives, GivesAtOnce, IsCutOf, IsCutOver, IsGiven, IsHeld, IsNodeOf, IsRead, NoneOver, delegated, held_as, held_at, own_node}
 pub use Rattle.zone_answer.specs.Responses.{addresses, addresses_for, by_kind, name_from, negative, negative_soa, octets_before, of_type, once, owned_rows, respond, with_lesser_time, with_owner}
 pub use Rattle.zone_answer.specs.Sections.{AreCounted, Ends as EndsWith, EndsWithSet, GoesTo, IsResponded, addresses_of}
-pub use Rattle.zone_answer.specs.Standing.{IsApart, IsStorable, Shows, ShowsAbove, ShowsSome, StandsOn, trie_entry}
+pub use Rattle.zone_answer.specs.Standing.{CanFetch, CanGive, CanLookAbove, IsApart, IsStorable, Shows, ShowsAbove, ShowsSome, StandsOn, trie_entry}

@@ -1,10 +1,10 @@
 -- A version of a zone, and the entries of the trie that it stands as.
-use Rattle.std.specs.Prelude.{◌≡◌, ℕ, suc, List, ◌++◌, map}
+use Rattle.std.specs.Prelude.{◌≡◌, ℕ, ◌≤◌, suc, true, List, ◌++◌, length, map}
 use Rattle.std.specs.List.{AllByRecursion}
 use Rattle.std.specs.List.Sorted.{IsStrictlySortedBy}
 use Rattle.std.specs.Map.{keys_of}
-use Rattle.zone_model.specs.Names.{Name, name_cmp}
-use Rattle.zone_model.specs.Keys.{key_of}
+use Rattle.zone_model.specs.Names.{Name, is_under, name_cmp}
+use Rattle.zone_model.specs.Keys.{key_of, most_item_octets}
 use Rattle.zone_model.specs.Records.{Entry, IsItem, item}
 use Rattle.zone_model.specs.Versions.{Version}
 use Rattle.packed_node.specs.declared.Leaf.{Leaf}
@@ -59,3 +59,35 @@ pub record PartsAt (key : List ℕ) (all : List trie.Entry) (place : ℕ) : Type
 pub record IsApart (holds : List trie.Entry → Type 0) (stands : List trie.Entry → List trie.Entry → Type 0) (name : Name) (place : ℕ) (version : Version) : Type 0 where
   pub on : StandsOn holds stands version
   pub parts : PartsAt (key_of name) (map trie_entry version) place
+
+-- ---- what a look at a name asks for
+
+-- its item is read by its key
+pub record CanFetch (holds : List trie.Entry → Type 0) (name : Name) (positions item : List ℕ) : Type 0 where
+  -- a version is shown
+  pub shown : ShowsSome holds
+  -- the key is the name's
+  pub key : positions ≡ key_of name
+  -- each item fits
+  pub room : most_item_octets ≤ length item
+
+-- so it is, of a name that a zone may have
+pub record CanGive (holds : List trie.Entry → Type 0) (origin name : Name) (positions item : List ℕ) : Type 0 where
+  -- a version is shown
+  pub shown : ShowsSome holds
+  -- the name is at or under the origin
+  pub under : is_under name origin ≡ true
+  -- the key is the name's
+  pub key : positions ≡ key_of name
+  -- each item fits
+  pub room : most_item_octets ≤ length item
+
+-- the names above one that a zone may have are looked at
+pub record CanLookAbove (holds : List trie.Entry → Type 0) (lies : Leaf → trie.Entry → Type 0) (origin name : Name) (above : List Ancestor)
+    (item : List ℕ) : Type 0 where
+  -- a version is shown, and these are the leaves of the names above
+  pub shown : (zone : Version) × ShowsAbove holds lies name above zone
+  -- the name is at or under the origin
+  pub under : is_under name origin ≡ true
+  -- each item fits
+  pub room : most_item_octets ≤ length item

@@ -2,7 +2,7 @@
 
 ghost use Rattle.std.specs.Prelude.{◌≡◌, ◌≤◌, ◌+◌, ◌==◌, IfSome, length, true};
 ghost use Rattle.zone_answer.specs.Prelude.{find, option_map, most_item_octets, is_under, ancestor, Version};
-ghost use Rattle.zone_answer.specs.Prelude.{owned, Ancestor, is_cut, IsCutOf, IsCutOver, delegated, held_as, held_at, ShowsAbove};
+ghost use Rattle.zone_answer.specs.Prelude.{owned, Ancestor, is_cut, IsCutOf, IsCutOver, delegated, held_as, held_at, CanLookAbove, ShowsAbove};
 
 use crate::records::Held;
 use dns_name::Name;
@@ -99,9 +99,7 @@ pub fn cut_over<V: Reading>(
     above: &[Ancestor],
     item: &mut [u8],
 ) -> Option<Cut>
-    requires shown { (zone : Version) × ShowsAbove (V.holds version.old) (V.lies version.old) name.now above.now zone }
-    requires under { is_under name.now origin.now ≡ true }
-    requires room { most_item_octets ≤ length item.old }
+    requires { CanLookAbove (V.holds version.old) (V.lies version.old) origin.now name.now above.now item.old }
     ensures same { version.new ≡ version.old }
     ensures few { IfSome result (λ cut. cut.labels ≤ length name.now) }
     ensures cut { (zone : Version) → ShowsAbove (V.holds version.old) (V.lies version.old) name.now above.now zone

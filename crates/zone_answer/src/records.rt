@@ -1,7 +1,7 @@
 //! What a name owns.
 
 ghost use Rattle.std.specs.Prelude.{◌≡◌, ◌≤◌, IfOk, List, ℕ, length};
-ghost use Rattle.zone_answer.specs.Prelude.{key_of, most_item_octets, Records, Version, SaysEntry, IsHeld, IsRead, Shows, ShowsSome};
+ghost use Rattle.zone_answer.specs.Prelude.{CanFetch, Records, Version, SaysEntry, IsHeld, IsRead, Shows};
 
 use dns_name::Name;
 use rr_data::{DecodeRefusal, Entry, ItemView};
@@ -47,9 +47,7 @@ pub fn entry_of(alloc: Global, name: &Name, octets: &[u8]) -> Result<Entry, Allo
 /// Reads the item of what a name owns into the beginning of a buffer, by the name's key, and gives its length; 0 where the name owns
 /// nothing.
 pub fn read_owned<V: Reading>(version: &mut V, name: &Name, key: &Key, item: &mut [u8]) -> usize
-    requires shown { ShowsSome (V.holds version.old) }
-    requires key { key.now ≡ key_of name.now }
-    requires room { most_item_octets ≤ length item.old }
+    requires { CanFetch (V.holds version.old) name.now key.now item.old }
     ensures same { version.new ≡ version.old }
     ensures within { result ≤ length item.new }
     ensures read { (zone : Version) → Shows (V.holds version.old) zone → IsRead name.now zone item.new result }

@@ -3,7 +3,7 @@
 ghost use Rattle.std.specs.Prelude.{◌≡◌, ◌≤◌, length, Option, Some, None, MatchOption, true};
 ghost use Rattle.zone_answer.specs.Prelude.{option_map, key_of, Records, IsHeld, held_at, most_item_octets, Labels, is_under, rrset_of, rows_of};
 ghost use Rattle.zone_answer.specs.Prelude.{split_name, Version, exists, owned, Ends, LeadsTo, alias_in, by_alias, step, target_of};
-ghost use Rattle.zone_answer.specs.Prelude.{set_rows, ns_type, Gives, GivesAtOnce, NoneOver, IsApart, Shows, ShowsSome};
+ghost use Rattle.zone_answer.specs.Prelude.{set_rows, ns_type, Gives, GivesAtOnce, NoneOver, CanGive, IsApart, Shows, ShowsSome};
 
 use crate::cut::{Cut, cut_over, is_cut, is_right_under};
 use crate::kind::Kind;
@@ -199,10 +199,7 @@ fn search<V: Reading, S: RowSink>(
     item: &mut [u8],
     rows: &mut S,
 ) -> Result<Next, AllocError>
-    requires shown { ShowsSome (V.holds version.old) }
-    requires under { is_under name.now origin.now ≡ true }
-    requires key { walker.old.key ≡ key_of name.now }
-    requires room { most_item_octets ≤ length item.old }
+    requires { CanGive (V.holds version.old) origin.now name.now walker.old.key item.old }
     ensures same { version.new ≡ version.old }
     ensures gives { (zone : Version) → Shows (V.holds version.old) zone
         → Gives (step origin.now zone rtype name.now) (S.has rows.old) (S.has rows.new) walker.new.target result }
@@ -239,10 +236,7 @@ pub fn give_there<V: Reading, S: RowSink>(
     target: &mut Option<Name>,
     rows: &mut S,
 ) -> Result<Option<Next>, AllocError>
-    requires shown { ShowsSome (V.holds version.old) }
-    requires under { is_under name.now origin.now ≡ true }
-    requires key { key.now ≡ key_of name.now }
-    requires room { most_item_octets ≤ length item.old }
+    requires { CanGive (V.holds version.old) origin.now name.now key.now item.old }
     ensures same { version.new ≡ version.old }
     ensures gives { (zone : Version) → Shows (V.holds version.old) zone
         → GivesAtOnce (step origin.now zone rtype name.now) (S.has rows.old) (S.has rows.new) target.new result }

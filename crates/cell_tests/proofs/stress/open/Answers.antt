@@ -13,7 +13,7 @@ open-turn-requires-clause-can c =
       opening = 0;
       is_turn = turn.1;
       is_version = refl;
-      fits = one_image key.passes key.chunks seat.place.me.0.turn turn.0 0 true turn.1 refl c.write_first-turn.ensures.written;
+      fits = one_image key.passes key.chunks seat.place.me.0.turn turn.0 0 true turn.1 refl c.write_first-turn.ensures.writes.written;
       good = tt;
       stood = (refl, refl);
     }

@@ -37,7 +37,7 @@ returns g c =
     let look = c.look.ensures in
     let told = look.confirmed in
     let rounded : Rounded v w list = subst (λ (x : Known). Rounded x w list) look.same.0 round.rounded in
-    let few : length list ≤ seat.passes + 1 = (let a = round.few in let b = look.same.3 in omega arith) in
+    let few : length list ≤ seat.passes + 1 = (let a = round.kept.few in let b = look.same.3 in omega arith) in
     let usage : c.keep_only.new.self ≡ narrowed u list = c.keep_only.ensures ∙ ap (narrowed u) c.as_slice.ensures.versions in
     let kept : kept_versions c.keep_only.new.self ≡ list = ap kept_versions usage ∙ numbers_now g.L.Law.lawful v told.0 c.look.result told.1 told.2 w list rounded u seat.passes (seat.passes + 2) c.requires.agrees in
     record {
@@ -63,5 +63,5 @@ returns g c =
             (e.0, kept ∙ rounded.kept ∙ e.1 ∙ ap (λ (n : ℕ). e.0 ++ n ∷ []) (sym seat.version_is));
         few = subst (λ (ns : List ℕ). length ns ≤ seat.passes + 1) (sym kept) few;
       };
-      named = λ n h. subst (λ (m : ℕ). (n ≡ m) ⊎ IsNamed w n) look.same.1 (round.named n (subst (λ (ns : List ℕ). Contains ns n) kept h));
+      named = λ n h. subst (λ (m : ℕ). (n ≡ m) ⊎ IsNamed w n) look.same.1 (round.kept.named n (subst (λ (ns : List ℕ). Contains ns n) kept h));
     }

@@ -10,21 +10,21 @@ use Rattle.shared_cells.proofs.pinned.take_pin.Goals as goal
 
 pub store-requires : goal.store-requires
 store-requires g c =
-    let pass = c.requires in
-    (pass.table, pin_word _ _ _ c.args.shared.now.wide pass.few, may_enter g.L.HistoryLaw.applied g.L.HistoryLaw.lawful g.L.HistoryLaw.permitted g.L.HistoryLaw.stands _ _ _ _ _ pass.pass pass.off_turn pass.told (idle_is c.args.place.now.me.0.progress pass.idle))
+    let pass = c.requires.pass in
+    (c.requires.table, pin_word _ _ _ c.args.shared.now.wide pass.few, may_enter g.L.HistoryLaw.applied g.L.HistoryLaw.lawful g.L.HistoryLaw.permitted g.L.HistoryLaw.stands _ _ _ _ _ pass.pass pass.off_turn pass.told (idle_is c.args.place.now.me.0.progress c.requires.idle))
 
 pub load-word-requires : goal.load-word-requires
 load-word-requires g c =
-    let pass = c.requires in
+    let pass = c.requires.pass in
     let s = c.store.ensures in
-    (s.0 ∙ pass.table, some_word _ _ c.args.shared.now.wide, glances_next g.L.HistoryLaw.applied g.L.HistoryLaw.lawful g.L.HistoryLaw.permitted g.L.HistoryLaw.stands _ _ _ c.args.number c.args.place.now.me c.store.new.seat.me s.2 pass.pass pass.off_turn pass.told)
+    (s.0 ∙ c.requires.table, some_word _ _ c.args.shared.now.wide, glances_next g.L.HistoryLaw.applied g.L.HistoryLaw.lawful g.L.HistoryLaw.permitted g.L.HistoryLaw.stands _ _ _ c.args.number c.args.place.now.me c.store.new.seat.me s.2 pass.pass pass.off_turn pass.told)
 
 pub compare_exchange-found-requires : goal.compare_exchange-found-requires
 compare_exchange-found-requires g c =
-    let pass = c.requires in
+    let pass = c.requires.pass in
     let s = c.store.ensures in
     let l = c.load-word.ensures in (
-      l.0 ∙ s.0 ∙ pass.table,
+      l.0 ∙ s.0 ∙ c.requires.table,
       pin_word _ _ _ c.args.shared.now.wide pass.few,
       settles_next g.L.HistoryLaw.applied g.L.HistoryLaw.lawful g.L.HistoryLaw.permitted g.L.HistoryLaw.stands _ _ _ c.args.number c.load-word.result c.args.place.now.me c.store.new.seat.me c.load-word.new.seat.me s.2 l.2.0 pass.pass pass.off_turn pass.told,
     )

@@ -10,7 +10,7 @@ use Rattle.shared_cells.proofs.round.mark_pass.Goals as goal
 pub load-found-requires : goal.load-found-requires
 load-found-requires g c =
     let r = c.requires in
-    (r.table, pin_word _ _ _ c.args.shared.now.wide r.few, may_scan_pass g.L.HistoryLaw.applied g.L.HistoryLaw.lawful g.L.HistoryLaw.permitted g.L.HistoryLaw.stands _ _ _ _ _ r.told r.pass)
+    (r.table, pin_word _ _ _ c.args.shared.now.wide r.can.few, may_scan_pass g.L.HistoryLaw.applied g.L.HistoryLaw.lawful g.L.HistoryLaw.permitted g.L.HistoryLaw.stands _ _ _ _ _ r.can.told r.can.pass_fits)
 
 pub compare_exchange-found-requires : goal.compare_exchange-found-requires
 compare_exchange-found-requires g c =
@@ -20,8 +20,8 @@ compare_exchange-found-requires g c =
     let scan = step {S = Unit {0}} c.args.shared.now.table.shared.table_id.slots (pin_at c.args.pass) 0 0 none in
     let first = subst (λ (x : ℕ). Marks m.0 c.args.pass x m1.0) c.if-found-ne-ENTERING.false (scanned_pass scan m m1 c.args.pass c.load-found.result refl c.load-found.ensures.2) in (
       c.load-found.ensures.0 ∙ r.table,
-      pin_word _ _ _ c.args.shared.now.wide r.few,
-      may_help_pass g.L.HistoryLaw.applied g.L.HistoryLaw.lawful g.L.HistoryLaw.permitted g.L.HistoryLaw.stands _ _ _ m m1 c.args.pass c.args.word first r.told r.pass r.current,
+      pin_word _ _ _ c.args.shared.now.wide r.can.few,
+      may_help_pass g.L.HistoryLaw.applied g.L.HistoryLaw.lawful g.L.HistoryLaw.permitted g.L.HistoryLaw.stands _ _ _ m m1 c.args.pass c.args.word first r.can.told r.can.pass_fits r.can.word,
     )
 
 pub returns-clause-marked : goal.returns-clause-marked
@@ -34,4 +34,4 @@ returns-clause-marked g c =
     let scan = step {S = Unit {0}} slots (pin_at c.args.pass) 0 0 none in
     let help = step {S = Unit {0}} slots (pin_at c.args.pass) 1 (c.args.word + 2) none in
     let first = subst (λ (x : ℕ). Marks m.0 c.args.pass x m1.0) c.if-found-ne-ENTERING.false (scanned_pass scan m m1 c.args.pass c.load-found.result refl c.load-found.ensures.2) in
-    subst (λ (x : ℕ). Marks m.0 c.args.pass x m2.0) (sym c.pin_after_exchange.ensures) (helped_pass help m m1 m2 c.args.pass c.compare_exchange-found.result refl first r.pass c.compare_exchange-found.ensures.2)
+    subst (λ (x : ℕ). Marks m.0 c.args.pass x m2.0) (sym c.pin_after_exchange.ensures) (helped_pass help m m1 m2 c.args.pass c.compare_exchange-found.result refl first r.can.pass_fits c.compare_exchange-found.ensures.2)

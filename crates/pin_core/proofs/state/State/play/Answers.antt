@@ -10,13 +10,13 @@ whichever (Err e) P h = h
 
 pub returns-in_err-push-clause-err : goal.returns-in_err-push-clause-err
 returns-in_err-push-clause-err c =
-    let reached = c.in_ok-step.ensures.after ∙ reaches _ _ c.args.events.now c.loop-event.event-index _ (omega arith) c.event-item.is c.loop-event.invariant.reached in
+    let reached = c.in_ok-step.ensures.step.after ∙ reaches _ _ c.args.events.now c.loop-event.event-index _ (omega arith) c.event-item.is c.loop-event.invariant.reached in
     let stopped : StoppedWithin c.args.self.now c.args.events.now c.step.new.self = (c.loop-event.event-index + 1, reached) in
     whichever _ _ stopped
 
 pub loop-event-preserved : goal.loop-event-preserved
 loop-event-preserved c = record {
-  reached = c.in_ok-step.ensures.after ∙ reaches _ _ c.args.events.now c.loop-event.event-index _ (omega arith) c.event-item.is c.loop-event.invariant.reached;
+  reached = c.in_ok-step.ensures.step.after ∙ reaches _ _ c.args.events.now c.loop-event.event-index _ (omega arith) c.event-item.is c.loop-event.invariant.reached;
   told = tells c.loop-event.self c.step.new.self c.loop-event.steps.items c.push.new.self.items _ c.in_ok-step.field-0 c.args.events.now c.loop-event.event-index _ (omega arith) c.event-item.is c.loop-event.invariant.told
-      c.in_ok-step.ensures.after c.in_ok-step.ensures.answer c.in_ok-push.ensures.items;
+      c.in_ok-step.ensures.step.after c.in_ok-step.ensures.step.answer c.in_ok-push.ensures.items;
 }

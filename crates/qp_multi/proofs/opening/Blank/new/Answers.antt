@@ -17,14 +17,14 @@ invariant_of-result g c =
     let long : length usage.given ≡ c.args.chunks = ap (λ (l : Ledger). length l.given) c.in_ok-usage.ensures ∙ length-replicate {A = Bool} c.args.chunks false in
     let begun : usage ≡ unused key.chunks c.args.passes = c.in_ok-usage.ensures ∙ ap (λ (n : ℕ). unused n c.args.passes) (sym made.size.1) in
     record {
-      turn_here = made.turn.0;
-      seats_here = made.places;
-      unseen = all_unseen (λ s. s.place.me.0) c.in_ok-shared.seats.items (range_with_len 0 c.args.passes) c.args.chunks made.passes;
-      unused_seats = all_unused (λ s. s.place.me.0) c.in_ok-shared.seats.items (range_with_len 0 c.args.passes) c.args.chunks made.passes;
-      numbered = all_numbered (λ s. s.place.me.0) c.in_ok-shared.seats.items 0 c.args.passes c.args.chunks made.passes ∙ ap (range_with_len 1) (sym made.size.0);
+      turn_here = made.turn.here;
+      seats_here = made.passes.places;
+      unseen = all_unseen (λ s. s.place.me.0) c.in_ok-shared.seats.items (range_with_len 0 c.args.passes) c.args.chunks made.passes.views;
+      unused_seats = all_unused (λ s. s.place.me.0) c.in_ok-shared.seats.items (range_with_len 0 c.args.passes) c.args.chunks made.passes.views;
+      numbered = all_numbered (λ s. s.place.me.0) c.in_ok-shared.seats.items 0 c.args.passes c.args.chunks made.passes.views ∙ ap (range_with_len 1) (sym made.size.0);
       size = made.size.1 ∙ sym long;
       some = (let h = c.requires.some_passes in let e : 1 ≤ key.passes = subst (λ (n : ℕ). 1 ≤ n) (sym made.size.0) h in e);
       enough = (let h = c.requires.enough in let e : 16 ≤ length usage.given = omega arith in e);
-      unused = subst (λ (n : ℕ). IsUnused c.in_ok-shared.turn.place.me.0.turn usage n) (sym made.turn.2)
-          (subst (λ (t : Option TurnView). IsUnused t usage c.args.passes) (sym (ap (λ (v : Known). v.turn) made.turn.1)) (is_unused key c.args.passes c.args.passes usage begun));
+      unused = subst (λ (n : ℕ). IsUnused c.in_ok-shared.turn.place.me.0.turn usage n) (sym made.turn.count)
+          (subst (λ (t : Option TurnView). IsUnused t usage c.args.passes) (sym (ap (λ (v : Known). v.turn) made.turn.view)) (is_unused key c.args.passes c.args.passes usage begun));
     }

@@ -3,17 +3,17 @@ use Rattle.pin_core.specs.declared.kept.Kept.{Kept}
 use Rattle.pin_core.specs.Machine.{is_kept_chunk}
 use Rattle.shared_cells.specs.Cells.{Cells, given_chunks, HasCell}
 use Rattle.shared_cells.proofs.Chunks.{chunk_within, same_chunks, same_kept, wide_words, few_chunks, once_stored, unkept_chunk, status_others, given_changes}
+use Rattle.shared_cells.proofs.Copies.{lent_turn}
 use Rattle.shared_cells.proofs.lent.TurnCellsCellWrite.free.Goals as goal
 
-pub mark_free-requires-clause-inside : goal.mark_free-requires-clause-inside
-mark_free-requires-clause-inside g c =
+pub mark_free-requires-clause-may : goal.mark_free-requires-clause-may
+mark_free-requires-clause-may g c =
     let s = c.self.inside in
-    subst (λ (n : ℕ). c.args.chunk < n) (sym (same_chunks s.shared.now.table.shared.key.chunks s.place.me.0.turn _ c.self.view_is)) (chunk_within c.args.self.now c.args.chunk true c.requires.given)
-
-pub mark_free-requires-clause-unkept : goal.mark_free-requires-clause-unkept
-mark_free-requires-clause-unkept g c =
-    let s = c.self.inside in
-    ap (λ (ks : List Kept). is_kept_chunk ks c.args.chunk) (same_kept s.shared.now.table.shared.key.chunks s.place.me.0.turn _ c.self.view_is) ∙ unkept_chunk c.args.self.now c.args.chunk c.requires.unkept
+    record {
+      turn = lent_turn c.self.invariant.0;
+      inside = subst (λ (n : ℕ). c.args.chunk < n) (sym (same_chunks s.shared.now.table.shared.key.chunks s.place.me.0.turn _ c.self.view_is)) (chunk_within c.args.self.now c.args.chunk true c.requires.given);
+      unkept = ap (λ (ks : List Kept). is_kept_chunk ks c.args.chunk) (same_kept s.shared.now.table.shared.key.chunks s.place.me.0.turn _ c.self.view_is) ∙ unkept_chunk c.args.self.now c.args.chunk c.requires.unkept;
+    }
 
 pub returns-clause-others : goal.returns-clause-others
 returns-clause-others g c q d apart has =
