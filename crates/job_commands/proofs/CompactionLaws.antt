@@ -1,11 +1,11 @@
 -- A compaction ends as a block without operations does.
-use Rattle.std.proofs.Common.{◌≡◌, ◌≢◌, ◌∙◌, ℕ, ◌+◌, true, List, [], Option, Some, Result, Ok, Err, refl, sym, arith, append-nil}
+use Rattle.std.proofs.Common.{◌≡◌, ◌∙◌, ℕ, ◌+◌, true, List, [], Option, Some, Result, Ok, Err, refl, sym, arith, append-nil}
 use Rattle.std.specs.Prelude.{IsSome, IfOk, IfErr}
 use Rattle.atomic_table.specs.Seated.{TableId}
 use Rattle.pin_core.specs.declared.version.Spent.{Spent as NoNumber}
 use Rattle.zone_model.specs.Transactions.{no_changes}
 use Rattle.job_model.specs.declared.Ending.TheVariants as ending
-use Rattle.job_model.specs.Outcomes.{Committed, Refused, Spent, last_version}
+use Rattle.job_model.specs.Outcomes.{Committed, Refused, Spent}
 use Rattle.job_report.specs.declared.outcomes.Outcome.{Outcome}
 use Rattle.job_report.specs.Outcomes.{ended_view}
 use Rattle.shared_cells.specs.declared.pass.PassSeat.{PassSeat}
@@ -34,9 +34,9 @@ edits_none s d = record {
 }
 
 pub compaction_ran : (s : OpenedWith) (old : Known) (o : Outcome) → is_told old.seen.opening ≡ true → first_version old.seen ≡ s.opening → (seat : Option (PassSeat (List Entry) (List Operation))) → IsSome seat → (table : TableId) (passes : ℕ) (r : Result Receipt NoNumber)
-    → IfOk r (Compacts IsLawful table passes old (known_at seat)) → IfOk r (λ t. t.version ≢ last_version + 1) → IfErr r (IsLast IsLawful old (known_at seat)) → IfErr r (λ t. t.version ≡ last_version)
+    → IfOk r (Compacts IsLawful table passes old (known_at seat)) → IfErr r (IsLast IsLawful old (known_at seat))
     → IfOk r (λ t. (o.version ≡ t.version) × (ended_view o.told ≡ Committed)) → IfErr r (λ t. (o.version ≡ t.version) × (ended_view o.told ≡ Refused Spent)) → BlockRan s no_changes ending.Commit old (known_at seat) o
-compaction_ran s old o told opening seat some table passes (Ok t) c next back last made lost =
+compaction_ran s old o told opening seat some table passes (Ok t) c back made lost =
     commit_ran s no_changes ending.Commit old o (Some c.working) (Some c.working) told opening c.begins (known_at seat) t.version (edits_none s c.working) refl c.commits c.version made.0 made.1
-compaction_ran s old o told opening seat some table passes (Err t) c next back last made lost =
-    spent_ran s no_changes ending.Commit old o (Some back.working) (Some back.working) told opening back.begins seat t.version (some, back.back) (back.version ∙ back.working.seat.version_is) lost.0 (edits_none s back.working) refl (sym back.version ∙ last) lost.1
+compaction_ran s old o told opening seat some table passes (Err t) c back made lost =
+    spent_ran s no_changes ending.Commit old o (Some back.working) (Some back.working) told opening back.begins seat t.version (some, back.back) (back.version ∙ back.working.seat.version_is) lost.0 (edits_none s back.working) refl (sym back.version ∙ back.last) lost.1

@@ -23,11 +23,6 @@ pub map_ok : {A E : Type 0} {P Q : A → Type 0} (r : Result A E) → ((x : A) �
 map_ok (Ok x) f h = f x h
 map_ok (Err e) f h = tt
 
--- two things that are so of it
-pub both_ok : {A E : Type 0} (P Q : A → Type 0) (r : Result A E) → IfOk r P → IfOk r Q → IfOk r (λ x. P x × Q x)
-both_ok P Q (Ok x) p q = (p, q)
-both_ok P Q (Err e) p q = tt
-
 -- no worker is left, and of the passes main's alone
 pub gathers_start : {A B : Type 0} (passes front : List A) (asks : A) (known : A → Known) (workers : List B) (view : B → List Command) (s : OpenedWith) (os : List Outcomes) → passes ≡ front ++ asks ∷ [] → length passes ≡ 2 * length workers + 1 → length workers ≡ 0 → os ≡ [] → AreNew s.opening (map known passes)
     → Gathers s (map known passes) (map view workers) os (map known front) (known asks)

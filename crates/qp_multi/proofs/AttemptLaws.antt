@@ -10,7 +10,6 @@ use Rattle.atomic_table.specs.Seated.{TableId}
 use Rattle.pin_core.specs.Words.{status_at, words_for}
 use Rattle.pin_core.specs.declared.kept.Kept.{Kept}
 use Rattle.chunk_cells.specs.Chunks.{IsGiven}
-use Rattle.chunk_usage.specs.declared.space.Shortage.{Shortage}
 use Rattle.chunk_usage.specs.Ledger.{Ledger, Frozen, is_bump, is_used, is_mutable, is_given, frozen_part, reserved}
 use Rattle.chunk_usage.specs.Handing.{Lacks, consumed}
 use Rattle.chunk_usage.specs.Rooms.{Grows, OpensFree, account_of}
@@ -18,7 +17,8 @@ use Rattle.chunk_sets.proofs.FlagLemmas.{get_set}
 use Rattle.trie_model.specs.Keys.{Entry}
 use Rattle.trie_model.proofs.MoveLaws.{Keeps}
 use Rattle.trie_write.specs.Roots.{OnPath, TwigsOnPath, OnBranches, BranchesOnPath}
-use Rattle.trie_space.specs.Spaces.{Ready, Fenced, Unchanged as Same}
+use Rattle.trie_space.specs.Spaces.{Ready, Fenced}
+use Rattle.trie_write.specs.Changes.{StaysAsItWas}
 use Rattle.trie_write.proofs.RootLaws.{stands_later, standing_later}
 use Rattle.shared_cells.specs.declared.turn.JoinedSeat.{JoinedSeat}
 use Rattle.shared_cells.specs.Views.{words_of, kept_in}
@@ -190,27 +190,25 @@ module _ {first lent : Cells} {v w : Known} {u n : Ledger} {count : ℕ} (l : Re
 
     pub tried_of : reserved n ≡ reserved u → IfOk r (λ new. (es : List Entry) → IsRooted (HasCell first) u root es → IsRooted (HasCell lent) n new (operated es (operation_of c)))
         → ((es : List Entry) → IsRooted (HasCell first) u root es → (r ≡ Err Refused) ↔ IsRefused c es)
-        → (r ≡ Err Refused → n ≡ u)
-        → IfErr r (λ _. (es : List Entry) → IsRooted (HasCell first) u root es → IsRooted (HasCell lent) n root es)
-        → IfErr r (λ _. Same HasCell account_of first u lent n)
-        → ((f : Shortage) → r ≡ Err (Full f) → Lacks n f)
-        → ((f : Shortage) → r ≡ Err (Full f) → (branches : List ℕ) → BranchesOnPath HasCell account_of first u root (key_of c) branches → Contains (asked_by c branches) f.needed)
+        → IfErr r (StaysAsItWas HasCell account_of Lacks first u lent n root (key_of c) (asked_by c))
         → ((twigs : ℕ) → TwigsOnPath HasCell account_of first u root (key_of c) twigs → consumed n ≤ consumed u + (written_by c + twigs))
         → Tried c root v u w n r
-    tried_of reserve done refused denied stays same full asked consumes = record {
-      done = if_ok _ _ r (λ new h es s. left new (operated es (operation_of c)) (h es (entered root es s))) done;
-      refused = λ es s. refused es (entered root es s);
-      denied = denied;
-      stays = if_err _ _ r (λ e h es s. left root es (h es (entered root es s))) stays;
-      full = full;
-      asked = λ f e branches p. asked f e branches (branches_in branches p);
-      same = words_seat;
-      spares = record { grown = grown_now; reserve = reserve };
-      counts = if_err _ _ r (λ e s. s.counts) same;
-      path = if_err _ _ r (λ e s twigs p. path_there lent (cells_with n w.turn) chunks_now words_now n root (key_of c) twigs (path_later root (key_of c) twigs s.untouched l.leaves.grows.stays s.counts (path_in twigs p))) same;
-      branches = if_err _ _ r (λ e s branches p. branches_there lent (cells_with n w.turn) chunks_now words_now n root (key_of c) branches (branches_later root (key_of c) branches s.untouched l.leaves.grows.stays s.counts (branches_in branches p))) same;
-      consumes = λ twigs p. consumes twigs (path_in twigs p);
-    }
+    tried_of reserve done refused stays consumes =
+        let same = if_err _ _ r (λ e k. k.unchanged) stays in
+        record {
+          done = if_ok _ _ r (λ new h es s. left new (operated es (operation_of c)) (h es (entered root es s))) done;
+          refused = λ es s. refused es (entered root es s);
+          denied = λ e. (of_err _ r Refused stays e).denied refl;
+          stays = if_err _ _ r (λ e k es s. let is = entered root es s in left root es (record { stands = k.stands es is.stands; tells = is.tells })) stays;
+          full = λ f e. (of_err _ r (Full f) stays e).full f refl;
+          asked = λ f e branches p. (of_err _ r (Full f) stays e).asked f refl branches (branches_in branches p);
+          same = words_seat;
+          spares = record { grown = grown_now; reserve = reserve };
+          counts = if_err _ _ r (λ e s. s.counts) same;
+          path = if_err _ _ r (λ e s twigs p. path_there lent (cells_with n w.turn) chunks_now words_now n root (key_of c) twigs (path_later root (key_of c) twigs s.untouched l.leaves.grows.stays s.counts (path_in twigs p))) same;
+          branches = if_err _ _ r (λ e s branches p. branches_there lent (cells_with n w.turn) chunks_now words_now n root (key_of c) branches (branches_later root (key_of c) branches s.untouched l.leaves.grows.stays s.counts (branches_in branches p))) same;
+          consumes = λ twigs p. consumes twigs (path_in twigs p);
+        }
 
 -- what the working version of the seat that lent them knows of them now
 

@@ -39,3 +39,4 @@ pub mod BoundLaws
 pub mod CrowdLaws
 pub mod CrowdedLaws
 pub mod SmallLaws
+pub mod CallLaws

@@ -25,10 +25,12 @@ use Rattle.qp_multi.specs.Operations.{operated, applied}
 use Rattle.qp_multi.specs.Passes.{Known, version_seen}
 use Rattle.qp_multi.specs.Turns.{cells_with}
 use Rattle.qp_multi.specs.Bases.{StandsFor}
-use Rattle.qp_multi.specs.Changes.{operation_of, IsRefused}
-use Rattle.qp_multi.specs.Bounds.{IsCrowded}
+use Rattle.qp_multi.specs.Attempts.{AreKept, Does, FindsNoRoom}
+use Rattle.qp_multi.specs.Bounds.{HasRoom}
+use Rattle.qp_multi.specs.Calls.{IsOutOfRoom}
+use Rattle.qp_multi.specs.Changes.{operation_of, key_of, written_by, asked_by, IsRefused}
 use Rattle.qp_multi.specs.WorkingVersions.{Works, Operates, IsFull, Between, Commits, working_set}
-use Rattle.qp_multi.specs.Fulls.{CausedFrom, full_with}
+use Rattle.qp_multi.specs.Fulls.{full_with}
 use Rattle.qp_multi.specs.Tries.{Tried}
 use Rattle.qp_multi.specs.Keepings.{GoesOn, KeptBy, Rounds, versions_in}
 use Rattle.qp_multi.proofs.AttemptLaws.{rooted_there}
@@ -157,25 +159,26 @@ operates_as o denied old new A B C D done still forth back h = record {
 }
 
 -- a refusal, told by another enum
-pub refusal_told : {E : Type 0} (o : Operation) (denied : List Entry → Type 0) (old new : Option WorkingVersion) (r : Result (Unit {0}) NotDone) (e : NotDone) (told : E) → r ≡ Err e → e ≡ Refused → Between (λ d f. Operates o denied d f (IsOk r) (r ≡ Err Refused)) old new
-    → Between (λ d f. Operates o denied d f (IsOk {T = Unit {0}} {E = E} (Err told)) (◌≡◌ {A = Result (Unit {0}) E} (Err told) (Err told))) old new
+pub refusal_told : {E : Type 0} (o : Operation) (denied : List Entry → Type 0) (old new : Option WorkingVersion) (r : Result (Unit {0}) NotDone) (e : NotDone) (told : E) → r ≡ Err e → e ≡ Refused → Between (λ d f. Does o denied d f (IsOk r) (r ≡ Err Refused)) old new
+    → Between (λ d f. Does o denied d f (IsOk {T = Unit {0}} {E = E} (Err told)) (◌≡◌ {A = Result (Unit {0}) E} (Err told) (Err told))) old new
 refusal_told {E} o denied old new r e told is field =
     let here : r ≡ Err Refused = subst (λ (u : NotDone). r ≡ Err u) field is in
-    between_as (λ d f. Operates o denied d f (IsOk r) (r ≡ Err Refused)) (λ d f. Operates o denied d f (IsOk {T = Unit {0}} {E = E} (Err told)) (◌≡◌ {A = Result (Unit {0}) E} (Err told) (Err told))) old new
-    (λ d f _ _ h. operates_as o denied d f (IsOk r) (r ≡ Err Refused) (IsOk {T = Unit {0}} {E = E} (Err told)) (◌≡◌ {A = Result (Unit {0}) E} (Err told) (Err told))
-    (λ never. absurd cc) (λ done. subst (λ (x : Result (Unit {0}) NotDone). IsOk x) here done) (λ b. refl) (λ d. here) h)
+    between_as (λ d f. Does o denied d f (IsOk r) (r ≡ Err Refused)) (λ d f. Does o denied d f (IsOk {T = Unit {0}} {E = E} (Err told)) (◌≡◌ {A = Result (Unit {0}) E} (Err told) (Err told))) old new
+    (λ d f _ _ h. record {
+      operates = operates_as o denied d f (IsOk r) (r ≡ Err Refused) (IsOk {T = Unit {0}} {E = E} (Err told)) (◌≡◌ {A = Result (Unit {0}) E} (Err told) (Err told))
+          (λ never. absurd cc) (λ done. subst (λ (x : Result (Unit {0}) NotDone). IsOk x) here done) (λ b. refl) (λ d. here) h.operates;
+      spares = h.spares;
+    })
 
--- where a change finds no room, the cause that it tells holds with the list of kept versions that is told besides
-pub cause_told : (key : List ℕ) (written : ℕ) (asks : List ℕ → List ℕ) (old new : Option WorkingVersion) (r : Result (Unit {0}) NotDone) (e : NotDone) (full : Shortage) (told f : OutOfSpace) → r ≡ Err e → e ≡ not_done.Full full
+-- where a change finds no room, what it tells holds with the list of kept versions that is told besides
+pub room_told : (c : TrieChange) (old new : Option WorkingVersion) (r : Result (Unit {0}) NotDone) (e : NotDone) (full : Shortage) (told f : OutOfSpace) → r ≡ Err e → e ≡ not_done.Full full
     → (kept : Versions) × IfSome new (λ d. versions_in kept ≡ kept_versions d.usage) × (told ≡ full_with full kept) → told ≡ f
-    → ((n : Shortage) (kept : Versions) → r ≡ Err (not_done.Full n) → IfSome new (λ d. versions_in kept ≡ kept_versions d.usage) → Between (λ d e. CausedFrom d e key written asks (full_with n kept)) old new)
-    → Between (λ d e. CausedFrom d e key written asks f) old new
-cause_told key written asks old new r e full told f is field made same cause =
-    subst (λ (x : OutOfSpace). Between (λ d e. CausedFrom d e key written asks x) old new) (sym made.2 ∙ same) (cause full made.0 (subst (λ (u : NotDone). r ≡ Err u) field is) made.1)
-
-pub crowded_told : (key : List ℕ) (written : ℕ) (new : Option WorkingVersion) (r : Result (Unit {0}) NotDone) (e : NotDone) (full : Shortage) (told f : OutOfSpace) → r ≡ Err e → e ≡ not_done.Full full
-    → (kept : Versions) × IfSome new (λ d. versions_in kept ≡ kept_versions d.usage) × (told ≡ full_with full kept) → told ≡ f
-    → ((n : Shortage) (kept : Versions) → r ≡ Err (not_done.Full n) → IfSome new (λ d. versions_in kept ≡ kept_versions d.usage) → IsSomeAnd new (λ d. IsCrowded d key written (length (versions_in kept))))
-    → IsSomeAnd new (λ d. IsCrowded d key written (length (versions_in f.kept)))
-crowded_told key written new r e full told f is field made same crowded =
-    subst (λ (x : OutOfSpace). IsSomeAnd new (λ d. IsCrowded d key written (length (versions_in x.kept)))) (sym made.2 ∙ same) (crowded full made.0 (subst (λ (u : NotDone). r ≡ Err u) field is) made.1)
+    → ((n : Shortage) → r ≡ Err (not_done.Full n) → Between (λ d e. HasRoom d × FindsNoRoom c d e n) old new)
+    → Between (IsOutOfRoom (key_of c) (written_by c) (asked_by c) f) old new
+room_told c old new r e full told f is field made same finds =
+    between_as (λ d e. HasRoom d × FindsNoRoom c d e full) (IsOutOfRoom (key_of c) (written_by c) (asked_by c) f) old new
+    (λ d e _ new_is p.
+    let kept : AreKept e made.0 = subst (λ (o : Option WorkingVersion). IfSome o (λ d. versions_in made.0 ≡ kept_versions d.usage)) new_is made.1 in
+    subst (λ (x : OutOfSpace). IsOutOfRoom (key_of c) (written_by c) (asked_by c) x d e) (sym made.2 ∙ same)
+    (record { full = p.1.full made.0 kept; cause = p.1.cause made.0 kept; cramped = p.1.cramped p.0; crowded = p.1.crowded p.0 made.0 kept }))
+    (finds full (subst (λ (u : NotDone). r ≡ Err u) field is))

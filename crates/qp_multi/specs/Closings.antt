@@ -8,6 +8,7 @@ use Rattle.shared_cells.specs.declared.view.Seen.{Seen}
 use Rattle.shared_cells.specs.declared.view.PassView.{PassView}
 use Rattle.shared_cells.specs.declared.turn.TurnSeat.{TurnSeat}
 use Rattle.shared_cells.specs.History.{IsPartOf, StartsWith, entries_by}
+use Rattle.shared_cells.specs.Steps.{Accounts}
 use Rattle.shared_cells.specs.Views.{number_of}
 use Rattle.qp_multi.specs.declared.meaning.Operation.{Operation}
 use Rattle.qp_multi.specs.Passes.{Known, commits_in, pinned_in}
@@ -15,6 +16,14 @@ use Rattle.qp_multi.specs.Passes.{Known, commits_in, pinned_in}
 -- all that was published, and all namings
 abbrev pub AllSeen : Type 0
 AllSeen = Seen (List Entry) (List Operation)
+
+-- what is known of a pass of an index with so many, at some moment
+abbrev pub IsAccounted : ℕ → Known → Type 0
+IsAccounted passes v = (all : AllSeen) × Accounts passes v all
+
+-- the same at a moment behind a note's: it begins with what that tells
+abbrev pub IsAccountedBeside : ℕ → Known → AllSeen → Type 0
+IsAccountedBeside passes v told = (all : AllSeen) × Accounts passes v all × IsPartOf all told
 
 -- Of all this a pass had seen a beginning. The commits that the history has of it stand in its list, which begins with them, and
 -- each naming of it is of a version that it pinned.

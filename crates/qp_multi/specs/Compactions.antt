@@ -1,6 +1,7 @@
 -- A compaction: a transaction that changes no entry.
-use Rattle.std.specs.Prelude.{◌≡◌, ◌+◌, ℕ, List}
+use Rattle.std.specs.Prelude.{◌≡◌, ◌≢◌, ◌+◌, ℕ, List}
 use Rattle.atomic_table.specs.Seated.{TableId}
+use Rattle.pin_core.specs.declared.TheConstants.{LAST_VERSION}
 use Rattle.pin_core.specs.declared.version.Spent.{Spent}
 use Rattle.trie_model.specs.Keys.{Entry}
 use Rattle.shared_cells.specs.Views.{pass_of}
@@ -19,6 +20,7 @@ pub record Compacts (lawful : List Entry → List Entry → Type 0) (table : Tab
   pub begins : Begins lawful before working
   pub commits : Commits working.seat.place.me.0 working.log.operations after
   pub version : r.version ≡ working.seat.version + 1
+  pub next : r.version ≢ LAST_VERSION + 1
   pub recycles : Recycles 0 working after r
 
 -- It began, and went back to its base, since the base has the last number.
@@ -27,3 +29,4 @@ pub record IsLast (lawful : List Entry → List Entry → Type 0) (before after 
   pub begins : Begins lawful before working
   pub back : after ≡ pass_of working.seat.place.me.0
   pub version : s.version ≡ working.seat.version
+  pub last : s.version ≡ LAST_VERSION

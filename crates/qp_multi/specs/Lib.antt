@@ -3,6 +3,8 @@ pub mod Meanings
 pub mod Passes
 pub mod Turns
 pub mod Bases
+pub mod Begins
+pub mod Readings
 pub mod WorkingVersions
 pub mod Logged
 pub mod Changes
@@ -16,8 +18,12 @@ pub mod Openings
 pub mod Fulls
 pub mod Closings
 pub mod Receipts
+pub mod Commits
 pub mod Compactions
 pub mod Crowds
 pub mod Capacity
 pub mod Bounds
+pub mod Attempts
+pub mod Clearings
+pub mod Calls
 pub mod Prelude

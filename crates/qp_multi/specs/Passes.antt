@@ -1,5 +1,5 @@
 -- What a pass has seen and done.
-use Rattle.std.specs.Prelude.{◌≡◌, ℕ, List, [], Option, Some, None, length, unwrap_or}
+use Rattle.std.specs.Prelude.{◌≡◌, ℕ, List, [], Option, Some, None, IsSome, length, unwrap_or}
 use Rattle.trie_model.specs.Keys.{Entry}
 use Rattle.shared_cells.specs.declared.view.Entry.{Entry as Commit}
 use Rattle.shared_cells.specs.declared.view.Seen.{Seen}
@@ -8,7 +8,9 @@ use Rattle.shared_cells.specs.declared.view.View.{View}
 use Rattle.shared_cells.specs.declared.pass.PassSeat.{PassSeat}
 use Rattle.shared_cells.specs.History.{IsPartOf, longer_seen, version_after}
 use Rattle.shared_cells.specs.Views.{spent_view, with_pinned}
+use Rattle.qp_multi.specs.declared.meaning.Named.{Ghosts}
 use Rattle.qp_multi.specs.declared.meaning.Operation.{Operation}
+use Rattle.qp_multi.specs.declared.pass.Pass.{Pass}
 use Rattle.qp_multi.specs.Operations.{applied}
 
 -- what is known at a seat of an index
@@ -52,3 +54,11 @@ pub record Learnt (old new : Known) (told : Seen (List Entry) (List Operation)) 
   pub learns : IsPartOf new.seen told
   pub longer : new.seen ≡ longer_seen old.seen told
   pub pass : new.pass ≡ old.pass
+
+module _ {Y : Type 0} {N : Ghosts Y} where
+  -- a pass that can ask
+  pub record IsHere (at : ℕ) (p : Pass Y N) : Type 0 where
+    -- no query and no transaction has its seat
+    pub here : IsSome p.seat
+    -- it is of the index at this place
+    pub place : p.place ≡ at

@@ -10,17 +10,19 @@ pub use Rattle.chunk_usage.specs.Handing.{Lacks, consumed}
 pub use Rattle.chunk_usage.specs.Keeping.{freed, kept_versions, narrowed}
 pub use Rattle.chunk_usage.specs.Ledger.{free_count}
 pub use Rattle.chunk_usage.specs.Rooms.{account_of}
-pub use Rattle.trie_space.specs.Spaces.{Fenced, Ready, Unchanged as Same}
-pub use Rattle.trie_write.specs.Roots.{BranchesOnPath, TwigsOnPath}
+pub use Rattle.trie_write.specs.Changes.{StaysAsItWas}
+pub use Rattle.qp_multi.specs.Attempts.{Becomes, CanTry, ChangesFew}
 pub use Rattle.qp_multi.specs.Bases.{IsRooted, StandsFor}
 pub use Rattle.qp_multi.specs.Changes.{IsRefused, LeadsItem, asked_by, key_of, operation_of, written_by}
-pub use Rattle.qp_multi.specs.Closings.{AllSeen, Ends, Gathers, IsOfTurn}
+pub use Rattle.qp_multi.specs.Closings.{AllSeen, Ends, Gathers, IsAccounted, IsAccountedBeside, IsOfTurn}
+pub use Rattle.qp_multi.specs.Commits.{IsSameSeat}
 pub use Rattle.qp_multi.specs.Fulls.{version_at}
 pub use Rattle.qp_multi.specs.Keepings.{GoesOn, KeptBy, versions_in}
 pub use Rattle.qp_multi.specs.Meanings.{Holds, IsVersion}
 pub use Rattle.qp_multi.specs.Movings.{Evacuates, Moved}
 pub use Rattle.qp_multi.specs.Operations.{AreWithin, applied, operated}
-pub use Rattle.qp_multi.specs.Passes.{first_version, known_at}
+pub use Rattle.qp_multi.specs.Passes.{IsHere, first_version, known_at}
+pub use Rattle.qp_multi.specs.Readings.{StaysPinned}
 pub use Rattle.qp_multi.specs.Tries.{Spares, Tried}
 pub use Rattle.qp_multi.specs.Turns.{Agrees, AgreesWithin, cells_with, current_root}
 pub use Rattle.qp_multi.specs.declared.kept.Versions.{Versions}

@@ -1,9 +1,8 @@
 //! What is known of a pass, at any moment: the commits that were made so far, of which it has seen the first ones, have its own in
 //! the order in which it made them, and no others of it.
-ghost use Rattle.std.specs.Prelude.{◌≡◌, IsSome};
-ghost use Rattle.shared_cells.specs.History.{IsPartOf};
+ghost use Rattle.std.specs.Prelude.{◌≡◌};
 ghost use Rattle.shared_cells.specs.Views.{with_note};
-ghost use Rattle.qp_multi.specs.Prelude.{Accounts, known_at, AllSeen};
+ghost use Rattle.qp_multi.specs.Prelude.{known_at, IsAccounted, IsAccountedBeside, IsHere, StaysPinned};
 
 use crate::index::Index;
 use crate::meaning::{Law, Meaning, Named, Operations, Version};
@@ -22,7 +21,7 @@ fn look<L: Law, M: Counted>(
     requires passes { M.passes ≡ shared.now.table.shared.key.passes }
     ensures table { seat.new.place.table_id ≡ seat.old.place.table_id }
     ensures same { seat.new.place.me.0 ≡ seat.old.place.me.0 }
-    ensures accounted { (all : AllSeen) × Accounts M.passes seat.old.place.me.0 all }
+    ensures accounted { IsAccounted M.passes seat.old.place.me.0 }
 {
     seat.look::<Meaning<L>, M>(shared);
 }
@@ -37,7 +36,7 @@ fn look_beside<L: Law, M: Counted>(
     requires passes { M.passes ≡ shared.now.table.shared.key.passes }
     ensures table { seat.new.place.table_id ≡ seat.old.place.table_id }
     ensures told { seat.new.place.me.0 ≡ with_note seat.old.place.me.0 note.place.me.0 }
-    ensures accounted { (all : AllSeen) × Accounts M.passes (with_note seat.old.place.me.0 note.place.me.0) all }
+    ensures accounted { IsAccounted M.passes (with_note seat.old.place.me.0 note.place.me.0) }
 {
     seat.look_beside::<Meaning<L>, M>(shared, note);
 }
@@ -50,10 +49,9 @@ fn look_pinned<L: Law, M: Counted>(
 )
     requires table { (seat.old.place.table_id ≡ shared.now.table.shared.table_id) × (note.place.table_id ≡ shared.now.table.shared.table_id) }
     requires passes { M.passes ≡ shared.now.table.shared.key.passes }
-    ensures table { seat.new.place.table_id ≡ seat.old.place.table_id }
-    ensures same { (seat.new.version ≡ seat.old.version) × (seat.new.root ≡ seat.old.root) }
+    ensures pinned { StaysPinned seat.old seat.new }
     ensures told { seat.new.place.me.0 ≡ with_note seat.old.place.me.0 note.place.me.0 }
-    ensures accounted { (all : AllSeen) × Accounts M.passes (with_note seat.old.place.me.0 note.place.me.0) all }
+    ensures accounted { IsAccounted M.passes (with_note seat.old.place.me.0 note.place.me.0) }
 {
     seat.look_beside::<Meaning<L>, M>(shared, note);
 }
@@ -61,12 +59,10 @@ fn look_pinned<L: Law, M: Counted>(
 impl<N: Named> Pass<N> {
     /// Tells what is known of this pass at some moment of the call. It takes no memory and waits for nobody. The pass sees no more by it.
     pub fn account<L: Law>(&mut self, index: &Index<L, N>)
-        requires here { IsSome self.old.seat }
-        requires place { self.old.place ≡ index.now.place }
-        ensures here { IsSome self.new.seat }
-        ensures place { self.new.place ≡ self.old.place }
+        requires { IsHere index.now.place self.old }
+        ensures back { IsHere self.old.place self.new }
         ensures same { known_at self.new.seat ≡ known_at self.old.seat }
-        ensures accounted { (all : AllSeen) × Accounts index.now.shared.table.shared.key.passes (known_at self.old.seat) all }
+        ensures accounted { IsAccounted index.now.shared.table.shared.key.passes (known_at self.old.seat) }
     {
         let Some(mut seat) = self.seat.take() else {
             // No query and no transaction of this pass has its seat.
@@ -78,13 +74,11 @@ impl<N: Named> Pass<N> {
 
     /// The same of a moment behind the note's: what is known begins with what that tells. The pass doesn't learn it.
     pub fn account_beside<L: Law>(&mut self, index: &Index<L, N>, note: Note<N>)
-        requires here { IsSome self.old.seat }
-        requires places { (self.old.place ≡ index.now.place) × (note.place ≡ index.now.place) }
-        ensures here { IsSome self.new.seat }
-        ensures place { self.new.place ≡ self.old.place }
+        requires pass { IsHere index.now.place self.old }
+        requires note { note.place ≡ index.now.place }
+        ensures back { IsHere self.old.place self.new }
         ensures same { known_at self.new.seat ≡ with_note (known_at self.old.seat) note.told.place.me.0 }
-        ensures accounted { (all : AllSeen) × Accounts index.now.shared.table.shared.key.passes (known_at self.new.seat) all
-            × IsPartOf all note.told.place.me.0.seen }
+        ensures accounted { IsAccountedBeside index.now.shared.table.shared.key.passes (known_at self.new.seat) note.told.place.me.0.seen }
     {
         let Some(mut seat) = self.seat.take() else {
             // No query and no transaction of this pass has its seat.
@@ -104,8 +98,7 @@ impl<L: Law, N: Named> Snapshot<'_, L, N> {
         ensures place { self.new.place ≡ self.old.place }
         ensures held { (self.new.seat.version ≡ self.old.seat.version) × (self.new.seat.root ≡ self.old.seat.root) }
         ensures same { self.new.seat.place.me.0 ≡ with_note self.old.seat.place.me.0 note.told.place.me.0 }
-        ensures accounted { (all : AllSeen) × Accounts index.now.shared.table.shared.key.passes self.new.seat.place.me.0 all
-            × IsPartOf all note.told.place.me.0.seen }
+        ensures accounted { IsAccountedBeside index.now.shared.table.shared.key.passes self.new.seat.place.me.0 note.told.place.me.0.seen }
     {
         let Note { told, .. } = note;
         look_pinned::<L, Brand>(&index.shared, &mut self.seat, told);

@@ -1,10 +1,10 @@
 //! A transaction's operations: each is tried, and once more where there is no room, after rounds and an evacuation.
 //!
 //! What the trie's crate says of its three calls is said here of one, `change_trie`; nothing else in this crate names them.
-ghost use Rattle.std.specs.Prelude.{◌≡◌, ◌↔◌, ◌⊎◌, ◌∷◌, ◌++◌, ◌+◌, ◌≤◌, [], ℕ, List, Err, IsOk, IfOk, IfErr, All, Contains, length};
-ghost use Rattle.qp_multi.specs.Prelude.{Entry, Lacks, consumed, account_of, TwigsOnPath, BranchesOnPath, Ready, Fenced, Same};
-ghost use Rattle.qp_multi.specs.Prelude.{operated, IsRooted, kept_versions, kept_in, IsNamed, IsVersion, operation_of, key_of};
-ghost use Rattle.qp_multi.specs.Prelude.{written_by, asked_by, LeadsItem, IsRefused, versions_in, Versions, Spares, Tried};
+ghost use Rattle.std.specs.Prelude.{◌≡◌, ◌↔◌, ◌⊎◌, ◌∷◌, ◌++◌, [], ℕ, List, Err, IsOk, IfOk, IfErr, All, Contains};
+ghost use Rattle.qp_multi.specs.Prelude.{Entry, Lacks, account_of, StaysAsItWas, Becomes, CanTry, ChangesFew};
+ghost use Rattle.qp_multi.specs.Prelude.{IsRooted, kept_versions, kept_in, IsNamed, IsVersion, operation_of, key_of};
+ghost use Rattle.qp_multi.specs.Prelude.{asked_by, IsRefused, Tried};
 
 use crate::freeing::free_unreached;
 use crate::keeping::make_round;
@@ -33,22 +33,11 @@ pub(crate) fn change_trie<C: CellWrite>(
     root: Option<Ref>,
     change: &TrieChange<'_>,
 ) -> Result<Option<Ref>, NotDone>
-    requires rooted { (es : List Entry) × IsRooted (C.has cells.old) usage.old root es }
-    requires leads { LeadsItem change.now }
-    requires ready { Ready C.kept C.given account_of cells.old usage.old }
-    ensures done { IfOk result (λ new. (es : List Entry) → IsRooted (C.has cells.old) usage.old root es
-        → IsRooted (C.has cells.new) usage.new new (operated es (operation_of change.now))) }
+    requires { CanTry C.has C.kept C.given cells.old usage.old root change.now }
+    ensures done { IfOk result (Becomes C.has cells.old usage.old cells.new usage.new root change.now) }
     ensures refused { (es : List Entry) → IsRooted (C.has cells.old) usage.old root es → (result ≡ Err NotDone.Refused) ↔ IsRefused change.now es }
-    ensures denied { result ≡ Err NotDone.Refused → usage.new ≡ usage.old }
-    ensures stays { IfErr result (λ _. (es : List Entry) → IsRooted (C.has cells.old) usage.old root es → IsRooted (C.has cells.new) usage.new root es) }
-    ensures unchanged { IfErr result (λ _. Same C.has account_of cells.old usage.old cells.new usage.new) }
-    ensures full { (f : _) → result ≡ Err (NotDone.Full f) → Lacks usage.new f }
-    ensures asked { (f : _) → result ≡ Err (NotDone.Full f) → (branches : List ℕ)
-        → BranchesOnPath C.has account_of cells.old usage.old root (key_of change.now) branches → Contains (asked_by change.now branches) f.needed }
-    ensures consumes { (n : ℕ) → TwigsOnPath C.has account_of cells.old usage.old root (key_of change.now) n
-        → consumed usage.new ≤ consumed usage.old + (written_by change.now + n) }
-    ensures frame { Fenced C.has C.kept C.given account_of cells.old usage.old cells.new usage.new }
-    ensures ready { Ready C.kept C.given account_of cells.new usage.new }
+    ensures stays { IfErr result (StaysAsItWas C.has account_of Lacks cells.old usage.old cells.new usage.new root (key_of change.now) (asked_by change.now)) }
+    ensures changes { ChangesFew C.has C.kept C.given cells.old usage.old cells.new usage.new root change.now }
 {
     match *change {
         TrieChange::Insert(key, item) => insert(cells, usage, root, key, item),
@@ -58,12 +47,13 @@ pub(crate) fn change_trie<C: CellWrite>(
 }
 
 impl WorkingVersion {
-    ghost use Rattle.qp_multi.specs.Bounds.{Crowds, HasRoom, IsCramped, IsCrowded, StaysSmall};
+    ghost use Rattle.qp_multi.specs.Bounds.{HasRoom};
     ghost use Rattle.chunk_usage.specs.Ledger.{IsLedger};
-    ghost use Rattle.qp_multi.specs.WorkingVersions.{Works, Operates, IsFull};
-    ghost use Rattle.qp_multi.specs.Fulls.{CausedBy, CausedFrom, full_with, version_at};
-    ghost use Rattle.qp_multi.specs.Rooms.{Fails, FreesRoom, MakesRoom, SparesReserve};
-    ghost use Rattle.qp_multi.specs.declared.writer.WorkingVersion.{WorkingVersion as Left};
+    ghost use Rattle.qp_multi.specs.Attempts.{CanOperate, Does, FindsNoRoom, IsFullAtLast, IsLeft, IsUndone, IsWorkingOf, TakesFree, TriesAtLast};
+    ghost use Rattle.qp_multi.specs.Clearings.{IsSameSet};
+    ghost use Rattle.qp_multi.specs.WorkingVersions.{Operates};
+    ghost use Rattle.qp_multi.specs.Fulls.{version_at};
+    ghost use Rattle.qp_multi.specs.Rooms.{FreesRoom};
 
     // The operation is done: its trie has this root.
     fn with_done(self, root: Option<Ref>, change: &TrieChange<'_>) -> WorkingVersion
@@ -84,13 +74,9 @@ impl WorkingVersion {
         shared: &Shared<Version, Operations, Meaning<L>>,
         change: &TrieChange<'_>,
     ) -> (WorkingVersion, Result<Option<Ref>, NotDone>)
-        requires table { self.seat.place.table_id ≡ shared.now.table.shared.table_id }
+        requires can { CanOperate shared.now.table.shared.table_id change.now self }
         requires lent { (self.seat.place.table_id ≡ B.table) × (self.seat.place.me.0 ≡ B.view) }
-        requires leads { LeadsItem change.now }
-        requires works { Works self }
-        ensures table { result.0.seat.place.table_id ≡ self.seat.place.table_id }
-        ensures passes { result.0.seat.passes ≡ self.seat.passes }
-        ensures same { (result.0.root ≡ self.root) × (result.0.log.operations ≡ self.log.operations) }
+        ensures left { IsLeft self result.0 }
         ensures tried { Tried change.now self.root self.seat.place.me.0 self.usage result.0.seat.place.me.0 result.0.usage result.1 }
         ensures ledger { IsLedger result.0.usage }
     {
@@ -120,19 +106,10 @@ impl WorkingVersion {
         shared: &Shared<Version, Operations, Meaning<L>>,
         change: &TrieChange<'_>,
     ) -> (WorkingVersion, Result<(), NotDone>)
-        requires table { self.seat.place.table_id ≡ shared.now.table.shared.table_id }
-        requires leads { LeadsItem change.now }
-        requires works { Works self }
-        ensures table { result.0.seat.place.table_id ≡ self.seat.place.table_id }
+        requires { CanOperate shared.now.table.shared.table_id change.now self }
         ensures operates { Operates (operation_of change.now) (IsRefused change.now) self result.0 (IsOk result.1) (result.1 ≡ Err NotDone.Refused) }
-        ensures full { (f : _) → result.1 ≡ Err (NotDone.Full f) → Lacks result.0.usage f }
-        ensures tried { IfErr result.1 (λ e. Tried change.now self.root self.seat.place.me.0 self.usage result.0.seat.place.me.0 result.0.usage (Err e)) }
-        ensures fails { (f : _) → result.1 ≡ Err (NotDone.Full f) → Fails self result.0 }
-        ensures spares { Spares self.usage result.0.usage }
-        ensures ledger { IsLedger result.0.usage }
-        ensures root { IfErr result.1 (λ _. result.0.root ≡ self.root) }
-        ensures room { HasRoom self → HasRoom result.0 }
-        ensures cramped { HasRoom self → (f : _) → result.1 ≡ Err (NotDone.Full f) → IsCramped self }
+        ensures takes { TakesFree self result.0 }
+        ensures undone { IfErr result.1 (IsUndone change.now self result.0) }
     {
         let (working, outcome) = self.try_once::<L, Brand>(shared, change);
         match outcome {
@@ -143,14 +120,10 @@ impl WorkingVersion {
 
     // Makes a round, and frees what nothing needs.
     fn make_room<L: Law>(self, shared: &Shared<Version, Operations, Meaning<L>>) -> WorkingVersion
-        requires table { self.seat.place.table_id ≡ shared.now.table.shared.table_id }
-        requires works { Works self }
-        ensures table { result.seat.place.table_id ≡ self.seat.place.table_id }
+        requires { IsWorkingOf shared.now.table.shared.table_id self }
+        ensures same { IsSameSet self result }
         ensures frees { FreesRoom self result }
-        ensures log { result.log.operations ≡ self.log.operations }
-        ensures works { Works result }
         ensures named { (v : ℕ) → Contains (kept_versions result.usage) v → (v ≡ result.seat.version) ⊎ IsNamed result.seat.place.me.0 v }
-        ensures numbers { (result.seat.version ≡ self.seat.version) × (result.seat.passes ≡ self.seat.passes) }
         ensures images { All (λ k. IsVersion k.image k.root (version_at result.seat.place.me.0 k.version)) (kept_in result.seat.place.me.0.turn) }
     {
         let WorkingVersion {
@@ -179,18 +152,10 @@ impl WorkingVersion {
         shared: &Shared<Version, Operations, Meaning<L>>,
         change: &TrieChange<'_>,
     ) -> (WorkingVersion, Result<(), NotDone>)
-        requires table { self.seat.place.table_id ≡ shared.now.table.shared.table_id }
-        requires leads { LeadsItem change.now }
-        requires works { Works self }
-        ensures table { result.0.seat.place.table_id ≡ self.seat.place.table_id }
+        requires { CanOperate shared.now.table.shared.table_id change.now self }
         ensures operates { Operates (operation_of change.now) (IsRefused change.now) self result.0 (IsOk result.1) (result.1 ≡ Err NotDone.Refused) }
-        ensures full { (f : _) (kept : Versions) → result.1 ≡ Err (NotDone.Full f) → versions_in kept ≡ kept_versions result.0.usage
-            → IsFull result.0 (full_with f kept) }
-        ensures room { (left : Left) × MakesRoom self left × Spares left.usage result.0.usage }
-        ensures small { StaysSmall self result.0.usage }
-        ensures crowded { (f : _) → result.1 ≡ Err (NotDone.Full f) → Crowds self result.0 (key_of change.now) (written_by change.now) }
-        ensures cause { (f : _) (kept : Versions) → result.1 ≡ Err (NotDone.Full f) → versions_in kept ≡ kept_versions result.0.usage
-            → CausedBy self result.0 (key_of change.now) (written_by change.now) (asked_by change.now) (full_with f kept) }
+        ensures tries { TriesAtLast self result.0 }
+        ensures full { (f : _) → result.1 ≡ Err (NotDone.Full f) → IsFullAtLast change.now self result.0 f }
     {
         let room = self.make_room(shared);
         let (emptied, _done) = room.evacuate::<L, Brand>(shared);
@@ -205,20 +170,11 @@ impl WorkingVersion {
         shared: &Shared<Version, Operations, Meaning<L>>,
         change: &TrieChange<'_>,
     ) -> (WorkingVersion, Result<(), NotDone>)
-        requires table { self.seat.place.table_id ≡ shared.now.table.shared.table_id }
-        requires leads { LeadsItem change.now }
-        requires works { Works self }
+        requires { CanOperate shared.now.table.shared.table_id change.now self }
         ensures table { result.0.seat.place.table_id ≡ self.seat.place.table_id }
-        ensures operates { Operates (operation_of change.now) (IsRefused change.now) self result.0 (IsOk result.1) (result.1 ≡ Err NotDone.Refused) }
-        ensures full { (f : _) (kept : Versions) → result.1 ≡ Err (NotDone.Full f) → versions_in kept ≡ kept_versions result.0.usage
-            → IsFull result.0 (full_with f kept) }
-        ensures spares { SparesReserve self result.0 }
-        ensures crowded { HasRoom self → (f : _) (kept : Versions) → result.1 ≡ Err (NotDone.Full f) → versions_in kept ≡ kept_versions result.0.usage
-            → IsCrowded result.0 (key_of change.now) (written_by change.now) (length (versions_in kept)) }
-        ensures cause { (f : _) (kept : Versions) → result.1 ≡ Err (NotDone.Full f) → versions_in kept ≡ kept_versions result.0.usage
-            → CausedFrom self result.0 (key_of change.now) (written_by change.now) (asked_by change.now) (full_with f kept) }
+        ensures does { Does (operation_of change.now) (IsRefused change.now) self result.0 (IsOk result.1) (result.1 ≡ Err NotDone.Refused) }
         ensures room { HasRoom self → HasRoom result.0 }
-        ensures cramped { HasRoom self → (f : _) → result.1 ≡ Err (NotDone.Full f) → IsCramped self }
+        ensures full { (f : _) → result.1 ≡ Err (NotDone.Full f) → FindsNoRoom change.now self result.0 f }
     {
         let (working, outcome) = self.attempt(shared, change);
         match outcome {

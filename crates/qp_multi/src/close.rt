@@ -4,7 +4,7 @@
 //! The turn isn't asked where there is a pass, since a lock's type doesn't say that the turn is there: a transaction that was
 //! forgotten has kept it.
 ghost use Rattle.std.specs.Prelude.{◌≡◌, [], IsSome, All, map};
-ghost use Rattle.qp_multi.specs.Prelude.{known_at, AllSeen, Ends, Gathers, IsOfTurn};
+ghost use Rattle.qp_multi.specs.Prelude.{known_at, AllSeen, Ends, Gathers, IsHere, IsOfTurn};
 
 use crate::index::Index;
 use crate::meaning::{Law, Named};
@@ -13,10 +13,8 @@ use crate::pass::Pass;
 impl<L: Law, N: Named> Index<L, N> {
     // The pass takes the current version's number.
     fn take_last(&self, pass: Pass<N>) -> (Pass<N>, u64)
-        requires here { IsSome pass.seat }
-        requires place { pass.place ≡ self.now.place }
-        ensures here { IsSome result.0.seat }
-        ensures place { result.0.place ≡ self.now.place }
+        requires { IsHere self.now.place pass }
+        ensures back { IsHere self.now.place result.0 }
         ensures gathers { (last : AllSeen) × Gathers self.now.shared.table.shared.key.passes (known_at pass.seat) (known_at result.0.seat) [] result.1 last }
     {
         let mut pass = pass;
@@ -30,11 +28,9 @@ impl<L: Law, N: Named> Index<L, N> {
 
     // The first pass takes the current version's number when it has learnt what the others have seen. They learn that of it.
     fn gather(&self, first: Pass<N>, others: Vec<Pass<N>>) -> (Pass<N>, u64)
-        requires here { IsSome first.seat }
-        requires place { first.place ≡ self.now.place }
+        requires first { IsHere self.now.place first }
         requires others { All (λ p. (IsSome p.seat) × (p.place ≡ self.now.place)) others.items }
-        ensures here { IsSome result.0.seat }
-        ensures place { result.0.place ≡ self.now.place }
+        ensures back { IsHere self.now.place result.0 }
         ensures gathers { (last : AllSeen) × Gathers self.now.shared.table.shared.key.passes (known_at first.seat) (known_at result.0.seat)
             (map (λ p. known_at p.seat) others.items) result.1 last }
     {

@@ -1,6 +1,6 @@
 //! Commits: the working set becomes the next version.
-ghost use Rattle.std.specs.Prelude.{◌≡◌, ◌↔◌, ◌+◌, ◌^◌, ◌<◌, ◌≤◌, true, false, All, IfOk, IfErr, IsErr, length};
-ghost use Rattle.qp_multi.specs.Prelude.{free_count, kept_in, pass_of, CanPublish, Published, applied, AreWithin, IsVersion, first_version};
+ghost use Rattle.std.specs.Prelude.{◌≡◌, ◌↔◌, ◌+◌, ◌^◌, ◌<◌, ◌≤◌, All, IfOk, IfErr, IsErr, length};
+ghost use Rattle.qp_multi.specs.Prelude.{kept_in, CanPublish, Published, applied, AreWithin, IsVersion, IsSameSeat};
 
 use crate::freeing::free_unreached;
 use crate::keeping::make_round;
@@ -50,8 +50,7 @@ fn publish<L: Law, M: Payload<Operations>>(
 ) -> u64
     requires table { seat.old.place.table_id ≡ shared.now.table.shared.table_id }
     requires can { CanPublish applied L.lawful (AreWithin L.most_operations) IsVersion shared.now.table.shared.key seat.old.place.me.0 M.change root M.image }
-    ensures table { seat.new.place.table_id ≡ seat.old.place.table_id }
-    ensures numbers { (seat.new.number ≡ seat.old.number) × (seat.new.passes ≡ seat.old.passes) }
+    ensures seat { IsSameSeat seat.old seat.new }
     ensures version { result ≡ seat.old.version + 1 }
     ensures published { Published seat.old.place.me.0 M.change root M.image seat.new.place.me.0 }
 {
@@ -59,12 +58,10 @@ fn publish<L: Law, M: Payload<Operations>>(
 }
 
 impl WorkingVersion {
-    ghost use Rattle.qp_multi.specs.Bounds.{HasRoom, IsSmall, WhereRoomy, WhereSmall};
-    ghost use Rattle.qp_multi.specs.Capacity.{EachRoomy};
-    ghost use Rattle.qp_multi.specs.Crowds.{RowsAreFew};
-    ghost use Rattle.qp_multi.specs.WorkingVersions.{Works, Commits, working_set};
-    ghost use Rattle.qp_multi.specs.Movings.{FewThin};
-    ghost use Rattle.qp_multi.specs.Receipts.{Publishes, Recycles, Settles};
+    ghost use Rattle.qp_multi.specs.Commits.{CanBePublished, CanCommit, CanSettle, IsCommitted, IsReceipt, IsSpent, IsUntouched};
+    ghost use Rattle.qp_multi.specs.Commits.{KeepsTurn, LeavesFew, LeavesRoom, SettlesRoomy};
+    ghost use Rattle.qp_multi.specs.WorkingVersions.{Commits};
+    ghost use Rattle.qp_multi.specs.Receipts.{Settles};
 
     // The number of the next version, if there is one.
     fn next_version<L: Law>(
@@ -72,12 +69,7 @@ impl WorkingVersion {
         shared: &Shared<Version, Operations, Meaning<L>>,
     ) -> Result<u64, Spent>
         requires { self.old.seat.place.table_id ≡ shared.now.table.shared.table_id }
-        ensures table { self.new.seat.place.table_id ≡ self.old.seat.place.table_id }
-        ensures known { self.new.seat.place.me.0 ≡ self.old.seat.place.me.0 }
-        ensures version { self.new.seat.version ≡ self.old.seat.version }
-        ensures usage { self.new.usage ≡ self.old.usage }
-        ensures roots { (self.new.base ≡ self.old.base) × (self.new.root ≡ self.old.root) }
-        ensures log { self.new.log.operations ≡ self.old.log.operations }
+        ensures same { IsUntouched self.old self.new }
         ensures newest { All (λ k. k.version ≤ self.old.seat.version) (kept_in self.old.seat.place.me.0.turn) }
         ensures next { IfOk result (λ n. (n ≡ self.old.seat.version + 1) × (self.old.seat.version + 1 < 2 ^ 40)) }
         ensures spent { IfErr result (λ s. (s.version ≡ self.old.seat.version) × (self.old.seat.version ≡ LAST_VERSION)) }
@@ -92,17 +84,11 @@ impl WorkingVersion {
         shared: &Shared<Version, Operations, Meaning<L>>,
         most: u32,
     ) -> (WorkingVersion, bool)
-        requires table { self.seat.place.table_id ≡ shared.now.table.shared.table_id }
-        requires works { Works self }
-        requires few { most ≤ 8 }
-        ensures table { result.0.seat.place.table_id ≡ self.seat.place.table_id }
+        requires { CanSettle shared.now.table.shared.table_id most self }
         ensures settles { Settles most self result.0 result.1 }
-        ensures version { result.0.seat.version ≡ self.seat.version }
-        ensures versions { kept_in result.0.seat.place.me.0.turn ≡ kept_in self.seat.place.me.0.turn }
-        ensures whole { result.1 ≡ true → FewThin most result.0.usage }
-        ensures stopped { result.1 ≡ false → free_count result.0.usage ≡ 0 }
-        ensures roomy { HasRoom self → WhereRoomy self (result.1 ≡ true) }
-        ensures small { HasRoom self → WhereSmall self (IsSmall result.0.usage) }
+        ensures turn { KeepsTurn self result.0 }
+        ensures sparse { LeavesFew most result.0 result.1 }
+        ensures room { SettlesRoomy self result.0 result.1 }
     {
         self.usage.known(); // for the proof
         if self.usage.sparse() <= most {
@@ -121,20 +107,11 @@ impl WorkingVersion {
         shared: &Shared<Version, Operations, Meaning<L>>,
         whole: bool,
     ) -> (WriterAtRest, PassSeat<Version, Operations>, Receipt)
-        requires table { self.seat.place.table_id ≡ shared.now.table.shared.table_id }
-        requires newest { All (λ k. k.version ≤ self.seat.version) (kept_in self.seat.place.me.0.turn) }
-        requires next { self.seat.version + 1 < 2 ^ 40 }
-        requires works { Works self }
-        requires rows { EachRoomy self.usage self.seat.place.me.0.seen (λ most_cells _. RowsAreFew most_cells self.usage.rows) }
-        requires thin { WhereRoomy self (FewThin 8 self.usage) }
-        requires small { WhereSmall self (IsSmall self.usage) }
-        requires lawful { L.lawful (first_version self.seat.place.me.0.seen) (working_set self) }
-        requires few_operations { AreWithin L.most_operations self.log.operations }
+        requires can { CanBePublished L.lawful L.most_operations shared.now.table.shared.table_id self }
+        requires room { LeavesRoom self }
         ensures tables { (result.0.seat.place.table_id ≡ self.seat.place.table_id) × (result.1.place.table_id ≡ self.seat.place.table_id) }
         ensures commits { Commits self.seat.place.me.0 self.log.operations result.1.place.me.0 }
-        ensures version { result.2.version ≡ self.seat.version + 1 }
-        ensures whole { result.2.whole ≡ whole }
-        ensures receipt { Publishes self result.1.place.me.0 result.2 }
+        ensures receipt { IsReceipt self whole result.1.place.me.0 result.2 }
     {
         let WorkingVersion {
             mut seat,
@@ -165,19 +142,11 @@ impl WorkingVersion {
         PassSeat<Version, Operations>,
         Result<Receipt, Spent>,
     )
-        requires table { self.seat.place.table_id ≡ shared.now.table.shared.table_id }
-        requires works { Works self }
-        requires room { HasRoom self }
-        requires few { most ≤ 8 }
-        requires lawful { L.lawful (first_version self.seat.place.me.0.seen) (working_set self) }
-        requires few_operations { AreWithin L.most_operations self.log.operations }
+        requires { CanCommit L.lawful L.most_operations shared.now.table.shared.table_id most self }
         ensures tables { (result.0.seat.place.table_id ≡ self.seat.place.table_id) × (result.1.place.table_id ≡ self.seat.place.table_id) }
-        ensures commits { IfOk result.2 (λ _. Commits self.seat.place.me.0 self.log.operations result.1.place.me.0) }
-        ensures version { IfOk result.2 (λ r. r.version ≡ self.seat.version + 1) }
-        ensures receipt { IfOk result.2 (Recycles most self result.1.place.me.0) }
-        ensures back { IfErr result.2 (λ _. result.1.place.me.0 ≡ pass_of self.seat.place.me.0) }
+        ensures done { IfOk result.2 (IsCommitted most self result.1.place.me.0) }
+        ensures undone { IfErr result.2 (IsSpent self result.1.place.me.0) }
         ensures spent { IsErr result.2 ↔ (self.seat.version ≡ LAST_VERSION) }
-        ensures last { IfErr result.2 (λ s. s.version ≡ self.seat.version) }
     {
         let mut working = self;
         match working.next_version(shared) {

@@ -1,6 +1,7 @@
 //! The working set, read by its transaction.
-ghost use Rattle.std.specs.Prelude.{◌≡◌, ◌≤◌, ◌+◌, ◌*◌, List, length};
-ghost use Rattle.qp_multi.specs.Prelude.{words_for, most_item_octets, Entry, Fetched, StandsFor};
+ghost use Rattle.std.specs.Prelude.{◌≡◌, ◌≤◌, List, length};
+ghost use Rattle.qp_multi.specs.Prelude.{most_item_octets, Entry, Fetched, StandsFor};
+ghost use Rattle.qp_multi.specs.Clearings.{CanRead, IsSeatedStill};
 
 use crate::meaning::{Law, Meaning, Operations, Version};
 use crate::writer::WorkingVersion;
@@ -20,14 +21,10 @@ fn fetch_item<L: Law, B: Lent<Version, Operations>>(
     key: &Key,
     out: &mut [u8],
 ) -> (JoinedSeat<Version, Operations>, Option<usize>)
-    requires table { seat.place.table_id ≡ shared.now.table.shared.table_id }
+    requires reads { CanRead shared.now.table.shared.table_id seat _usage.now root }
     requires lent { (seat.place.table_id ≡ B.table) × (seat.place.me.0 ≡ B.view) }
-    requires wide { words_for (length _usage.now.given) ≡ seat.place.table_id.words }
-    requires stands { (es : List Entry) × StandsFor seat.place.me.0 _usage.now root es }
     requires room { most_item_octets ≤ length out.old }
-    ensures table { result.0.place.table_id ≡ seat.place.table_id }
-    ensures same { result.0.place.me.0 ≡ seat.place.me.0 }
-    ensures passes { result.0.passes ≡ seat.passes }
+    ensures same { IsSeatedStill seat result.0 }
     ensures item { (es : List Entry) → StandsFor seat.place.me.0 _usage.now root es → Fetched key.now es out.old out.new result.1 }
 {
     let number = seat.version;
@@ -43,7 +40,8 @@ fn fetch_item<L: Law, B: Lent<Version, Operations>>(
 }
 
 impl WorkingVersion {
-    ghost use Rattle.qp_multi.specs.WorkingVersions.{Works, IsSame, working_set};
+    ghost use Rattle.qp_multi.specs.Attempts.{IsWorkingOf};
+    ghost use Rattle.qp_multi.specs.WorkingVersions.{IsSame, working_set};
 
     /// Reads the item of a key of the working set into the beginning of `out`, and gives its length; `None` where the key is not
     /// there.
@@ -53,8 +51,7 @@ impl WorkingVersion {
         key: &Key,
         out: &mut [u8],
     ) -> (WorkingVersion, Option<usize>)
-        requires table { self.seat.place.table_id ≡ shared.now.table.shared.table_id }
-        requires works { Works self }
+        requires working { IsWorkingOf shared.now.table.shared.table_id self }
         requires room { most_item_octets ≤ length out.old }
         ensures table { result.0.seat.place.table_id ≡ self.seat.place.table_id }
         ensures same { IsSame self result.0 }

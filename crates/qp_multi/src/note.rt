@@ -1,6 +1,6 @@
 //! Notes: what one pass has seen is told to another.
-ghost use Rattle.std.specs.Prelude.{◌≡◌, Some, IsSome, slice_get};
-ghost use Rattle.qp_multi.specs.Passes.{known_at, Learnt};
+ghost use Rattle.std.specs.Prelude.{◌≡◌, Some, slice_get};
+ghost use Rattle.qp_multi.specs.Passes.{known_at, IsHere, Learnt};
 
 use crate::index::Index;
 use crate::meaning::{Law, Named, Operations, Version};
@@ -29,10 +29,9 @@ impl<N: Named> Note<N> {
 impl<N: Named> Pass<N> {
     /// A note of what this pass has seen.
     pub fn note<L: Law>(&mut self, index: &Index<L, N>) -> Note<N>
-        requires here { IsSome self.old.seat }
-        requires place { self.old.place ≡ index.now.place }
-        ensures here { IsSome self.new.seat }
-        ensures place { (self.new.place ≡ self.old.place) × (result.place ≡ self.old.place) }
+        requires { IsHere index.now.place self.old }
+        ensures back { IsHere self.old.place self.new }
+        ensures place { result.place ≡ self.old.place }
         ensures same { known_at self.new.seat ≡ known_at self.old.seat }
         ensures told { result.told.place.me.0.seen ≡ (known_at self.old.seat).seen }
     {
@@ -51,10 +50,9 @@ impl<N: Named> Pass<N> {
 
     /// Learns what the note tells. From then on the pass sees no less.
     pub fn learn<L: Law>(&mut self, index: &Index<L, N>, note: Note<N>)
-        requires here { IsSome self.old.seat }
-        requires places { (self.old.place ≡ index.now.place) × (note.place ≡ index.now.place) }
-        ensures here { IsSome self.new.seat }
-        ensures place { self.new.place ≡ self.old.place }
+        requires pass { IsHere index.now.place self.old }
+        requires note { note.place ≡ index.now.place }
+        ensures back { IsHere self.old.place self.new }
         ensures learnt { Learnt (known_at self.old.seat) (known_at self.new.seat) note.told.place.me.0.seen }
     {
         let Some(mut seat) = self.seat.take() else {

@@ -1,22 +1,18 @@
 //! How an index begins.
-ghost use Rattle.std.specs.Prelude.{◌≡◌, ◌*◌, ◌<◌, ◌≤◌, [], Some, IsSome, IfOk, IfErr, All, length, map, slice_get};
+ghost use Rattle.std.specs.Prelude.{◌≡◌, ◌*◌, ◌<◌, ◌≤◌, [], Some, IfOk, IfErr, All, length, map, slice_get};
 ghost use Rattle.std.specs.List.{range_with_len};
 ghost use Rattle.std.proofs.Props.{props};
 ghost use Rattle.trie_model.specs.Keys.{Rises};
 ghost use Rattle.trie_model.specs.Shape.{cells as cells_in_trie};
-ghost use Rattle.chunk_usage.specs.Ledger.{frozen_part};
-ghost use Rattle.chunk_usage.specs.Handing.{Lacks, consumed};
+ghost use Rattle.chunk_usage.specs.Handing.{Lacks};
 ghost use Rattle.trie_write.specs.Entries.{entries_of_items};
-ghost use Rattle.shared_cells.specs.Views.{number_of, words_of};
-ghost use Rattle.shared_cells.specs.Cells.{given_chunks, with_words};
+ghost use Rattle.shared_cells.specs.Views.{number_of};
 ghost use Rattle.shared_cells.specs.Steps.{CanOpen, Opened};
 ghost use Rattle.qp_multi.specs.Operations.{applied, AreWithin};
 ghost use Rattle.qp_multi.specs.Meanings.{IsVersion};
-ghost use Rattle.qp_multi.specs.Passes.{commits_in, first_version, known_at, pinned_in};
-ghost use Rattle.qp_multi.specs.Turns.{cells_with};
+ghost use Rattle.qp_multi.specs.Passes.{commits_in, first_version, pinned_in};
 ghost use Rattle.qp_multi.specs.Bases.{StandsFor};
-ghost use Rattle.qp_multi.specs.Closings.{AreAll};
-ghost use Rattle.qp_multi.specs.Openings.{IsUnused, SeesFirst, Refuses, room_in};
+ghost use Rattle.qp_multi.specs.Openings.{AreFirst, AreNewSeats, CanFill, IsFilled, IsOpened, IsTableSize, IsUnused, OpensTurn, Refuses, room_in};
 
 use crate::index::{Index, Turn};
 use crate::meaning::{Law, Meaning, Named, Operations, Version};
@@ -68,10 +64,7 @@ pub enum OpenRefusal {
 impl<L: Law> Blank<L> {
     /// A table with 16 to 4,096 chunks, for 1 to 64 passes.
     pub fn new(alloc: Global, chunks: u32, passes: u32) -> Result<Blank<L>, AllocError>
-        requires enough { 16 ≤ chunks }
-        requires few { chunks ≤ 4096 }
-        requires some_passes { 1 ≤ passes }
-        requires few_passes { passes ≤ 64 }
+        requires { IsTableSize chunks passes }
         ensures chunks { IfOk result (λ blank. blank.shared.table.shared.key.chunks ≡ chunks) }
         ensures passes { IfOk result (λ blank. blank.shared.table.shared.key.passes ≡ passes) }
     {
@@ -104,18 +97,10 @@ fn fill<L: Law, B: Lent<Version, Operations>>(
     NewTurnSeat<Version, Operations>,
     Result<Option<Ref>, chunk_usage::Shortage>,
 )
-    requires table { turn.place.table_id ≡ shared.now.table.shared.table_id }
+    requires can { CanFill shared.now.table.shared.table_id shared.now.table.shared.key.chunks turn usage.old (entries_of_items items.now) }
     requires lent { (turn.place.table_id ≡ B.table) × (turn.place.me.0 ≡ B.view) }
-    requires size { shared.now.table.shared.key.chunks ≡ length usage.old.given }
-    requires unused { IsUnused turn.place.me.0.turn usage.old turn.passes }
-    requires rising { Rises (entries_of_items items.now) }
-    ensures table { result.0.place.table_id ≡ turn.place.table_id }
-    ensures same { result.0.place.me.0 ≡ with_words turn.place.me.0 (words_of result.0.place.me.0.turn) }
-    ensures size { length usage.new.given ≡ length usage.old.given }
-    ensures frozen { frozen_part usage.new ≡ frozen_part usage.old }
-    ensures given { given_chunks (cells_with usage.new result.0.place.me.0.turn) ≡ usage.new.given }
+    ensures filled { IsFilled turn result.0 usage.old usage.new (entries_of_items items.now) }
     ensures stands { IfOk result.1 (λ root. StandsFor result.0.place.me.0 usage.new root (entries_of_items items.now)) }
-    ensures consumes { consumed usage.new ≤ cells_in_trie (entries_of_items items.now) }
     ensures full { IfErr result.1 (λ f. Lacks usage.new f) }
 {
     usage.known(); // for the proof
@@ -149,18 +134,10 @@ fn tell_passes<L: Law, N: Named>(
     place: u32,
 ) -> Result<Vec<Pass<N>>, AllocError>
     requires named { slice_get N.tables place ≡ Some shared.now.table.shared.table_id }
-    requires table { turn.old.place.table_id ≡ shared.now.table.shared.table_id }
-    requires seats { All (λ s. s.place.table_id ≡ shared.now.table.shared.table_id) seats.items }
-    requires unseen { All (λ s. length s.place.me.0.seen.history ≡ 0) seats.items }
-    requires unused { All (λ s. (commits_in s.place.me.0.pass ≡ []) × (pinned_in s.place.me.0.pass ≡ [])) seats.items }
-    requires numbered { map (λ s. number_of s.place.me.0.pass) seats.items ≡ range_with_len 1 shared.now.table.shared.key.passes }
-    requires no_history { length turn.old.place.me.0.seen.history ≡ 0 }
+    requires turn { (turn.old.place.table_id ≡ shared.now.table.shared.table_id) × (length turn.old.place.me.0.seen.history ≡ 0) }
+    requires seats { AreNewSeats shared.now.table.shared.table_id shared.now.table.shared.key.passes seats.items }
     ensures same { (turn.new.place.table_id ≡ turn.old.place.table_id) × (turn.new.place.me.0 ≡ turn.old.place.me.0) × (turn.new.passes ≡ turn.old.passes) }
-    ensures passes { IfOk result (λ passes. All (λ p. (IsSome p.seat) × (p.place ≡ place)
-        × (SeesFirst (first_version turn.old.place.me.0.seen) (known_at p.seat))) passes.items) }
-    ensures unused { IfOk result (λ passes. All (λ p. (commits_in (known_at p.seat).pass ≡ []) × (pinned_in (known_at p.seat).pass ≡ [])) passes.items) }
-    ensures count { IfOk result (λ passes. length passes.items ≡ length seats.items) }
-    ensures all { IfOk result (λ passes. AreAll (length seats.items) (map (λ p. known_at p.seat) passes.items)) }
+    ensures passes { IfOk result (λ passes. AreFirst place (length seats.items) (first_version turn.old.place.me.0.seen) passes.items) }
 {
     let mut seats = seats;
     let mut passes = Vec::new(alloc);
@@ -184,15 +161,11 @@ impl<L: Law, N: Named> Index<L, N> {
         usage: Usage,
         items: &[Item],
     ) -> WriterAtRest
-        requires table { turn.place.table_id ≡ shared.now.table.shared.table_id }
-        requires size { shared.now.table.shared.key.chunks ≡ length usage.given }
+        requires can { CanFill shared.now.table.shared.table_id shared.now.table.shared.key.chunks turn usage (entries_of_items items.now) }
         requires enough { 16 ≤ length usage.given }
-        requires unused { IsUnused turn.place.me.0.turn usage turn.passes }
-        requires rising { Rises (entries_of_items items.now) }
         requires lawful { L.lawful (entries_of_items items.now) (entries_of_items items.now) }
         requires room { cells_in_trie (entries_of_items items.now) ≤ room_in (length usage.given) }
-        ensures table { result.seat.place.table_id ≡ turn.place.table_id }
-        ensures sees { SeesFirst (entries_of_items items.now) result.seat.place.me.0 }
+        ensures opened { OpensTurn turn.place.table_id (entries_of_items items.now) result.seat }
     {
         let mut usage = usage;
         let (turn, built) = fill::<L, Brand>(shared, turn, &mut usage, items);
@@ -217,14 +190,7 @@ impl<L: Law, N: Named> Index<L, N> {
         requires rising { Rises (entries_of_items items.now) }
         requires lawful { L.lawful (entries_of_items items.now) (entries_of_items items.now) }
         requires room { cells_in_trie (entries_of_items items.now) ≤ room_in blank.shared.table.shared.key.chunks }
-        ensures place { IfOk result (λ made. made.0.place ≡ place) }
-        ensures passes { IfOk result (λ made. All (λ p. (IsSome p.seat) × (p.place ≡ place)
-            × (SeesFirst (entries_of_items items.now) (known_at p.seat))) made.1.items) }
-        // No pass has committed or asked.
-        ensures unused { IfOk result (λ made. All (λ p. (commits_in (known_at p.seat).pass ≡ []) × (pinned_in (known_at p.seat).pass ≡ [])) made.1.items) }
-        ensures size { IfOk result (λ made. made.0.shared.table.shared.key ≡ blank.shared.table.shared.key) }
-        ensures count { IfOk result (λ made. length made.1.items ≡ blank.shared.table.shared.key.passes) }
-        ensures all { IfOk result (λ made. AreAll blank.shared.table.shared.key.passes (map (λ p. known_at p.seat) made.1.items)) }
+        ensures opens { IfOk result (IsOpened place blank.shared.table.shared.key (entries_of_items items.now)) }
     {
         let Blank {
             shared,
@@ -259,15 +225,7 @@ impl<L: Law, N: Named> Index<L, N> {
         requires named { slice_get N.tables place ≡ Some blank.shared.table.shared.table_id }
         requires rising { Rises (entries_of_items items.now) }
         requires lawful { L.lawful (entries_of_items items.now) (entries_of_items items.now) }
-        ensures place { IfOk result (λ made. made.0.place ≡ place) }
-        ensures passes { IfOk result (λ made. All (λ p. (IsSome p.seat) × (p.place ≡ place)
-            × (SeesFirst (entries_of_items items.now) (known_at p.seat))) made.1.items) }
-        // No pass has committed or asked.
-        ensures unused { IfOk result (λ made. All (λ p. (commits_in (known_at p.seat).pass ≡ []) × (pinned_in (known_at p.seat).pass ≡ [])) made.1.items) }
-        ensures size { IfOk result (λ made. made.0.shared.table.shared.key ≡ blank.shared.table.shared.key) }
-        ensures count { IfOk result (λ made. length made.1.items ≡ blank.shared.table.shared.key.passes) }
-        ensures all { IfOk result (λ made. AreAll blank.shared.table.shared.key.passes (map (λ p. known_at p.seat) made.1.items)) }
-        ensures fits { IfOk result (λ _. cells_in_trie (entries_of_items items.now) ≤ room_in blank.shared.table.shared.key.chunks) }
+        ensures opens { IfOk result (IsOpened place blank.shared.table.shared.key (entries_of_items items.now)) }
         ensures full { IfErr result (λ refusal. Refuses blank.shared.table.shared.key.chunks (entries_of_items items.now) refusal) }
     {
         if items.len() >= MANY_ITEMS {

@@ -2,9 +2,8 @@
 ghost use Rattle.std.specs.Prelude.{◌≡◌, Some, IsSome, slice_get};
 ghost use Rattle.shared_cells.specs.declared.view.Progress.TheVariants as progress;
 ghost use Rattle.shared_cells.specs.Views.{with_progress, pinned_image};
-ghost use Rattle.qp_multi.specs.Passes.{known_at, version_seen, Pinned};
-ghost use Rattle.qp_multi.specs.Bases.{CommitsAreWithin};
-ghost use Rattle.qp_multi.specs.Meanings.{Holds, IsVersion};
+ghost use Rattle.qp_multi.specs.Passes.{known_at, IsHere, Pinned};
+ghost use Rattle.qp_multi.specs.Readings.{Reads};
 
 use crate::index::Index;
 use crate::meaning::{Law, Meaning, Named, Operations, Version};
@@ -30,14 +29,11 @@ pub struct Query<'a, L: Law, N: Named> {
 impl<N: Named> Pass<N> {
     /// Takes the version that is current at some moment of the call: no older than what the pass had seen.
     pub fn query<'a, L: Law>(&'a mut self, index: &'a Index<L, N>) -> Query<'a, L, N>
-        requires here { IsSome self.old.seat }
-        requires place { self.old.place ≡ index.now.place }
+        requires { IsHere index.now.place self.old }
         ensures same_reference { result.home.ghost_name ≡ self.entry.ghost_name }
         ensures place { result.place ≡ self.old.place }
         ensures pinned { Pinned L.lawful (known_at self.old.seat) result.seat.place.me.0 result.seat.version }
-        ensures few_operations { CommitsAreWithin L.most_operations result.seat.place.me.0 }
-        ensures shows { IsVersion (pinned_image result.seat.place.me.0.progress) result.seat.root (version_seen result.seat.place.me.0.seen) }
-        ensures holds { Holds (pinned_image result.seat.place.me.0.progress) result.seat.root (version_seen result.seat.place.me.0.seen) }
+        ensures reads { Reads L.most_operations result.seat.place.me.0 result.seat.root }
     {
         let Some(seat) = self.seat.take() else {
             // No query and no transaction of this pass has its seat.

@@ -4,9 +4,8 @@ ghost use Rattle.trie_model.specs.Keys.{Entry};
 ghost use Rattle.shared_cells.specs.declared.pass.PassSeat.{PassSeat};
 ghost use Rattle.shared_cells.specs.declared.view.Progress.TheVariants as progress;
 ghost use Rattle.shared_cells.specs.Views.{with_progress, pinned_image};
-ghost use Rattle.qp_multi.specs.Passes.{known_at, version_seen, Pinned};
-ghost use Rattle.qp_multi.specs.Bases.{CommitsAreWithin};
-ghost use Rattle.qp_multi.specs.Meanings.{Holds, IsVersion};
+ghost use Rattle.qp_multi.specs.Passes.{known_at, IsHere, Pinned};
+ghost use Rattle.qp_multi.specs.Readings.{Reads};
 ghost use Rattle.qp_multi.specs.declared.meaning.Operation.{Operation};
 
 use crate::index::Index;
@@ -36,13 +35,10 @@ pub struct Snapshot<'i, L: Law, N: Named> {
 impl<N: Named> Pass<N> {
     /// Holds the version that is current at some moment of the call: no older than what the pass had seen.
     pub fn hold<'i, L: Law>(self, index: &'i Index<L, N>) -> Snapshot<'i, L, N>
-        requires here { IsSome self.seat }
-        requires place { self.place ≡ index.now.place }
+        requires { IsHere index.now.place self }
         ensures place { result.place ≡ self.place }
         ensures pinned { Pinned L.lawful (known_at self.seat) result.seat.place.me.0 result.seat.version }
-        ensures few_operations { CommitsAreWithin L.most_operations result.seat.place.me.0 }
-        ensures shows { IsVersion (pinned_image result.seat.place.me.0.progress) result.seat.root (version_seen result.seat.place.me.0.seen) }
-        ensures holds { Holds (pinned_image result.seat.place.me.0.progress) result.seat.root (version_seen result.seat.place.me.0.seen) }
+        ensures reads { Reads L.most_operations result.seat.place.me.0 result.seat.root }
     {
         let Pass { place, seat, .. } = self;
         let Some(seat) = seat else {

@@ -1,12 +1,11 @@
 //! Transactions: one at a time, each of a pass that has joined the turn.
-ghost use Rattle.std.specs.Prelude.{◌≡◌, ◌≢◌, ◌↔◌, ◌+◌, ◌≤◌, true, false, Some, Err, IsSome};
-ghost use Rattle.std.specs.Prelude.{IsNone, IfSome, IfNone, is_some, IsSomeAnd, IsOk, IsErr, IfOk, IfErr, length, slice_get};
+ghost use Rattle.std.specs.Prelude.{◌≡◌, ◌≤◌, true, false, Some, Err, IsSome};
+ghost use Rattle.std.specs.Prelude.{IsNone, IfSome, IfNone, is_some, IsSomeAnd, IsOk, IfOk, IfErr, length, slice_get};
 ghost use Rattle.zone_model.specs.Keys.{most_item_octets};
-ghost use Rattle.trie_model.specs.Extents.{cells_in};
 ghost use Rattle.qp_multi.specs.Passes.{known_at};
 ghost use Rattle.std.specs.Option.{ForSome};
 ghost use Rattle.std.proofs.Props.{props};
-ghost use Rattle.qp_multi.specs.Bounds.{HasRoom, IsCramped, IsCrowded};
+ghost use Rattle.qp_multi.specs.Bounds.{HasRoom};
 
 use crate::change::TrieChange;
 use crate::commit::Receipt;
@@ -19,7 +18,7 @@ use crate::pass::Pass;
 use crate::refusal::{ChangeRefusal, InsertRefusal, OutOfSpace};
 use crate::writer::{WorkingVersion, WriterAtRest};
 use chunk_usage::Shortage;
-use pin_core::{LAST_VERSION, Spent};
+use pin_core::Spent;
 use shared_cells::{PassSeat, Shared};
 use shift_key::Key;
 use std::marker::PhantomData;
@@ -85,11 +84,11 @@ pub type Write<'t, 'i, L, N> = Transaction<'t, 'i, L, N, Light>;
 pub type Update<'t, 'i, L, N> = Transaction<'t, 'i, L, N, Heavy>;
 
 impl<'i, L: Law, N: Named> WriteGuard<'i, L, N> {
-    ghost use Rattle.qp_multi.specs.Changes.{operation_of, key_of, written_by, asked_by, LeadsItem, IsRefused};
+    ghost use Rattle.qp_multi.specs.Attempts.{DoesChange, FindsNoRoom};
+    ghost use Rattle.qp_multi.specs.Changes.{LeadsItem};
     ghost use Rattle.trie_read.specs.Readings.{Fetched};
-    ghost use Rattle.qp_multi.specs.WorkingVersions.{Works, Operates, IsFull, IsSame, Between, working_set};
-    ghost use Rattle.qp_multi.specs.Fulls.{CausedFrom, full_with};
-    ghost use Rattle.qp_multi.specs.Rooms.{SparesReserve};
+    ghost use Rattle.qp_multi.specs.WorkingVersions.{Works, IsSame, Between, working_set};
+    ghost use Rattle.qp_multi.specs.Fulls.{full_with};
     ghost use Rattle.qp_multi.specs.Keepings.{versions_in};
     ghost use Rattle.qp_multi.specs.declared.kept.Versions.{Versions as Kept};
     ghost use Rattle.chunk_usage.specs.Keeping.{kept_versions};
@@ -141,17 +140,8 @@ impl<'i, L: Law, N: Named> WriteGuard<'i, L, N> {
         requires works { IsSomeAnd self.old.working Works }
         requires leads { LeadsItem change.now }
         ensures place { self.new.place ≡ self.old.place }
-        ensures operates { Between (λ d e. Operates (operation_of change.now) (IsRefused change.now) d e (IsOk result) (result ≡ Err NotDone.Refused))
-            self.old.working self.new.working }
-        ensures spares { Between SparesReserve self.old.working self.new.working }
-        ensures full { (f : _) (kept : Kept) → result ≡ Err (NotDone.Full f) → IfSome self.new.working (λ d. versions_in kept ≡ kept_versions d.usage)
-            → IsSomeAnd self.new.working (λ d. IsFull d (full_with f kept)) }
-        ensures cause { (f : _) (kept : Kept) → result ≡ Err (NotDone.Full f) → IfSome self.new.working (λ d. versions_in kept ≡ kept_versions d.usage)
-            → Between (λ d e. CausedFrom d e (key_of change.now) (written_by change.now) (asked_by change.now) (full_with f kept))
-            self.old.working self.new.working }
-        ensures cramped { (f : _) → result ≡ Err (NotDone.Full f) → IsSomeAnd self.old.working IsCramped }
-        ensures crowded { (f : _) (kept : Kept) → result ≡ Err (NotDone.Full f) → IfSome self.new.working (λ d. versions_in kept ≡ kept_versions d.usage)
-            → IsSomeAnd self.new.working (λ d. IsCrowded d (key_of change.now) (written_by change.now) (length (versions_in kept))) }
+        ensures does { Between (DoesChange change.now (IsOk result) (result ≡ Err NotDone.Refused)) self.old.working self.new.working }
+        ensures full { (f : _) → result ≡ Err (NotDone.Full f) → Between (λ d e. HasRoom d × FindsNoRoom change.now d e f) self.old.working self.new.working }
     {
         let Some(working) = self.working.take() else {
             // A transaction's working version is there between two calls.
@@ -205,9 +195,10 @@ impl<'i, L: Law, N: Named> WriteGuard<'i, L, N> {
 
 impl<L: Law, N: Named> Index<L, N> {
     ghost use Rattle.qp_multi.specs.Bases.{CommitsAreWithin};
-    ghost use Rattle.qp_multi.specs.WorkingVersions.{Begins};
+    ghost use Rattle.qp_multi.specs.Calls.{BeginsAs, IsHome, Joins};
     ghost use Rattle.qp_multi.specs.Capacity.{RestsRoomy};
-    ghost use Rattle.qp_multi.specs.Kinds.{StartsAs};
+    ghost use Rattle.qp_multi.specs.WorkingVersions.{Begins};
+    ghost use Rattle.qp_multi.specs.Turns.{AtRest};
 
     // The lock, and the turn out of it.
     fn wait<'i, R: Wait>(&'i self, rt: &R) -> (HeldLock<'i, N>, WriterAtRest)
@@ -237,16 +228,11 @@ impl<L: Law, N: Named> Index<L, N> {
 
     // Waits for the turn, and joins the pass to it. The pass is then away.
     fn join<'i, R: Wait>(&'i self, rt: &R, pass: &mut Pass<N>) -> (HeldLock<'i, N>, WorkingVersion)
-        requires here { IsSome pass.old.seat }
-        requires place { pass.old.place ≡ self.now.place }
-        ensures table { result.1.seat.place.table_id ≡ self.now.shared.table.shared.table_id }
-        ensures passes { result.1.seat.passes ≡ self.now.shared.table.shared.key.passes }
-        ensures begins { Begins L.lawful (known_at pass.old.seat) result.1 }
+        requires { IsHome self.now.place pass.old }
+        ensures joins { Joins L.lawful self.now.shared.table.shared.table_id self.now.shared.table.shared.key (known_at pass.old.seat) result.1 }
         ensures few_operations { CommitsAreWithin L.most_operations result.1.seat.place.me.0 }
-        ensures goes_on { result.1.usage.bump ≡ result.1.usage.fender }
+        ensures at_rest { AtRest result.1.usage }
         ensures rests { RestsRoomy result.1.usage result.1.seat.place.me.0.seen }
-        ensures live { result.1.usage.live ≡ result.1.usage.last_live }
-        ensures chunks { length result.1.usage.given ≡ self.now.shared.table.shared.key.chunks }
     {
         let Some(seat) = pass.seat.take() else {
             // No query and no transaction of this pass has its seat.
@@ -263,15 +249,11 @@ impl<L: Law, N: Named> Index<L, N> {
         locked: &'t mut WriteGuard<'i, L, N>,
         pass: &'t mut Pass<N>,
     ) -> Transaction<'t, 'i, L, N, K>
-        requires here { IsSome pass.old.seat }
-        requires place { pass.old.place ≡ self.now.place }
+        requires { IsHome self.now.place pass.old }
         ensures same_reference { result.home.ghost_name ≡ pass.entry.ghost_name }
         ensures place { result.locked.now.place ≡ self.now.place }
-        ensures passes { IsSomeAnd result.locked.now.working (λ d. d.seat.passes ≡ self.now.shared.table.shared.key.passes) }
         ensures begins { IsSomeAnd result.locked.now.working (Begins L.lawful (known_at pass.old.seat)) }
-        ensures few_operations { IsSomeAnd result.locked.now.working (λ d. CommitsAreWithin L.most_operations d.seat.place.me.0) }
-        ensures chunks { IsSomeAnd result.locked.now.working (λ d. length d.usage.given ≡ self.now.shared.table.shared.key.chunks) }
-        ensures starts { IsSomeAnd result.locked.now.working (λ d. StartsAs K.OWN_CHUNK d.usage) }
+        ensures kind { IsSomeAnd result.locked.now.working (BeginsAs K.OWN_CHUNK self.now.shared.table.shared.key L.most_operations) }
     {
         let (lock, working) = self.join(rt, pass);
         *locked = WriteGuard {
@@ -294,15 +276,11 @@ impl<L: Law, N: Named> Index<L, N> {
         locked: &'t mut WriteGuard<'i, L, N>,
         pass: &'t mut Pass<N>,
     ) -> Write<'t, 'i, L, N>
-        requires here { IsSome pass.old.seat }
-        requires place { pass.old.place ≡ self.now.place }
+        requires { IsHome self.now.place pass.old }
         ensures same_reference { result.home.ghost_name ≡ pass.entry.ghost_name }
         ensures place { result.locked.now.place ≡ self.now.place }
-        ensures passes { IsSomeAnd result.locked.now.working (λ d. d.seat.passes ≡ self.now.shared.table.shared.key.passes) }
         ensures begins { IsSomeAnd result.locked.now.working (Begins L.lawful (known_at pass.old.seat)) }
-        ensures few_operations { IsSomeAnd result.locked.now.working (λ d. CommitsAreWithin L.most_operations d.seat.place.me.0) }
-        ensures chunks { IsSomeAnd result.locked.now.working (λ d. length d.usage.given ≡ self.now.shared.table.shared.key.chunks) }
-        ensures starts { IsSomeAnd result.locked.now.working (λ d. StartsAs false d.usage) }
+        ensures kind { IsSomeAnd result.locked.now.working (BeginsAs false self.now.shared.table.shared.key L.most_operations) }
     {
         self.begin::<Light, R>(rt, locked, pass)
     }
@@ -314,35 +292,28 @@ impl<L: Law, N: Named> Index<L, N> {
         locked: &'t mut WriteGuard<'i, L, N>,
         pass: &'t mut Pass<N>,
     ) -> Update<'t, 'i, L, N>
-        requires here { IsSome pass.old.seat }
-        requires place { pass.old.place ≡ self.now.place }
+        requires { IsHome self.now.place pass.old }
         ensures same_reference { result.home.ghost_name ≡ pass.entry.ghost_name }
         ensures place { result.locked.now.place ≡ self.now.place }
-        ensures passes { IsSomeAnd result.locked.now.working (λ d. d.seat.passes ≡ self.now.shared.table.shared.key.passes) }
         ensures begins { IsSomeAnd result.locked.now.working (Begins L.lawful (known_at pass.old.seat)) }
-        ensures few_operations { IsSomeAnd result.locked.now.working (λ d. CommitsAreWithin L.most_operations d.seat.place.me.0) }
-        ensures chunks { IsSomeAnd result.locked.now.working (λ d. length d.usage.given ≡ self.now.shared.table.shared.key.chunks) }
-        ensures starts { IsSomeAnd result.locked.now.working (λ d. StartsAs true d.usage) }
+        ensures kind { IsSomeAnd result.locked.now.working (BeginsAs true self.now.shared.table.shared.key L.most_operations) }
     {
         self.begin::<Heavy, R>(rt, locked, pass)
     }
 }
 
 impl<L: Law, N: Named> Index<L, N> {
+    ghost use Rattle.qp_multi.specs.Calls.{IsHome};
     ghost use Rattle.qp_multi.specs.Compactions.{Compacts, IsLast};
 
     /// Waits for the turn, and makes the next version of the entries that the current one has. What it has in sparse chunks is moved to
     /// others first. Where there is no next version, the current one stays.
     pub fn compact<R: Wait>(&self, rt: &R, pass: &mut Pass<N>) -> Result<Receipt, Spent>
-        requires here { IsSome pass.old.seat }
-        requires place { pass.old.place ≡ self.now.place }
-        ensures here { IsSome pass.new.seat }
-        ensures place { pass.new.place ≡ pass.old.place }
+        requires { IsHome self.now.place pass.old }
+        ensures home { IsHome pass.old.place pass.new }
         ensures compacts { IfOk result (Compacts L.lawful self.now.shared.table.shared.table_id self.now.shared.table.shared.key.passes
             (known_at pass.old.seat) (known_at pass.new.seat)) }
-        ensures next { IfOk result (λ r. r.version ≢ LAST_VERSION + 1) }
         ensures back { IfErr result (IsLast L.lawful (known_at pass.old.seat) (known_at pass.new.seat)) }
-        ensures last { IfErr result (λ s. s.version ≡ LAST_VERSION) }
     {
         let mut locked = WriteGuard::of(self);
         let transaction = self.begin::<Compaction, R>(rt, &mut locked, pass);
@@ -396,24 +367,19 @@ impl<L: Law, N: Named, K> Transaction<'_, '_, L, N, K> {
 }
 
 impl<L: Law, N: Named, K> Transaction<'_, '_, L, N, K> {
-    ghost use Rattle.trie_model.specs.Keys.{Entry, InList};
     ghost use Rattle.zone_model.specs.Keys.{Leads};
-    ghost use Rattle.qp_multi.specs.WorkingVersions.{Works, Operates, IsFull, IsSame, Between, working_set};
+    ghost use Rattle.qp_multi.specs.Calls.{Deletes, Inserts, IsOfSame, IsOutOfRoom, IsOutOfRoomToPut, OnWorkings, Replaces};
+    ghost use Rattle.qp_multi.specs.WorkingVersions.{Works, IsSame, working_set};
     ghost use Rattle.trie_read.specs.Readings.{Fetched};
-    ghost use Rattle.qp_multi.specs.Fulls.{CausedFrom};
-    ghost use Rattle.qp_multi.specs.Keepings.{versions_in};
-    ghost use Rattle.qp_multi.specs.Rooms.{SparesReserve};
     ghost use Rattle.trie_write.specs.Paths.{insert_asks, replace_asks, delete_asks};
-    ghost use Rattle.qp_multi.specs.declared.meaning.Operation.TheVariants as operation;
 
     /// Reads the item of a key of the working set into the beginning of `out`, and gives its length; `None` where the key is not
     /// there.
     pub fn fetch(&mut self, key: &Key, out: &mut [u8]) -> Option<usize>
         requires works { IsSomeAnd self.old.locked.now.working Works }
         requires room { most_item_octets ≤ length out.old }
-        ensures same_reference { (self.new.home.ghost_name ≡ self.old.home.ghost_name) × (self.new.locked.ghost_name ≡ self.old.locked.ghost_name) }
-        ensures place { self.new.locked.now.place ≡ self.old.locked.now.place }
-        ensures same { Between IsSame self.old.locked.now.working self.new.locked.now.working }
+        ensures of_same { IsOfSame self.old self.new }
+        ensures same { OnWorkings IsSame self.old self.new }
         ensures item { IfSome self.old.locked.now.working (λ d. Fetched key.now (working_set d) out.old out.new result) }
     {
         self.locked.fetch(key, out)
@@ -423,20 +389,10 @@ impl<L: Law, N: Named, K> Transaction<'_, '_, L, N, K> {
     pub fn insert(&mut self, key: &Key, item: &[u8]) -> Result<(), InsertRefusal>
         requires works { IsSomeAnd self.old.locked.now.working Works }
         requires leads { Leads key.now item.now }
-        ensures same_reference { (self.new.home.ghost_name ≡ self.old.home.ghost_name) × (self.new.locked.ghost_name ≡ self.old.locked.ghost_name) }
-        ensures place { self.new.locked.now.place ≡ self.old.locked.now.place }
-        ensures inserts { Between (λ d e. Operates (operation.Insert (record { key = key.now; item = item.now }))
-            (λ es. (x : Entry) × InList x es × (x.key ≡ key.now)) d e (IsOk result) (result ≡ Err InsertRefusal.Exists))
-            self.old.locked.now.working self.new.locked.now.working }
-        ensures spares { Between SparesReserve self.old.locked.now.working self.new.locked.now.working }
-        ensures full { (f : _) → result ≡ Err (InsertRefusal.Full f) → IsSomeAnd self.new.locked.now.working (λ d. IsFull d f) }
-        ensures cause { (f : _) → result ≡ Err (InsertRefusal.Full f)
-            → Between (λ d e. CausedFrom d e key.now (3 + cells_in item.now) (insert_asks item.now) f)
-            self.old.locked.now.working self.new.locked.now.working }
-        // Nor does it come where the table has room for what was published and done.
-        ensures cramped { (f : _) → result ≡ Err (InsertRefusal.Full f) → IsSomeAnd self.old.locked.now.working IsCramped }
-        ensures crowded { (f : _) → result ≡ Err (InsertRefusal.Full f)
-            → IsSomeAnd self.new.locked.now.working (λ d. IsCrowded d key.now (3 + cells_in item.now) (length (versions_in f.kept))) }
+        ensures of_same { IsOfSame self.old self.new }
+        ensures inserts { OnWorkings (Inserts key.now item.now (IsOk result) (result ≡ Err InsertRefusal.Exists)) self.old self.new }
+        // It comes neither where the table has room for what was published and done, nor where few small versions are kept.
+        ensures full { (f : _) → result ≡ Err (InsertRefusal.Full f) → OnWorkings (IsOutOfRoomToPut key.now item.now insert_asks f) self.old self.new }
     {
         match self.locked.change(&TrieChange::Insert(key, item)) {
             Ok(()) => Ok(()),
@@ -449,20 +405,10 @@ impl<L: Law, N: Named, K> Transaction<'_, '_, L, N, K> {
     pub fn replace(&mut self, key: &Key, item: &[u8]) -> Result<(), ChangeRefusal>
         requires works { IsSomeAnd self.old.locked.now.working Works }
         requires leads { Leads key.now item.now }
-        ensures same_reference { (self.new.home.ghost_name ≡ self.old.home.ghost_name) × (self.new.locked.ghost_name ≡ self.old.locked.ghost_name) }
-        ensures place { self.new.locked.now.place ≡ self.old.locked.now.place }
-        ensures replaces { Between (λ d e. Operates (operation.Replace (record { key = key.now; item = item.now }))
-            (λ es. (x : Entry) → InList x es → x.key ≡ key.now → ⊥) d e (IsOk result) (result ≡ Err ChangeRefusal.NotFound))
-            self.old.locked.now.working self.new.locked.now.working }
-        ensures spares { Between SparesReserve self.old.locked.now.working self.new.locked.now.working }
-        ensures full { (f : _) → result ≡ Err (ChangeRefusal.Full f) → IsSomeAnd self.new.locked.now.working (λ d. IsFull d f) }
-        ensures cause { (f : _) → result ≡ Err (ChangeRefusal.Full f)
-            → Between (λ d e. CausedFrom d e key.now (3 + cells_in item.now) (replace_asks item.now) f) self.old.locked.now.working
-            self.new.locked.now.working }
-        // Nor does it come where the table has room for what was published and done.
-        ensures cramped { (f : _) → result ≡ Err (ChangeRefusal.Full f) → IsSomeAnd self.old.locked.now.working IsCramped }
-        ensures crowded { (f : _) → result ≡ Err (ChangeRefusal.Full f)
-            → IsSomeAnd self.new.locked.now.working (λ d. IsCrowded d key.now (3 + cells_in item.now) (length (versions_in f.kept))) }
+        ensures of_same { IsOfSame self.old self.new }
+        ensures replaces { OnWorkings (Replaces key.now item.now (IsOk result) (result ≡ Err ChangeRefusal.NotFound)) self.old self.new }
+        // It comes neither where the table has room for what was published and done, nor where few small versions are kept.
+        ensures full { (f : _) → result ≡ Err (ChangeRefusal.Full f) → OnWorkings (IsOutOfRoomToPut key.now item.now replace_asks f) self.old self.new }
     {
         match self.locked.change(&TrieChange::Replace(key, item)) {
             Ok(()) => Ok(()),
@@ -474,18 +420,10 @@ impl<L: Law, N: Named, K> Transaction<'_, '_, L, N, K> {
     /// Takes a name out. After a refusal the working set is as before.
     pub fn delete(&mut self, key: &Key) -> Result<(), ChangeRefusal>
         requires { IsSomeAnd self.old.locked.now.working Works }
-        ensures same_reference { (self.new.home.ghost_name ≡ self.old.home.ghost_name) × (self.new.locked.ghost_name ≡ self.old.locked.ghost_name) }
-        ensures place { self.new.locked.now.place ≡ self.old.locked.now.place }
-        ensures deletes { Between (λ d e. Operates (operation.Delete key.now) (λ es. (x : Entry) → InList x es → x.key ≡ key.now → ⊥)
-            d e (IsOk result) (result ≡ Err ChangeRefusal.NotFound)) self.old.locked.now.working self.new.locked.now.working }
-        ensures spares { Between SparesReserve self.old.locked.now.working self.new.locked.now.working }
-        ensures full { (f : _) → result ≡ Err (ChangeRefusal.Full f) → IsSomeAnd self.new.locked.now.working (λ d. IsFull d f) }
-        ensures cause { (f : _) → result ≡ Err (ChangeRefusal.Full f)
-            → Between (λ d e. CausedFrom d e key.now 1 delete_asks f) self.old.locked.now.working self.new.locked.now.working }
-        // Nor does it come where the table has room for what was published and done.
-        ensures cramped { (f : _) → result ≡ Err (ChangeRefusal.Full f) → IsSomeAnd self.old.locked.now.working IsCramped }
-        ensures crowded { (f : _) → result ≡ Err (ChangeRefusal.Full f)
-            → IsSomeAnd self.new.locked.now.working (λ d. IsCrowded d key.now 1 (length (versions_in f.kept))) }
+        ensures of_same { IsOfSame self.old self.new }
+        ensures deletes { OnWorkings (Deletes key.now (IsOk result) (result ≡ Err ChangeRefusal.NotFound)) self.old self.new }
+        // It comes neither where the table has room for what was published and done, nor where few small versions are kept.
+        ensures full { (f : _) → result ≡ Err (ChangeRefusal.Full f) → OnWorkings (IsOutOfRoom key.now 1 delete_asks f) self.old self.new }
     {
         match self.locked.change(&TrieChange::Delete(key)) {
             Ok(()) => Ok(()),
@@ -496,8 +434,8 @@ impl<L: Law, N: Named, K> Transaction<'_, '_, L, N, K> {
 }
 
 impl<L: Law, N: Named, K: Kind> Transaction<'_, '_, L, N, K> {
-    ghost use Rattle.qp_multi.specs.WorkingVersions.{Works, Commits, IsBack, working_set};
-    ghost use Rattle.qp_multi.specs.Receipts.{Recycles};
+    ghost use Rattle.qp_multi.specs.Calls.{CommitsOrStays, IsHome};
+    ghost use Rattle.qp_multi.specs.WorkingVersions.{Works, working_set};
     ghost use Rattle.qp_multi.specs.Operations.{AreWithin};
     ghost use Rattle.qp_multi.specs.Passes.{first_version};
 
@@ -507,15 +445,8 @@ impl<L: Law, N: Named, K: Kind> Transaction<'_, '_, L, N, K> {
         requires works { IsSomeAnd self.locked.now.working Works }
         requires lawful { IsSomeAnd self.locked.now.working (λ d. L.lawful (first_version d.seat.place.me.0.seen) (working_set d)) }
         requires few_operations { ForSome self.locked.now.working (λ d. AreWithin L.most_operations d.log.operations) }
-        ensures here { IsSome self.exit.0.now.seat }
-        ensures place { self.exit.0.now.place ≡ self.entry.locked.now.place }
-        ensures commits { IfOk result (λ _. IfSome self.entry.locked.now.working
-            (λ d. Commits d.seat.place.me.0 d.log.operations (known_at self.exit.0.now.seat))) }
-        ensures version { IfOk result (λ r. IfSome self.entry.locked.now.working (λ d. r.version ≡ d.seat.version + 1)) }
-        ensures back { IfErr result (λ _. IfSome self.entry.locked.now.working (λ d. IsBack d.seat.place.me.0 self.exit.0.now.seat)) }
-        ensures spent { IfSome self.entry.locked.now.working (λ d. IsErr result ↔ (d.seat.version ≡ LAST_VERSION)) }
-        ensures last { IfErr result (λ s. IfSome self.entry.locked.now.working (λ d. s.version ≡ d.seat.version)) }
-        ensures receipt { IfOk result (λ r. IfSome self.entry.locked.now.working (λ d. Recycles K.MOST_SPARSE d (known_at self.exit.0.now.seat) r)) }
+        ensures home { IsHome self.entry.locked.now.place self.exit.0.now }
+        ensures ends { IfSome self.entry.locked.now.working (CommitsOrStays K.MOST_SPARSE self.exit.0.now.seat result) }
     {
         let Self {
             home,

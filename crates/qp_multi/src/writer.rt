@@ -1,11 +1,10 @@
 //! The turn with its usage: between two transactions, and during one.
-ghost use Rattle.std.specs.Prelude.{◌≡◌, ◌+◌, ◌*◌, List, [], length};
+ghost use Rattle.std.specs.Prelude.{◌≡◌, ◌+◌, ◌*◌, List, length};
 ghost use Rattle.std.proofs.Props.{props};
 ghost use Rattle.pin_core.specs.Words.{words_for};
 ghost use Rattle.shared_cells.specs.Views.{kept_in, pass_of};
-ghost use Rattle.qp_multi.specs.Passes.{version_seen};
 ghost use Rattle.qp_multi.specs.Turns.{Agrees, AtRest, cells_with, current_root};
-ghost use Rattle.qp_multi.specs.Bases.{StandsFor, Joined, CommitsAreWithin};
+ghost use Rattle.qp_multi.specs.Bases.{StandsFor};
 ghost use Rattle.qp_multi.specs.Capacity.{RestsRoomy};
 ghost use Rattle.trie_model.specs.Keys.{Entry};
 ghost use Rattle.chunk_usage.specs.Keeping.{closed, freed, restored};
@@ -50,6 +49,8 @@ pub struct WorkingVersion {
 }
 
 impl WriterAtRest {
+    ghost use Rattle.qp_multi.specs.Begins.{IsAtBase, JoinsWriter};
+
     /// A pass joins the turn. The working set is at first the base.
     pub(crate) fn begin<L: Law>(
         self,
@@ -57,14 +58,8 @@ impl WriterAtRest {
         pass: PassSeat<Version, Operations>,
     ) -> WorkingVersion
         requires { (self.seat.place.table_id ≡ shared.now.table.shared.table_id) × (pass.place.table_id ≡ shared.now.table.shared.table_id) }
-        ensures table { result.seat.place.table_id ≡ self.seat.place.table_id }
-        ensures passes { result.seat.passes ≡ self.seat.passes }
-        ensures joined { Joined L.lawful pass.place.me.0 result.seat.place.me.0 }
-        ensures few_operations { CommitsAreWithin L.most_operations result.seat.place.me.0 }
-        ensures usage { result.usage ≡ self.usage }
-        ensures log { result.log.operations ≡ [] }
-        ensures rests { RestsRoomy result.usage result.seat.place.me.0.seen }
-        ensures stands { StandsFor result.seat.place.me.0 result.usage result.root (version_seen result.seat.place.me.0.seen) }
+        ensures joins { JoinsWriter L.lawful L.most_operations pass.place.me.0 self result }
+        ensures base { IsAtBase self result }
     {
         let WriterAtRest { seat, usage, root } = self;
         usage.known(); // for the proof

@@ -15,11 +15,13 @@ use Rattle.qp_multi.specs.declared.refusal.OutOfSpace.{OutOfSpace}
 use Rattle.qp_multi.specs.declared.meaning.Operation.{Operation}
 use Rattle.qp_multi.specs.declared.meaning.Operation.TheVariants as operation
 use Rattle.qp_multi.specs.Operations.{operated, applied, with_entry, without}
+use Rattle.qp_multi.specs.Attempts.{Does}
+use Rattle.qp_multi.specs.Calls.{IsOutOfRoom}
 use Rattle.qp_multi.specs.WorkingVersions.{Operates, IsFull, IsSame, Between, base_of, working_set}
 use Rattle.qp_multi.specs.Bounds.{IsCramped, IsCrowded}
 use Rattle.qp_multi.specs.Capacity.{BoundsHistory}
 use Rattle.qp_multi.specs.Rooms.{SparesReserve}
-use Rattle.qp_multi.specs.Fulls.{CausedFrom, cells_kept}
+use Rattle.qp_multi.specs.Fulls.{cells_kept}
 use Rattle.qp_multi.specs.Passes.{Known, version_seen}
 use Rattle.trie_model.specs.Capacity.{is_roomy}
 use Rattle.chunk_usage.specs.Ledger.{Ledger, Row, reserve_of}
@@ -112,18 +114,6 @@ between_both R S T (Some d) None f r s = r
 between_both R S T None (Some e) f r s = r
 between_both R S T None None f r s = r
 
-between_and : (R : WorkingVersion → WorkingVersion → Type 0) (P : WorkingVersion → Type 0) (T : WorkingVersion → WorkingVersion → Type 0) (old new : Option WorkingVersion) → ((d e : WorkingVersion) → R d e → P e → T d e) → Between R old new → IsSomeAnd new P → Between T old new
-between_and R P T (Some d) (Some e) f r p = f d e r p
-between_and R P T (Some d) None f r p = r
-between_and R P T None (Some e) f r p = r
-between_and R P T None None f r p = r
-
-between_from : (R S : WorkingVersion → WorkingVersion → Type 0) (P : WorkingVersion → Type 0) (T : WorkingVersion → WorkingVersion → Type 0) (old new : Option WorkingVersion) → ((d e : WorkingVersion) → R d e → S d e → P d → T d e) → Between R old new → Between S old new → IsSomeAnd old P → Between T old new
-between_from R S P T (Some d) (Some e) f r s p = f d e r s p
-between_from R S P T (Some d) None f r s p = r
-between_from R S P T None (Some e) f r s p = r
-between_from R S P T None None f r s p = r
-
 -- ---- edits, one after another
 
 pub begins_through : {A : Type 0} (all more part : List A) → StartsWith all more → StartsWith more part → StartsWith all part
@@ -177,10 +167,6 @@ edits_some most A None None p f r = p
 
 -- ---- an entry stored
 
-some_both : (P Q : WorkingVersion → Type 0) (o : Option WorkingVersion) → IsSomeAnd o P → IsSomeAnd o Q → IsSomeAnd o (λ d. P d × Q d)
-some_both P Q (Some d) p q = (p, q)
-some_both P Q None p q = absurd p
-
 -- what the index was asked for is no more than what a version's operation asks for
 crowded_by : (e : WorkingVersion) (key : List ℕ) (written kept asked : ℕ) (version : Version) → WorksOn e version → written + cell_count version ≤ asked → IsCrowded e key written kept → IsCrowdedBy e asked kept
 crowded_by e key written kept asked version on within c most small some bounds =
@@ -219,20 +205,13 @@ cramped_still o denied d e A B op undone spares cramped most_cells most_operatio
 
 module _ (o : Operation) (denied : List trie.Entry → Type 0) (A B : Type 0) (name : Name) (before entry : Entry) (old new : Option WorkingVersion) where
   abbrev Operated : WorkingVersion → WorkingVersion → Type 0
-  Operated d e = Operates o denied d e A B
+  Operated d e = Does o denied d e A B
 
   abbrev Called : Type 0
   Called = Between Operated old new
 
-  -- and it found no room
-  abbrev Cramped : WorkingVersion → WorkingVersion → Type 0
-  Cramped d e = Operates o denied d e A B × IsCramped e
-
-  abbrev Filled : OutOfSpace → List ℕ → ℕ → WorkingVersion → WorkingVersion → Type 0
-  Filled f key written d e = Operates o denied d e A B × IsFull e f × IsCramped e × IsCrowded e key written (length (versions_in f.kept))
-
   pub stored : A → ((version : Version) (d e : WorkingVersion) → Operates o denied d e A B → WorksOn d version → before ≡ owned name version → WorksOn e (put name entry version)) → Called → Edits 1 (Stores name before entry (Ok tt)) old new
-  stored a puts call = between_as Operated (EditsOne 1 (Stores name before entry (Ok tt))) old new (λ d e _ _ op. record {
+  stored a puts call = between_as Operated (EditsOne 1 (Stores name before entry (Ok tt))) old new (λ d e _ _ does. let op = does.operates in record {
     known = op.known;
     passes = op.passes;
     log = (o ∷ [], op.done a);
@@ -242,35 +221,34 @@ module _ (o : Operation) (denied : List trie.Entry → Type 0) (A B : Type 0) (n
 
   -- there was no room
   pub no_room : (f : OutOfSpace) (key : List ℕ) (written : ℕ) (asks : List ℕ → List ℕ) → (A → ⊥) → ((version : Version) → IsVersion version → before ≡ owned name version → put name entry version ≡ version → ⊥)
-      → ((version : Version) → IsVersion version → written ≤ 3 + item_cells name (put name entry version)) → Called → IsSomeAnd new (λ d. IsFull d f)
-      → Between (λ d e. CausedFrom d e key written asks f) old new → Between SparesReserve old new → IsSomeAnd old IsCramped → IsSomeAnd new (λ d. IsCrowded d key written (length (versions_in f.kept))) → Edits 0 (Stores name before entry (Err f.shortage)) old new
-  no_room f key written asks undone changes within call full cause spares cramped crowded =
-      between_both (λ d e. CausedFrom d e key written asks f) (Filled f key written) (EditsOne 0 (Stores name before entry (Err f.shortage))) old new
-      (λ d e cause both. record {
-        known = both.0.known;
-        passes = both.0.passes;
-        log = begins_as e.log.operations d.log.operations (both.0.stays undone);
-        few = omega (arith, ap (λ (os : List Operation). length os) (both.0.stays undone));
+      → ((version : Version) → IsVersion version → written ≤ 3 + item_cells name (put name entry version)) → Called → Between (IsOutOfRoom key written asks f) old new → Edits 0 (Stores name before entry (Err f.shortage)) old new
+  no_room f key written asks undone changes within call room =
+      between_both Operated (IsOutOfRoom key written asks f) (EditsOne 0 (Stores name before entry (Err f.shortage))) old new
+      (λ d e does out. let op = does.operates in record {
+        known = op.known;
+        passes = op.passes;
+        log = begins_as e.log.operations d.log.operations (op.stays undone);
+        few = omega (arith, ap (λ (os : List Operation). length os) (op.stays undone));
         becomes = λ version on is. (
-          works_same o denied d e A B version both.0 undone on,
-          subst (IsFullOn e version (cells_asked name version (put name entry version))) both.1.kept (record {
-            named = both.1.named;
-            ends = both.1.ends;
-            few = few_kept e f both.1;
-            many = subst (λ (es : List trie.Entry). length e.usage.given - reserve_of e.usage - 8 ≤ cells es + cells_kept e.seat.place.me.0 (versions_in f.kept)) (same_set o denied d e A B both.0 undone ∙ on.set) cause.caused.cause.many_cells;
-            cramped = both.2;
-            crowded = crowded_by e key written (length (versions_in f.kept)) (cells_asked name version (put name entry version)) version (works_same o denied d e A B version both.0 undone on) (let l = within version on.valid in omega arith) both.3;
+          works_same o denied d e A B version op undone on,
+          subst (IsFullOn e version (cells_asked name version (put name entry version))) out.full.kept (record {
+            named = out.full.named;
+            ends = out.full.ends;
+            few = few_kept e f out.full;
+            many = subst (λ (es : List trie.Entry). length e.usage.given - reserve_of e.usage - 8 ≤ cells es + cells_kept e.seat.place.me.0 (versions_in f.kept)) (same_set o denied d e A B op undone ∙ on.set) out.cause.caused.cause.many_cells;
+            cramped = cramped_still o denied d e A B op undone does.spares out.cramped;
+            crowded = crowded_by e key written (length (versions_in f.kept)) (cells_asked name version (put name entry version)) version (works_same o denied d e A B version op undone on) (let l = within version on.valid in omega arith) out.crowded;
           }),
           changes version on.valid is,
-          both.1.lacks,
+          out.full.lacks,
         );
-      }) cause (between_and Cramped (λ d. IsFull d f × IsCrowded d key written (length (versions_in f.kept))) (Filled f key written) old new (λ d e kept p. (kept.0, p.0, kept.1, p.1)) (between_from Operated SparesReserve IsCramped Cramped old new (λ d e op s c. (op, cramped_still o denied d e A B op undone s c)) call spares cramped) (some_both (λ d. IsFull d f) (λ d. IsCrowded d key written (length (versions_in f.kept))) new full crowded))
+      }) call room
 
   -- the name was refused
   pub refused_set : IsSomeAnd old (Owns name before) → B → Called → (version : Version) × (IsVersion version) × (before ≡ owned name version) × denied (trie_entries version)
   refused_set owns b call =
-      let x = both (Owns name before) (λ d e. Operates o denied d e A B) old new owns call in
-      (x.met.version, x.met.on.valid, x.met.owned_is, subst denied x.met.on.set (x.related.refused.0 b))
+      let x = both (Owns name before) Operated old new owns call in
+      (x.met.version, x.met.on.valid, x.met.owned_is, subst denied x.met.on.set (x.related.operates.refused.0 b))
 
 -- ---- an item read
 

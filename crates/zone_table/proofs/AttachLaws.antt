@@ -14,7 +14,8 @@ use Rattle.qp_multi.specs.declared.commit.Receipt.{Receipt}
 use Rattle.qp_multi.specs.declared.writer.WorkingVersion.{WorkingVersion}
 use Rattle.qp_multi.specs.declared.meaning.Operation.{Operation}
 use Rattle.qp_multi.specs.declared.meaning.Operation.TheVariants.{Insert, Delete}
-use Rattle.qp_multi.specs.WorkingVersions.{Operates, Between}
+use Rattle.qp_multi.specs.Attempts.{Does}
+use Rattle.qp_multi.specs.WorkingVersions.{Between}
 use Rattle.qp_multi.specs.Passes.{Known, first_version}
 use Rattle.zone_table.specs.declared.change.TableRefusal.{TableRefusal}
 use Rattle.zone_table.specs.declared.change.TableRefusal.TheVariants.{Spent}
@@ -118,13 +119,13 @@ opening_unchanged met origins old new number told table u = subst (IsTable origi
 
 module _ {E : Type 0} (refusal : E) (first second : Option WorkingVersion) (r : Result (Unit {0}) E) where
   abbrev pub Inserts : List ℕ → List ℕ → Type 0
-  Inserts key item = Between (λ d e. Operates (Insert (record { key = key; item = item })) (λ es. (x : Entry) × InList x es × (x.key ≡ key)) d e (IsOk r) (r ≡ Err refusal)) first second
+  Inserts key item = Between (λ d e. Does (Insert (record { key = key; item = item })) (λ es. (x : Entry) × InList x es × (x.key ≡ key)) d e (IsOk r) (r ≡ Err refusal)) first second
 
   pub inserts_as : (key key' item item' : List ℕ) → key ≡ key' → item ≡ item' → Inserts key item → Inserts key' item'
   inserts_as key key' item item' k i b = subst (λ (x : List ℕ). Inserts x item') k (subst (Inserts key) i b)
 
   abbrev pub Deletes : List ℕ → Type 0
-  Deletes key = Between (λ d e. Operates (Delete key) (λ es. (x : Entry) → InList x es → x.key ≡ key → ⊥) d e (IsOk r) (r ≡ Err refusal)) first second
+  Deletes key = Between (λ d e. Does (Delete key) (λ es. (x : Entry) → InList x es → x.key ≡ key → ⊥) d e (IsOk r) (r ≡ Err refusal)) first second
 
   pub deletes_as : (key key' : List ℕ) → key ≡ key' → Deletes key → Deletes key'
   deletes_as key key' k b = subst Deletes k b

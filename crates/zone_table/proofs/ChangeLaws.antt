@@ -23,7 +23,10 @@ use Rattle.qp_multi.specs.declared.meaning.Operation.{Operation}
 use Rattle.qp_multi.specs.declared.meaning.Operation.TheVariants.{Insert, Delete}
 use Rattle.qp_multi.specs.Bases.{CommitsAreWithin}
 use Rattle.qp_multi.specs.Bounds.{BoundsWorking, IsCramped}
-use Rattle.qp_multi.specs.WorkingVersions.{Begins, Commits, IsBack, Operates, Between, base_of, working_set}
+use Rattle.qp_multi.specs.declared.refusal.OutOfSpace.{OutOfSpace}
+use Rattle.qp_multi.specs.Attempts.{Does}
+use Rattle.qp_multi.specs.Calls.{IsOutOfRoom}
+use Rattle.qp_multi.specs.WorkingVersions.{Begins, Commits, IsBack, Between, base_of, working_set}
 use Rattle.qp_multi.specs.Keepings.{GoesOn}
 use Rattle.qp_multi.specs.Operations.{operated, applied, below, above, AreWithin}
 use Rattle.qp_multi.specs.Passes.{Known, known_at, first_version, version_seen}
@@ -192,28 +195,28 @@ module _ {E X : Type 0} {N : Ghosts X} (refusal : E) (o : Operation) (denied : L
 
   -- the call did the operation or not
   abbrev pub Calls : Result (Unit {0}) E → Type 0
-  Calls r = Between (λ d e. Operates o denied d e (IsOk r) (r ≡ Err refusal)) first second
+  Calls r = Between (λ d e. Does o denied d e (IsOk r) (r ≡ Err refusal)) first second
 
   abbrev Two : Result (Unit {0}) E → Type 0
-  Two r = Both (Begins IsAmong old) (λ d e. Operates o denied d e (IsOk r) (r ≡ Err refusal)) first second
+  Two r = Both (Begins IsAmong old) (λ d e. Does o denied d e (IsOk r) (r ≡ Err refusal)) first second
 
   two : (r : Result (Unit {0}) E) → Calls r → Two r
-  two r calls = both (Begins IsAmong old) (λ d e. Operates o denied d e (IsOk r) (r ≡ Err refusal)) first second begins calls
+  two r calls = both (Begins IsAmong old) (λ d e. Does o denied d e (IsOk r) (r ≡ Err refusal)) first second begins calls
 
   pub may_commit : Calls (Ok tt) → Puts (first_version old.seen) o → IsSomeAnd second (λ d. IsAmong (first_version d.seat.place.me.0.seen) (working_set d))
   may_commit calls puts =
       let x = two (Ok tt) calls in
       some_and (λ d. IsAmong (first_version d.seat.place.me.0.seen) (working_set d)) second x.after x.new_is
-      (lawful_after origins old x.before told table x.met x.after x.related.known o (x.related.done refl) puts (standing_rises _ _ _ x.after.root (working_set x.after) x.related.works.stands))
+      (lawful_after origins old x.before told table x.met x.after x.related.operates.known o (x.related.operates.done refl) puts (standing_rises _ _ _ x.after.root (working_set x.after) x.related.operates.works.stands))
 
   is_refused : (seat : Option Seat) (number : ℕ) → Calls (Err refusal) → IfSome second (λ d. IsBack d.seat.place.me.0 seat) → IfSome first (λ d. number ≡ length d.seat.place.me.0.seen.history) → IsUnchanged denied old (known_at seat) number
   is_refused seat number calls back here =
       let x = two (Err refusal) calls in
-      unchanged origins old x.before told table x.met x.after x.related.known denied seat number (x.related.refused.0 refl)
+      unchanged origins old x.before told table x.met x.after x.related.operates.known denied seat number (x.related.operates.refused.0 refl)
       (there_is (λ d. IsBack d.seat.place.me.0 seat) second x.after x.new_is back) (there_is (λ d. number ≡ length d.seat.place.me.0.seen.history) first x.before x.old_is here)
 
   accepted : (x : Two (Ok tt)) → denied (working_set x.before) → ⊥
-  accepted x h = let bad : ◌≡◌ {A = Result (Unit {0}) E} (Ok tt) (Err refusal) = x.related.refused.1 h in absurd cc
+  accepted x h = let bad : ◌≡◌ {A = Result (Unit {0}) E} (Ok tt) (Err refusal) = x.related.operates.refused.1 h in absurd cc
 
   -- its commit made a version, or there was no number for one
   is_ended : (seat : Option Seat) (r : Result Receipt NoNumber) → Calls (Ok tt)
@@ -222,15 +225,15 @@ module _ {E X : Type 0} {N : Ghosts X} (refusal : E) (o : Operation) (denied : L
   is_ended seat (Ok t) calls commits next back spent last =
       let x = two (Ok tt) calls in
       let exact = there_is (λ d. IsErr {T = Receipt} {E = NoNumber} (Ok t) ↔ (d.seat.version ≡ last_number)) second x.after x.new_is spent in
-      changed origins old x.before told table x.met x.after x.related.known o (x.related.done refl) (λ es. denied es → ⊥) (known_at seat) t.version (accepted x)
+      changed origins old x.before told table x.met x.after x.related.operates.known o (x.related.operates.done refl) (λ es. denied es → ⊥) (known_at seat) t.version (accepted x)
       (λ h. let bad = exact.1 h in absurd cc)
       (there_is (λ d. Commits d.seat.place.me.0 d.log.operations (known_at seat)) second x.after x.new_is commits) (there_is (λ d. t.version ≡ d.seat.version + 1) second x.after x.new_is next)
   is_ended seat (Err s) calls commits next back spent last =
       let x = two (Ok tt) calls in
       let exact = there_is (λ d. IsErr {T = Receipt} {E = NoNumber} (Err s) ↔ (d.seat.version ≡ last_number)) second x.after x.new_is spent in
       let number : s.version ≡ x.after.seat.version = there_is (λ d. s.version ≡ d.seat.version) second x.after x.new_is last in
-      let base : s.version ≡ length x.before.seat.place.me.0.seen.history = number ∙ x.after.seat.version_is ∙ ap (λ (h : List (Commit (List Operation))). length h) x.related.known.history in (
-        unchanged origins old x.before told table x.met x.after x.related.known (λ es. denied es → ⊥) seat s.version (accepted x) (there_is (λ d. IsBack d.seat.place.me.0 seat) second x.after x.new_is back) base,
+      let base : s.version ≡ length x.before.seat.place.me.0.seen.history = number ∙ x.after.seat.version_is ∙ ap (λ (h : List (Commit (List Operation))). length h) x.related.operates.known.history in (
+        unchanged origins old x.before told table x.met x.after x.related.operates.known (λ es. denied es → ⊥) seat s.version (accepted x) (there_is (λ d. IsBack d.seat.place.me.0 seat) second x.after x.new_is back) base,
         number ∙ exact.0 refl,
       )
 
@@ -239,7 +242,7 @@ module _ {E X : Type 0} {N : Ghosts X} (refusal : E) (o : Operation) (denied : L
   receipt_told new (Ok t) q calls recycles is =
       let x = two (Ok tt) calls in
       subst (λ (z : Result Receipt TableRefusal). IfOk z (IsReceipt old new)) (sym is)
-      (record { first = x.before; begins = x.met; last = x.after; goes_on = x.related.known; recycles = there_is (λ d. Recycles 8 d new t) second x.after x.new_is recycles })
+      (record { first = x.before; begins = x.met; last = x.after; goes_on = x.related.operates.known; recycles = there_is (λ d. Recycles 8 d new t) second x.after x.new_is recycles })
   receipt_told new (Err s) q calls recycles is = subst (λ (z : Result Receipt TableRefusal). IfOk z (IsReceipt old new)) (sym is) tt
 
   -- the pass of the table is in its place again
@@ -289,6 +292,13 @@ module _ {E X : Type 0} {N : Ghosts X} (refusal : E) (o : Operation) (denied : L
           never_cramped origins old d told table b names few (there_and (λ x. CommitsAreWithin (Some 1) x.seat.place.me.0) first d is within) (there_and (λ x. x.seat.passes ≤ 17) first d is passes)
           (there_and (λ x. length x.usage.given ≡ 512) first d is chunks) (there_and IsCramped first d is cramped)
       go None is b = b
+
+-- what a call that finds no room tells of the working version that it was given
+pub out_of_room : (key : List ℕ) (written : ℕ) (asks : List ℕ → List ℕ) (f : OutOfSpace) (old new : Option WorkingVersion) → Between (IsOutOfRoom key written asks f) old new → IsSomeAnd old IsCramped
+out_of_room key written asks f (Some d) (Some e) r = r.cramped
+out_of_room key written asks f (Some d) None r = absurd r
+out_of_room key written asks f None (Some e) r = absurd r
+out_of_room key written asks f None None r = absurd r
 
 pub one_and : (P Q : WorkingVersion → Type 0) (o : Option WorkingVersion) → ((d : WorkingVersion) → P d → Q d) → IsSomeAnd o P → IsSomeAnd o Q
 one_and P Q (Some d) f p = f d p

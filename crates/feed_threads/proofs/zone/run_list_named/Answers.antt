@@ -18,7 +18,7 @@ run_feed-requires-clause-can g c = λ κs bounds. record {
   workers = c.requires.can.workers;
   passes = search rules;
   here = search rules;
-  opens = all_open c.in-Ok.passes.items (λ p. p.seat) (entries_of_items c.args.items.now) c.args.origin.now (λ p. p.place ≡ 0) c.requires.can.zone c.in-Ok.ensures.passes;
+  opens = all_open c.in-Ok.passes.items (λ p. p.seat) (entries_of_items c.args.items.now) c.args.origin.now (λ p. p.place ≡ 0) c.requires.can.zone c.in-Ok.ensures.opens.passes.told;
   count = c.requires.can.count;
   no_snapshots = c.requires.can.no_snapshots;
   said = c.requires.can.said;
@@ -29,8 +29,8 @@ returns-in_ok-finished-in-Ok-clause-ran g c = λ zone stands.
     let es = entries_of_items c.args.items.now in
     let size = c.args.blank.shared.table.shared.key in
     let s : OpenedWith = record { chunks = size.chunks; passes = size.passes; origin = c.args.origin.now; opening = es } in
-    let same = c.in-Ok.ensures.size in (
-      subst (λ es. cells es ≤ room_in size.chunks) (sym stands.entries) c.in-Ok.ensures.fits,
+    let same = c.in-Ok.ensures.opens.size in (
+      subst (λ es. cells es ≤ room_in size.chunks) (sym stands.entries) c.in-Ok.ensures.opens.fits,
       c.in_ok-finished-in-Ok.ensures.ran s zone (record { origin_is = refl; chunks = ap (λ k. k.chunks) (sym same); passes = ap (λ k. k.passes) (sym same) }) stands
-          (new_passes c.in-Ok.passes.items (λ p. p.seat) es (λ p. p.place ≡ 0) c.in-Ok.ensures.passes c.in-Ok.ensures.unused),
+          (new_passes c.in-Ok.passes.items (λ p. p.seat) es (λ p. p.place ≡ 0) c.in-Ok.ensures.opens.passes.told c.in-Ok.ensures.opens.passes.unused),
     )

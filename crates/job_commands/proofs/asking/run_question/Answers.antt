@@ -14,7 +14,7 @@ use Rattle.job_commands.proofs.asking.run_question.Goals as goal
 pub reply_text-requires : goal.reply_text-requires
 reply_text-requires g c =
     subst (λ q. ShowsSome (Holds (pinned_image q.seat.place.me.0.progress) q.seat.root)) (sym c.version-version.ensures.same)
-    (shown_some _ _ _ _ c.query-query.ensures.holds c.query-query.ensures.pinned.good)
+    (shown_some _ _ _ _ c.query-query.ensures.reads.holds c.query-query.ensures.pinned.good)
 
 pub returns-clause-asked : goal.returns-clause-asked
 returns-clause-asked g c =

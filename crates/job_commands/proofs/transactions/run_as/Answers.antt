@@ -2,6 +2,7 @@ use Rattle.std.proofs.Common.{rules, ◌∙◌, ◌+◌, ◌*◌, Ok, Err, refl,
 use Rattle.job_script.specs.Views.{asked_view}
 use Rattle.qp_multi.specs.Passes.{known_at}
 use Rattle.zone_edit.specs.Blocks.{Executes}
+use Rattle.qp_multi.proofs.CallLaws.{begun_of, parts_of}
 use Rattle.zone_edit.proofs.WayLaws.{there_in_order}
 use Rattle.job_commands.proofs.ShowLaws.{seat_told}
 use Rattle.job_commands.proofs.BlockLaws.{begun_works, after_works, after_lawful, edits_as, committed_ran, rollback_ran, stopped_ran, ran_as, result_as, committed_as, stopped_as, stopped_wants, wants_as, has_passes, full_chunks}
@@ -21,17 +22,19 @@ commit-requires-clause-lawful g c =
 
 pub returns-in-Commit-clause-ran : goal.returns-in-Commit-clause-ran
 returns-in-Commit-clause-ran g c = λ s opened_with.
+    let ended = parts_of g.K.Kind.MOST_SPARSE c.commit.new.self.0.seat c.edit.new.transaction.locked.now.working c.commit.result c.commit.ensures.ends in
     ran_as s _ _ _ (known_at c.commit.new.self.0.seat) _ _
     (committed_ran s (asked_view c.args.block.now) c.args.block.now.ending (known_at c.args.pass.now.seat) c.committed.result c.begin-transaction.result.locked.now.working c.edit.new.transaction.locked.now.working
     (seat_told c.args.pass.now.seat c.requires.here) opened_with.opening c.begin-transaction.ensures.begins c.commit.new.self.0.seat c.commit.result
     (edits_as c.args.origin.now s.origin (asked_view c.args.block.now) (asked_view c.args.block.now) (Ok tt) c.begin-transaction.result.locked.now.working c.edit.new.transaction.locked.now.working opened_with.index.origin_is refl c.in_default.ensures.executes)
-    c.in-Commit.is c.commit.ensures.commits c.commit.ensures.version c.commit.ensures.back c.commit.ensures.spent c.commit.ensures.last c.committed.ensures.made c.committed.ensures.spent)
+    c.in-Commit.is ended.commits ended.version ended.back ended.spent ended.last c.committed.ensures.made c.committed.ensures.spent)
     (search rules)
 
 pub returns-in-Commit-clause-kind : goal.returns-in-Commit-clause-kind
 returns-in-Commit-clause-kind g c =
     committed_as c.args.origin.now (asked_view c.args.block.now) g.K.Kind.OWN_CHUNK g.K.Kind.MOST_SPARSE (known_at c.args.pass.now.seat) (known_at c.commit.new.self.0.seat) _ c.committed.result c.begin-transaction.result.locked.now.working c.edit.new.transaction.locked.now.working (search rules)
-    c.begin-transaction.ensures.begins c.begin-transaction.ensures.starts c.in_default.ensures.executes c.commit.result c.commit.ensures.receipt c.committed.ensures.spent
+    c.begin-transaction.ensures.begins (begun_of _ _ _ c.begin-transaction.result.locked.now.working c.begin-transaction.ensures.kind).starts c.in_default.ensures.executes c.commit.result
+    (parts_of g.K.Kind.MOST_SPARSE c.commit.new.self.0.seat c.edit.new.transaction.locked.now.working c.commit.result c.commit.ensures.ends).receipt c.committed.ensures.spent
 
 pub returns-clause-kind : goal.returns-clause-kind
 returns-clause-kind g c = λ made. absurd cc
@@ -58,7 +61,7 @@ returns-in-Err-clause-ran g c = λ s opened_with.
     (edits_as c.args.origin.now s.origin (asked_view c.args.block.now) (asked_view c.args.block.now) (Err c.in-Err.refusal) c.begin-transaction.result.locked.now.working c.edit.new.transaction.locked.now.working opened_with.index.origin_is refl c.in-Err.ensures.executes)
     (full_chunks g.N.Named.tables c.args.index.now.place c.edit.new.transaction.locked.now.place s.chunks c.args.index.now.shared.table.shared.table_id c.edit.new.transaction.locked.now.shared.now.table.shared.table_id c.edit.new.transaction.locked.now.working
     c.args.index.now.here c.edit.new.transaction.locked.now.named (c.edit.ensures.place ∙ c.begin-transaction.ensures.place) (ap (λ n. 4161 + 2048 * n) opened_with.index.chunks ∙ c.args.index.now.shared.wide) c.edit.new.transaction.locked.now.here)
-    (has_passes s _ _ opened_with.index.passes c.begin-transaction.ensures.passes) c.stopped.ensures.stopped)
+    (has_passes s _ _ opened_with.index.passes (begun_of _ _ _ c.begin-transaction.result.locked.now.working c.begin-transaction.ensures.kind).passes) c.stopped.ensures.stopped)
     (search rules)
 
 pub returns-in-Err-clause-wants : goal.returns-in-Err-clause-wants

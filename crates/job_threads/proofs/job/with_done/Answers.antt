@@ -8,7 +8,7 @@ pub returns-clause-back : goal.returns-clause-back
 returns-clause-back g c = record {
   main = search rules;
   here = two_more c.note-seen.new.self c.args.done.spare c.args.others.passes.items _ _ (λ p. (IsSome p.seat) × (p.place ≡ c.args.index.now.place)) c.in_ok-insert.ensures.items c.in_ok-insert-2.ensures.items
-      (c.note-seen.ensures.here, c.note-seen.ensures.place.0 ∙ c.requires.done.places.0) (c.requires.done.here.1, c.requires.done.places.1) c.requires.others.here;
+      (c.note-seen.ensures.back.here, c.note-seen.ensures.back.place ∙ c.requires.done.places.0) (c.requires.done.here.1, c.requires.done.places.1) c.requires.others.here;
 }
 
 pub returns-clause-gathers : goal.returns-clause-gathers

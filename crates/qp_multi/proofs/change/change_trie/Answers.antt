@@ -1,8 +1,7 @@
-use Rattle.std.proofs.Common.{refl, subst}
+use Rattle.std.proofs.Common.{subst}
 use Rattle.trie_model.specs.Keys.{Entry}
-use Rattle.trie_write.specs.declared.refusal.NotDone.TheVariants.{Refused, Full}
 use Rattle.qp_multi.specs.Changes.{LeadsItem}
-use Rattle.qp_multi.proofs.AttemptLaws.{if_ok, if_err, of_err}
+use Rattle.qp_multi.proofs.AttemptLaws.{if_ok}
 use Rattle.qp_multi.proofs.ChangeLaws.{rooted_inserted, rooted_exchanged, rooted_deleted}
 use Rattle.qp_multi.proofs.change.change_trie.Goals as goal
 
@@ -43,73 +42,19 @@ pub returns-in-Delete-clause-refused : goal.returns-in-Delete-clause-refused
 returns-in-Delete-clause-refused g c es is = rw c.in-Delete.is (c.delete.ensures.absent es is.stands is.tells)
 
 pub returns-in-Insert-clause-stays : goal.returns-in-Insert-clause-stays
-returns-in-Insert-clause-stays g c = if_err _ _ c.insert.result (λ e kept es is. record { stands = kept.stands es is.stands; tells = is.tells }) c.insert.ensures.stays
+returns-in-Insert-clause-stays g c = rw c.in-Insert.is c.insert.ensures.stays
 
-pub returns-in-Insert-clause-unchanged : goal.returns-in-Insert-clause-unchanged
-returns-in-Insert-clause-unchanged g c = if_err _ _ c.insert.result (λ e kept. kept.unchanged) c.insert.ensures.stays
-
-pub returns-in-Insert-clause-denied : goal.returns-in-Insert-clause-denied
-returns-in-Insert-clause-denied g c = λ e. (of_err _ c.insert.result Refused c.insert.ensures.stays e).denied refl
-
-pub returns-in-Insert-clause-full : goal.returns-in-Insert-clause-full
-returns-in-Insert-clause-full g c = λ f e. (of_err _ c.insert.result (Full f) c.insert.ensures.stays e).full f refl
-
-pub returns-in-Insert-clause-asked : goal.returns-in-Insert-clause-asked
-returns-in-Insert-clause-asked g c = rw c.in-Insert.is (λ f e. (of_err _ c.insert.result (Full f) c.insert.ensures.stays e).asked f refl)
-
-pub returns-in-Insert-clause-consumes : goal.returns-in-Insert-clause-consumes
-returns-in-Insert-clause-consumes g c = rw c.in-Insert.is c.insert.ensures.changes.consumes
-
-pub returns-in-Insert-clause-frame : goal.returns-in-Insert-clause-frame
-returns-in-Insert-clause-frame g c = c.insert.ensures.changes.frame
-
-pub returns-in-Insert-clause-ready : goal.returns-in-Insert-clause-ready
-returns-in-Insert-clause-ready g c = c.insert.ensures.changes.ready
+pub returns-in-Insert-clause-changes : goal.returns-in-Insert-clause-changes
+returns-in-Insert-clause-changes g c = let changes = c.insert.ensures.changes in record { consumes = rw c.in-Insert.is changes.consumes; frame = changes.frame; ready = changes.ready }
 
 pub returns-in-Replace-clause-stays : goal.returns-in-Replace-clause-stays
-returns-in-Replace-clause-stays g c = if_err _ _ c.replace.result (λ e kept es is. record { stands = kept.stands es is.stands; tells = is.tells }) c.replace.ensures.stays
+returns-in-Replace-clause-stays g c = rw c.in-Replace.is c.replace.ensures.stays
 
-pub returns-in-Replace-clause-unchanged : goal.returns-in-Replace-clause-unchanged
-returns-in-Replace-clause-unchanged g c = if_err _ _ c.replace.result (λ e kept. kept.unchanged) c.replace.ensures.stays
-
-pub returns-in-Replace-clause-denied : goal.returns-in-Replace-clause-denied
-returns-in-Replace-clause-denied g c = λ e. (of_err _ c.replace.result Refused c.replace.ensures.stays e).denied refl
-
-pub returns-in-Replace-clause-full : goal.returns-in-Replace-clause-full
-returns-in-Replace-clause-full g c = λ f e. (of_err _ c.replace.result (Full f) c.replace.ensures.stays e).full f refl
-
-pub returns-in-Replace-clause-asked : goal.returns-in-Replace-clause-asked
-returns-in-Replace-clause-asked g c = rw c.in-Replace.is (λ f e. (of_err _ c.replace.result (Full f) c.replace.ensures.stays e).asked f refl)
-
-pub returns-in-Replace-clause-consumes : goal.returns-in-Replace-clause-consumes
-returns-in-Replace-clause-consumes g c = rw c.in-Replace.is c.replace.ensures.changes.consumes
-
-pub returns-in-Replace-clause-frame : goal.returns-in-Replace-clause-frame
-returns-in-Replace-clause-frame g c = c.replace.ensures.changes.frame
-
-pub returns-in-Replace-clause-ready : goal.returns-in-Replace-clause-ready
-returns-in-Replace-clause-ready g c = c.replace.ensures.changes.ready
+pub returns-in-Replace-clause-changes : goal.returns-in-Replace-clause-changes
+returns-in-Replace-clause-changes g c = let changes = c.replace.ensures.changes in record { consumes = rw c.in-Replace.is changes.consumes; frame = changes.frame; ready = changes.ready }
 
 pub returns-in-Delete-clause-stays : goal.returns-in-Delete-clause-stays
-returns-in-Delete-clause-stays g c = if_err _ _ c.delete.result (λ e kept es is. record { stands = kept.stands es is.stands; tells = is.tells }) c.delete.ensures.stays
+returns-in-Delete-clause-stays g c = rw c.in-Delete.is c.delete.ensures.stays
 
-pub returns-in-Delete-clause-unchanged : goal.returns-in-Delete-clause-unchanged
-returns-in-Delete-clause-unchanged g c = if_err _ _ c.delete.result (λ e kept. kept.unchanged) c.delete.ensures.stays
-
-pub returns-in-Delete-clause-denied : goal.returns-in-Delete-clause-denied
-returns-in-Delete-clause-denied g c = λ e. (of_err _ c.delete.result Refused c.delete.ensures.stays e).denied refl
-
-pub returns-in-Delete-clause-full : goal.returns-in-Delete-clause-full
-returns-in-Delete-clause-full g c = λ f e. (of_err _ c.delete.result (Full f) c.delete.ensures.stays e).full f refl
-
-pub returns-in-Delete-clause-asked : goal.returns-in-Delete-clause-asked
-returns-in-Delete-clause-asked g c = rw c.in-Delete.is (λ f e. (of_err _ c.delete.result (Full f) c.delete.ensures.stays e).asked f refl)
-
-pub returns-in-Delete-clause-consumes : goal.returns-in-Delete-clause-consumes
-returns-in-Delete-clause-consumes g c = rw c.in-Delete.is c.delete.ensures.changes.consumes
-
-pub returns-in-Delete-clause-frame : goal.returns-in-Delete-clause-frame
-returns-in-Delete-clause-frame g c = c.delete.ensures.changes.frame
-
-pub returns-in-Delete-clause-ready : goal.returns-in-Delete-clause-ready
-returns-in-Delete-clause-ready g c = c.delete.ensures.changes.ready
+pub returns-in-Delete-clause-changes : goal.returns-in-Delete-clause-changes
+returns-in-Delete-clause-changes g c = let changes = c.delete.ensures.changes in record { consumes = rw c.in-Delete.is changes.consumes; frame = changes.frame; ready = changes.ready }

@@ -41,27 +41,35 @@ returns g c =
     let usage : c.keep_only.new.self ≡ narrowed u list = c.keep_only.ensures ∙ ap (narrowed u) c.as_slice.ensures.versions in
     let kept : kept_versions c.keep_only.new.self ≡ list = ap kept_versions usage ∙ numbers_now g.L.Law.lawful v told.0 c.look.result told.1 told.2 w list rounded u seat.passes (seat.passes + 2) c.requires.agrees in
     record {
-      table = round.table ∙ look.table;
-      numbers = (round.numbers.0 ∙ look.same.1, round.numbers.1 ∙ look.same.3, round.numbers.2 ∙ look.same.2);
-      goes_on = goes_on g.L.Law.lawful v told.0 c.look.result told.1 told.2 w list rounded;
-      words = words_same g.L.Law.lawful v told.0 c.look.result told.1 told.2 w list rounded;
-      usage = usage ∙ ap (narrowed u) (sym kept);
-      agrees = subst (λ (l : Ledger). Agrees (cells_with l w.turn) l seat.passes) (sym usage)
-          (agrees_rounded g.L.Law.lawful v told.0 c.look.result told.1 told.2 w list rounded u seat.passes (seat.passes + 2) c.requires.agrees few);
-      root = root_same g.L.Law.lawful v told.0 c.look.result told.1 told.2 w list rounded;
-      images = images_left g.L.Law.lawful v told.0 c.look.result told.1 told.2 w list rounded seat.told;
-      kept = record {
-        marks = rounded.marks;
-        each = rounded.each ∙ ap (λ (t : Option TurnView). length (marks_of t)) (sym rounded.is_turn) ∙ ap (λ (ms : List Mark). length ms) seat.blank ∙ length-replicate {A = Mark} seat.passes mark.Blank;
-        settled = rounded.settled;
-        listed = ap (λ (x : Known). x.seen.namings) rounded.after;
-        rising = subst (AllPairs (λ (x y : ℕ). x < y)) (sym kept) c.as_slice.ensures.rising;
-        exact = subst (λ (n : ℕ). (k : ℕ) → Contains (kept_versions c.keep_only.new.self) k ↔ IsDue n rounded.marks k) (sym seat.version_is)
-            (subst (λ (ns : List ℕ). (k : ℕ) → Contains ns k ↔ IsDue (length v.seen.history) rounded.marks k) (sym kept) rounded.exact);
-        ends =
-            let e = ends_left g.L.Law.lawful v told.0 c.look.result told.1 told.2 w list rounded in
-            (e.0, kept ∙ rounded.kept ∙ e.1 ∙ ap (λ (n : ℕ). e.0 ++ n ∷ []) (sym seat.version_is));
-        few = subst (λ (ns : List ℕ). length ns ≤ seat.passes + 1) (sym kept) few;
+      seat = record {
+        table = round.table ∙ look.table;
+        version = round.numbers.0 ∙ look.same.1;
+        passes = round.numbers.1 ∙ look.same.3;
+        number = round.numbers.2 ∙ look.same.2;
+        goes_on = goes_on g.L.Law.lawful v told.0 c.look.result told.1 told.2 w list rounded;
+        words = words_same g.L.Law.lawful v told.0 c.look.result told.1 told.2 w list rounded;
       };
-      named = λ n h. subst (λ (m : ℕ). (n ≡ m) ⊎ IsNamed w n) look.same.1 (round.kept.named n (subst (λ (ns : List ℕ). Contains ns n) kept h));
+      narrows = record {
+        usage = usage ∙ ap (narrowed u) (sym kept);
+        agrees = subst (λ (l : Ledger). Agrees (cells_with l w.turn) l seat.passes) (sym usage)
+            (agrees_rounded g.L.Law.lawful v told.0 c.look.result told.1 told.2 w list rounded u seat.passes (seat.passes + 2) c.requires.agrees few);
+      };
+      keeps = record {
+        root = root_same g.L.Law.lawful v told.0 c.look.result told.1 told.2 w list rounded;
+        images = images_left g.L.Law.lawful v told.0 c.look.result told.1 told.2 w list rounded seat.told;
+        kept = record {
+          marks = rounded.marks;
+          each = rounded.each ∙ ap (λ (t : Option TurnView). length (marks_of t)) (sym rounded.is_turn) ∙ ap (λ (ms : List Mark). length ms) seat.blank ∙ length-replicate {A = Mark} seat.passes mark.Blank;
+          settled = rounded.settled;
+          listed = ap (λ (x : Known). x.seen.namings) rounded.after;
+          rising = subst (AllPairs (λ (x y : ℕ). x < y)) (sym kept) c.as_slice.ensures.rising;
+          exact = subst (λ (n : ℕ). (k : ℕ) → Contains (kept_versions c.keep_only.new.self) k ↔ IsDue n rounded.marks k) (sym seat.version_is)
+              (subst (λ (ns : List ℕ). (k : ℕ) → Contains ns k ↔ IsDue (length v.seen.history) rounded.marks k) (sym kept) rounded.exact);
+          ends =
+              let e = ends_left g.L.Law.lawful v told.0 c.look.result told.1 told.2 w list rounded in
+              (e.0, kept ∙ rounded.kept ∙ e.1 ∙ ap (λ (n : ℕ). e.0 ++ n ∷ []) (sym seat.version_is));
+          few = subst (λ (ns : List ℕ). length ns ≤ seat.passes + 1) (sym kept) few;
+        };
+        named = λ n h. subst (λ (m : ℕ). (n ≡ m) ⊎ IsNamed w n) look.same.1 (round.kept.named n (subst (λ (ns : List ℕ). Contains ns n) kept h));
+      };
     }

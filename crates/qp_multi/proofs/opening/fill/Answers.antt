@@ -10,7 +10,7 @@ use Rattle.qp_multi.proofs.OpenLaws.{items_tell}
 use Rattle.qp_multi.proofs.opening.fill.Goals as goal
 
 pub build-built-requires : goal.build-built-requires
-build-built-requires g c = record { rising = c.requires.rising; uncounted = search rules; ready = search rules }
+build-built-requires g c = record { rising = c.requires.can.rising; uncounted = search rules; ready = search rules }
 
 pub returns-clause-stands : goal.returns-clause-stands
 returns-clause-stands g c =

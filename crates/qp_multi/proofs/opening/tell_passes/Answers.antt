@@ -24,7 +24,7 @@ loop-seat-preserved g c =
     let popped : seat ≡ slice_index_or c.loop-seat.seats.items (vec_len c.loop-seat.seats - 1) seat = cc in
     let unseen : length seat.place.me.0.seen.history ≡ 0 = ap (λ s. length s.place.me.0.seen.history) popped ∙ inv.unseen (vec_len c.loop-seat.seats - 1) seat (omega arith) in
     let done = inv.unused (vec_len c.loop-seat.seats - 1) seat (omega arith) in
-    let told_none : length v.seen.history ≡ 0 = ap (λ (x : Known). length x.seen.history) inv.known ∙ c.requires.no_history in
+    let told_none : length v.seen.history ≡ 0 = ap (λ (x : Known). length x.seen.history) inv.known ∙ c.requires.turn.1 in
     let told : c.note-note.result.place.me.0.seen ≡ v.seen = ap (λ (x : Known). x.seen) note.note in
     let none : length w.seen.history ≡ 0 =
     ap (λ (x : Known). length x.seen.history) c.learn-seat.ensures.learnt.0
@@ -37,7 +37,7 @@ loop-seat-preserved g c =
     let numbered : number_of w.pass ≡ length c.pop.new.self.items + 1 =
     ap (λ (x : Known). number_of x.pass) c.learn-seat.ensures.learnt.0
     ∙ ap (λ s. number_of s.place.me.0.pass) popped
-    ∙ last_number (λ s. number_of s.place.me.0.pass) c.loop-seat.seats.items c.args.seats.items (vec_len c.loop-seat.seats) c.args.shared.now.table.shared.key.passes seat long some (let m = inv.many in omega (arith, long)) inv.rest c.requires.numbered
+    ∙ last_number (λ s. number_of s.place.me.0.pass) c.loop-seat.seats.items c.args.seats.items (vec_len c.loop-seat.seats) c.args.shared.now.table.shared.key.passes seat long some (let m = inv.many in omega (arith, long)) inv.rest c.requires.seats.numbered
     ∙ sym left.0 in
     record {
       table = note.table.0 ∙ inv.table;

@@ -33,4 +33,4 @@ returns-in-Err-Full-clause-stores g c =
     c.in-Err-Full.full c.args.key.now _ _ (λ ok. absurd (let h = subst (λ r. IsOk r) full_is ok in cc))
     (λ version v is. put_changes c.args.name.now c.args.entry.now version c.requires.item.some (λ e. c.requires.other (e ∙ sym is)))
     (λ version v. written_few c.args.name.now c.args.item.now c.args.entry.now version c.requires.item)
-    c.replace.ensures.replaces (c.replace.ensures.full c.in-Err-Full.full full_is) (c.replace.ensures.cause c.in-Err-Full.full full_is) c.replace.ensures.spares (c.replace.ensures.cramped c.in-Err-Full.full full_is) (c.replace.ensures.crowded c.in-Err-Full.full full_is)
+    c.replace.ensures.replaces (c.replace.ensures.full c.in-Err-Full.full full_is)

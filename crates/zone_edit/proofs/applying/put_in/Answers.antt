@@ -31,4 +31,4 @@ returns-in-Err-Full-clause-stores g c =
     c.in-Err-Full.full c.args.key.now _ _ (λ ok. absurd (let h = subst (λ r. IsOk r) full_is ok in cc))
     (λ version v none. put_changes c.args.name.now c.args.entry.now version c.requires.item.some (λ e. nothing_some c.args.entry.now c.requires.item.some (e ∙ sym none)))
     (λ version v. written_few c.args.name.now c.args.item.now c.args.entry.now version c.requires.item)
-    c.insert.ensures.inserts (c.insert.ensures.full c.in-Err-Full.full full_is) (c.insert.ensures.cause c.in-Err-Full.full full_is) c.insert.ensures.spares (c.insert.ensures.cramped c.in-Err-Full.full full_is) (c.insert.ensures.crowded c.in-Err-Full.full full_is)
+    c.insert.ensures.inserts (c.insert.ensures.full c.in-Err-Full.full full_is)

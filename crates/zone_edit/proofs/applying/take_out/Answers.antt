@@ -33,4 +33,4 @@ returns-in-Err-Full-clause-stores g c =
     c.in-Err-Full.full c.args.key.now 1 _ (λ ok. absurd (let h = subst (λ r. IsOk r) full_is ok in cc))
     (λ version v is. gone_changes c.args.name.now version v (subst (λ (x : Entry). 0 < length x) is c.requires.some))
     (λ version v. omega arith)
-    c.delete.ensures.deletes (c.delete.ensures.full c.in-Err-Full.full full_is) (c.delete.ensures.cause c.in-Err-Full.full full_is) c.delete.ensures.spares (c.delete.ensures.cramped c.in-Err-Full.full full_is) (c.delete.ensures.crowded c.in-Err-Full.full full_is)
+    c.delete.ensures.deletes (c.delete.ensures.full c.in-Err-Full.full full_is)

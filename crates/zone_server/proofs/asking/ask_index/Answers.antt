@@ -14,7 +14,7 @@ use Rattle.zone_server.proofs.asking.ask_index.Goals as goal
 pub answer_into-requires-clause-shown : goal.answer_into-requires-clause-shown
 answer_into-requires-clause-shown g c =
     subst (λ q. ShowsSome (Holds (pinned_image q.seat.place.me.0.progress) q.seat.root)) (sym c.version-version.ensures.same)
-    (shown_some _ _ _ _ c.query-query.ensures.holds c.query-query.ensures.pinned.good)
+    (shown_some _ _ _ _ c.query-query.ensures.reads.holds c.query-query.ensures.pinned.good)
 
 pub returns-in_err-told-clause-grows : goal.returns-in_err-told-clause-grows
 returns-in_err-told-clause-grows g c =

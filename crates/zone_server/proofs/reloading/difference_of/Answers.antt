@@ -17,7 +17,7 @@ use Rattle.zone_server.proofs.reloading.difference_of.Goals as goal
 pub operations_to-told-requires : goal.operations_to-told-requires
 operations_to-told-requires g c =
     subst (λ q. ShowsSome (Holds (pinned_image q.seat.place.me.0.progress) q.seat.root)) (sym c.version-version.ensures.same)
-    (shown_some _ _ _ _ c.query-query.ensures.holds c.query-query.ensures.pinned.good)
+    (shown_some _ _ _ _ c.query-query.ensures.reads.holds c.query-query.ensures.pinned.good)
 
 pub returns-clause-shown : goal.returns-clause-shown
 returns-clause-shown g c =

@@ -14,7 +14,7 @@ use Rattle.zone_server.proofs.transferring.dump_index.Goals as goal
 pub dump_to-dumped-requires : goal.dump_to-dumped-requires
 dump_to-dumped-requires g c =
     subst (λ q. ShowsSome (Holds (pinned_image q.seat.place.me.0.progress) q.seat.root)) (sym c.version-version.ensures.same)
-    (shown_some _ _ _ _ c.query-held.ensures.holds c.query-held.ensures.pinned.good)
+    (shown_some _ _ _ _ c.query-held.ensures.reads.holds c.query-held.ensures.pinned.good)
 
 pub returns-clause-dumped : goal.returns-clause-dumped
 returns-clause-dumped g c =

@@ -11,13 +11,13 @@ returns-in-Ok g c = (
   entries_of_items c.deref.result.now,
   subst (λ items. IsTable c.args.origins.now (entries_of_items items)) (sym c.deref.ensures.value) c.in_ok-items.ensures.table,
   record {
-    place = c.in-Ok.ensures.place;
-    size_is = c.in-Ok.ensures.size;
-    passes = c.in-Ok.ensures.passes;
-    unused = c.in-Ok.ensures.unused;
-    count = c.in-Ok.ensures.count;
-    all = c.in-Ok.ensures.all;
-    fits = c.in-Ok.ensures.fits;
+    place = c.in-Ok.ensures.opens.place;
+    size_is = c.in-Ok.ensures.opens.size;
+    passes = c.in-Ok.ensures.opens.passes.told;
+    unused = c.in-Ok.ensures.opens.passes.unused;
+    count = c.in-Ok.ensures.opens.passes.count;
+    all = c.in-Ok.ensures.opens.passes.all;
+    fits = c.in-Ok.ensures.opens.fits;
   },
 )
 

@@ -1,4 +1,4 @@
-use Rattle.std.proofs.Common.{◌≡◌, ◌∙◌, ◌<◌, ◌∷◌, [], length, Some, arith, sym, ap, length-append}
+use Rattle.std.proofs.Common.{rules, ◌≡◌, ◌∙◌, ◌<◌, ◌∷◌, [], length, Some, arith, sym, ap, length-append}
 use Rattle.std.specs.List.{slice_get}
 use Rattle.std.proofs.lemmas.List.{length-map}
 use Rattle.std.proofs.lemmas.Option.{slice_get_within}
@@ -14,22 +14,33 @@ loop-note-init g c =
     let m = length-map c.args.passes.now.items (λ z. known_at z.seat) in
     record { kept = kept_first c.args.passes.now.items c.requires.here; learning = learn_first c.args.passes.now.items c.args.notes.items (omega arith) }
 
-pub learn-requires-clause-places : goal.learn-requires-clause-places
-learn-requires-clause-places g c =
+pub learn-requires-clause-pass : goal.learn-requires-clause-pass
+learn-requires-clause-pass g c =
     let place = c.len-place.ensures in
     let at : c.len-place.result ≡ length c.pop.new.self.items = omega arith in
-    let size = ap length c.in-Some.ensures.items ∙ length-append c.pop.new.self.items (c.in-Some.note ∷ []) in
     let places = c.loop-note.invariant.kept.places ∙ c.requires.places in
     let note : slice_get c.args.notes.items c.len-place.result ≡ Some c.in-Some.note = ap (slice_get c.args.notes.items) at
     ∙ last_note c.args.passes.now.items c.loop-note.passes.items c.args.notes.items c.loop-note.notes.items c.pop.new.self.items c.in-Some.note c.loop-note.invariant.learning c.in-Some.ensures.items in
     let inside = slice_get_within c.args.notes.items c.len-place.result c.in-Some.note note in
     let n = alike_length (λ z. z.place) (λ z. z.place) c.args.notes.items c.args.zones.now.items c.requires.notes in
     let m = alike_length (λ z. z.place) (λ z. z.place) c.loop-note.passes.items c.args.zones.now.items places in
-    let zone = read_at c.args.zones.now.items c.len-place.result c.index.result.now (omega arith) c.index.ensures in (
-      alike_at (λ z. z.place) (λ z. z.place) c.loop-note.passes.items c.args.zones.now.items c.len-place.result c.index_mut.result.now c.index.result.now places
-          (read_at c.loop-note.passes.items c.len-place.result c.index_mut.result.now (omega arith) c.index_mut.ensures.value) zone,
-      alike_at (λ z. z.place) (λ z. z.place) c.args.notes.items c.args.zones.now.items c.len-place.result c.in-Some.note c.index.result.now c.requires.notes note zone,
-    )
+    record {
+      here = search rules;
+      place = alike_at (λ z. z.place) (λ z. z.place) c.loop-note.passes.items c.args.zones.now.items c.len-place.result c.index_mut.result.now c.index.result.now places
+          (read_at c.loop-note.passes.items c.len-place.result c.index_mut.result.now (omega arith) c.index_mut.ensures.value)
+          (read_at c.args.zones.now.items c.len-place.result c.index.result.now (omega arith) c.index.ensures);
+    }
+
+pub learn-requires-clause-note : goal.learn-requires-clause-note
+learn-requires-clause-note g c =
+    let place = c.len-place.ensures in
+    let at : c.len-place.result ≡ length c.pop.new.self.items = omega arith in
+    let note : slice_get c.args.notes.items c.len-place.result ≡ Some c.in-Some.note = ap (slice_get c.args.notes.items) at
+    ∙ last_note c.args.passes.now.items c.loop-note.passes.items c.args.notes.items c.loop-note.notes.items c.pop.new.self.items c.in-Some.note c.loop-note.invariant.learning c.in-Some.ensures.items in
+    let inside = slice_get_within c.args.notes.items c.len-place.result c.in-Some.note note in
+    let n = alike_length (λ z. z.place) (λ z. z.place) c.args.notes.items c.args.zones.now.items c.requires.notes in
+    alike_at (λ z. z.place) (λ z. z.place) c.args.notes.items c.args.zones.now.items c.len-place.result c.in-Some.note c.index.result.now c.requires.notes note
+    (read_at c.args.zones.now.items c.len-place.result c.index.result.now (omega arith) c.index.ensures)
 
 pub loop-note-preserved : goal.loop-note-preserved
 loop-note-preserved g c =
@@ -43,7 +54,7 @@ loop-note-preserved g c =
     let m = alike_length (λ z. z.place) (λ z. z.place) c.loop-note.passes.items c.args.zones.now.items places in
     let inside : c.len-place.result < length c.loop-note.passes.items = omega arith in
     record {
-      kept = kept_set c.args.passes.now.items c.loop-note.passes.items c.len-place.result c.index_mut.result.now c.learn.new.self c.loop-note.invariant.kept c.index_mut.ensures.value c.learn.ensures.here c.learn.ensures.place;
+      kept = kept_set c.args.passes.now.items c.loop-note.passes.items c.len-place.result c.index_mut.result.now c.learn.new.self c.loop-note.invariant.kept c.index_mut.ensures.value c.learn.ensures.back.here c.learn.ensures.back.place;
       learning = learn_next c.args.passes.now.items c.loop-note.passes.items c.args.notes.items c.loop-note.notes.items c.pop.new.self.items c.in-Some.note c.loop-note.invariant.learning c.in-Some.ensures.items
           c.len-place.result c.index_mut.result.now c.learn.new.self at (read_at c.loop-note.passes.items c.len-place.result c.index_mut.result.now inside c.index_mut.ensures.value) inside c.learn.ensures.learnt;
     }

@@ -61,14 +61,14 @@ returns-in-Ok-others g t c =
     let o : Opened g.row.L.Denot g.row.N.Denot g.N.Named = record { index = c.in-Ok.index; passes = c.in-Ok.passes } in
     opens_last l c.in-Ok-others.others.items o c.with_last.result c.with_last.ensures c.in-Ok-others.ensures
     (subst (λ xs. IsBegun (c.len-last.result + 1) c.in-Some.blank.shared.table.shared.key (entries_of_items xs) o) items
-    (record { place = c.in-Ok.ensures.place; size_is = c.in-Ok.ensures.size; passes = c.in-Ok.ensures.passes; unused = c.in-Ok.ensures.unused; count = c.in-Ok.ensures.count; all = c.in-Ok.ensures.all; fits = c.in-Ok.ensures.fits }))
+    (record { place = c.in-Ok.ensures.opens.place; size_is = c.in-Ok.ensures.opens.size; passes = c.in-Ok.ensures.opens.passes.told; unused = c.in-Ok.ensures.opens.passes.unused; count = c.in-Ok.ensures.opens.passes.count; all = c.in-Ok.ensures.opens.passes.all; fits = c.in-Ok.ensures.opens.fits }))
 
 pub returns-in-Err-others : goal.returns-in-Err-others
 returns-in-Err-others g t c =
     let l = is_last (λ b. b.shared.table.shared.key) c.args.zones.now c.args.blanks.items c.pop.new.self.items c.in-Some.blank c.len-last.result c.index-zones-last.result
     c.in-Some.ensures.items c.requires.enough (let e = c.len-last.ensures in omega arith) c.index-zones-last.is in
     let items = c.deref.ensures.value ∙ ap (λ (x : ZoneItems). x.items.items) (sym c.index-zones-last.is) in
-    refuses_still l c.in-Err-others.refusal c.in-Err-others.ensures (inl (subst (λ xs. cells (entries_of_items xs) ≤ room_in c.in-Some.blank.shared.table.shared.key.chunks) items c.in-Ok.ensures.fits))
+    refuses_still l c.in-Err-others.refusal c.in-Err-others.ensures (inl (subst (λ xs. cells (entries_of_items xs) ≤ room_in c.in-Some.blank.shared.table.shared.key.chunks) items c.in-Ok.ensures.opens.fits))
 
 pub returns-in-Err : goal.returns-in-Err
 returns-in-Err g t c =

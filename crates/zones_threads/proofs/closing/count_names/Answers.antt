@@ -15,5 +15,5 @@ returns-clause-counted g c =
       number = q.seat.version;
       took = c.query-query.ensures.pinned;
       left = c.drop.ensures.left ∙ ap (λ x. with_progress x.seat.place.me.0 progress.Idle) c.count-names.ensures.same;
-      names_are = c.count-names.ensures.count (version_seen q.seat.place.me.0.seen) c.query-query.ensures.holds;
+      names_are = c.count-names.ensures.count (version_seen q.seat.place.me.0.seen) c.query-query.ensures.reads.holds;
     })

@@ -1,4 +1,4 @@
-use Rattle.std.proofs.Common.{◌≡◌, ◌∙◌, IfOk, IfErr, refl, subst, rules}
+use Rattle.std.proofs.Common.{◌∙◌, IfOk, IfErr, subst, rules}
 use Rattle.qp_multi.specs.Compactions.{Compacts, IsLast}
 use Rattle.qp_multi.specs.Passes.{Known, known_at}
 use Rattle.qp_multi.proofs.CompactLaws.{compacts_of, last_of, same_table}
@@ -10,11 +10,11 @@ returns-clause-compacts g c =
     let lawful = g.L.Law.lawful in
     let before = known_at c.args.pass.now.seat in
     let table = c.args.self.now.shared.table.shared.table_id in
-    let passes = c.args.self.now.shared.table.shared.key.passes in
-    subst (λ (after : Known). IfOk c.commit.result (Compacts lawful table passes before after)) (search rules)
-    (compacts_of lawful before table passes (known_at c.commit.new.self.0.seat) locked.working c.commit.result c.begin-transaction.ensures.begins
+    let key = c.args.self.now.shared.table.shared.key in
+    subst (λ (after : Known). IfOk c.commit.result (Compacts lawful table key.passes before after)) (search rules)
+    (compacts_of lawful before table false key g.L.Law.most_operations locked.working c.commit.result c.commit.new.self.0.seat c.begin-transaction.ensures.begins
     (λ d e. locked.here d e ∙ same_table g.N.Named.tables locked.place c.args.self.now.place _ _ locked.named c.begin-transaction.ensures.place c.args.self.now.here)
-    c.begin-transaction.ensures.passes c.commit.ensures.commits c.commit.ensures.version c.commit.ensures.receipt)
+    c.begin-transaction.ensures.kind c.commit.ensures.ends)
 
 pub returns-clause-back : goal.returns-clause-back
 returns-clause-back g c =
@@ -22,5 +22,4 @@ returns-clause-back g c =
     let lawful = g.L.Law.lawful in
     let before = known_at c.args.pass.now.seat in
     subst (λ (after : Known). IfErr c.commit.result (IsLast lawful before after)) (search rules)
-    (last_of lawful before (known_at c.commit.new.self.0.seat) locked.working c.commit.result c.commit.new.self.0.seat refl
-    c.begin-transaction.ensures.begins c.commit.ensures.back c.commit.ensures.last)
+    (last_of lawful before locked.working c.commit.result c.commit.new.self.0.seat c.begin-transaction.ensures.begins c.commit.ensures.ends)

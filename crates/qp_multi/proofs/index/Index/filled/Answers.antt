@@ -14,14 +14,14 @@ overflow_cast-count g c =
     let few = c.args.blank.shared.few.0 in
     let e = many (λ s. number_of s.place.me.0.pass) c.args.blank.seats.items c.args.blank.shared.table.shared.key.passes c.args.blank.numbered in
     let l = c.len-count.ensures in
-    let m = c.in_ok-passes.ensures.count in
+    let m = c.in_ok-passes.ensures.passes.count in
     omega arith
 
 pub invariant_of-index : goal.invariant_of-index
 invariant_of-index g c =
     let e = many (λ s. number_of s.place.me.0.pass) c.args.blank.seats.items c.args.blank.shared.table.shared.key.passes c.args.blank.numbered in
     let l = c.len-count.ensures in
-    let m = c.in_ok-passes.ensures.count in
+    let m = c.in_ok-passes.ensures.passes.count in
     let n : c.len-count.result ≡ c.args.blank.shared.table.shared.key.passes = omega arith in
     record {
       here = c.requires.named;

@@ -1,15 +1,9 @@
-use Rattle.std.proofs.Common.{◌≡◌, ◌+◌}
-use Rattle.trie_model.specs.Extents.{cells_in}
-use Rattle.trie_write.specs.Paths.{insert_asks}
-use Rattle.qp_multi.proofs.WorkLaws.{cause_told, crowded_told}
+use Rattle.std.proofs.Common.{◌≡◌}
+use Rattle.qp_multi.specs.declared.change.TrieChange.TheVariants as change
+use Rattle.qp_multi.proofs.WorkLaws.{room_told}
 use Rattle.qp_multi.proofs.transaction.Transaction.insert.Goals as goal
 
-pub returns-in-Err-Full-clause-cause : goal.returns-in-Err-Full-clause-cause
-returns-in-Err-Full-clause-cause g c f e =
+pub returns-in-Err-Full-clause-full : goal.returns-in-Err-Full-clause-full
+returns-in-Err-Full-clause-full g c f e =
     let same : c.full.result ≡ f = cc in
-    cause_told c.args.key.now (3 + cells_in c.args.item.now) (insert_asks c.args.item.now) _ _ c.change.result _ c.in-Err-Full.full c.full.result f c.in-Err-Full.is c.in-Err-Full.field-0-is c.full.ensures same c.change.ensures.cause
-
-pub returns-in-Err-Full-clause-crowded : goal.returns-in-Err-Full-clause-crowded
-returns-in-Err-Full-clause-crowded g c f e =
-    let same : c.full.result ≡ f = cc in
-    crowded_told c.args.key.now (3 + cells_in c.args.item.now) _ c.change.result _ c.in-Err-Full.full c.full.result f c.in-Err-Full.is c.in-Err-Full.field-0-is c.full.ensures same c.change.ensures.crowded
+    room_told (change.Insert c.args.key c.args.item) _ _ c.change.result _ c.in-Err-Full.full c.full.result f c.in-Err-Full.is c.in-Err-Full.field-0-is c.full.ensures same c.change.ensures.full

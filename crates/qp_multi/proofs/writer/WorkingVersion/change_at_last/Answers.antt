@@ -1,13 +1,17 @@
-use Rattle.std.proofs.Common.{length, ◌+◌, ◌/◌, ◌≤◌, arith, ◌≡◌, ◌∙◌, ◌∷◌, ◌++◌, [], ℕ, true, Option, Err, IfErr, map, ap, refl, slice_index, subst, sym}
+use Rattle.std.proofs.Common.{length, ◌+◌, ◌/◌, ◌≤◌, arith, ◌≡◌, ◌∙◌, ◌∷◌, ◌++◌, [], ℕ, true, Option, Err, map, ap, refl, slice_index, subst, sym}
 use Rattle.std.proofs.lemmas.Bool.{true≢false}
 use Rattle.std.specs.Prelude.{IsOk}
 use Rattle.chunk_usage.specs.Ledger.{Frozen, Row}
 use Rattle.chunk_usage.specs.Keeping.{kept_versions}
 use Rattle.trie_write.specs.declared.refusal.NotDone.TheVariants as not_done
+use Rattle.qp_multi.specs.Attempts.{AreKept, IsUndone}
+use Rattle.qp_multi.specs.Bounds.{Crowds}
 use Rattle.qp_multi.specs.Changes.{operation_of, IsRefused}
-use Rattle.qp_multi.specs.Fulls.{full_with}
+use Rattle.qp_multi.specs.Fulls.{CausedBy, full_with}
+use Rattle.qp_multi.specs.declared.kept.Versions.{Versions}
+use Rattle.chunk_usage.specs.declared.space.Shortage.{Shortage}
+use Rattle.qp_multi.proofs.AttemptLaws.{of_err}
 use Rattle.qp_multi.specs.Rooms.{Fails, MakesRoom}
-use Rattle.qp_multi.specs.Tries.{Tried}
 use Rattle.qp_multi.proofs.GoesLaws.{goes_further}
 use Rattle.qp_multi.proofs.WorkLaws.{full_of, operates_after, set_stays}
 use Rattle.qp_multi.proofs.FullLaws.{cause_of}
@@ -16,8 +20,8 @@ use Rattle.chunk_usage.specs.Ledger.{free_count, is_given, is_used}
 use Rattle.evacuate.specs.Evacuations.{refused}
 use Rattle.shared_cells.specs.Cells.{HasCell}
 use Rattle.qp_multi.specs.Crowds.{WorksSmall, met_count, most_met}
-use Rattle.qp_multi.specs.Changes.{key_of}
-use Rattle.qp_multi.specs.WorkingVersions.{working_set}
+use Rattle.qp_multi.specs.Changes.{asked_by, key_of, written_by}
+use Rattle.qp_multi.specs.WorkingVersions.{IsFull, working_set}
 use Rattle.qp_multi.specs.Tries.{PathHas}
 use Rattle.qp_multi.specs.Turns.{cells_with}
 use Rattle.qp_multi.proofs.CauseLaws.{NeededBy}
@@ -33,11 +37,11 @@ makes g c = record {
   before = c.make_room-room.ensures.frees;
   emptied = c.evacuate-emptied.result.0;
   done = c.evacuate-emptied.result.1;
-  seen = c.evacuate-emptied.ensures.seen;
-  evacuates = c.evacuate-emptied.ensures.evacuates;
+  seen = c.evacuate-emptied.ensures.knows.seen;
+  evacuates = c.evacuate-emptied.ensures.moves.evacuates;
   behind = c.make_room-left.ensures.frees;
-  works = c.make_room-left.ensures.works;
-  log = c.make_room-left.ensures.log ∙ c.evacuate-emptied.ensures.log ∙ c.make_room-room.ensures.log;
+  works = c.make_room-left.ensures.same.works;
+  log = c.make_room-left.ensures.same.log ∙ c.evacuate-emptied.ensures.same.log ∙ c.make_room-room.ensures.same.log;
 }
 
 -- a try that finds no room leaves the kept versions
@@ -52,28 +56,30 @@ returns-clause-operates g c =
     let tried = c.attempt in
     let change = c.args.change.now in
     operates_after (operation_of change) (IsRefused change) c.args.self c.make_room-left.result tried.result.0 (IsOk tried.result.1) (tried.result.1 ≡ Err not_done.Refused)
-    (goes_further (goes_further room.frees.goes_on dense.goes_on) left.frees.goes_on) (makes g c).log (left.numbers.1 ∙ dense.numbers.1 ∙ room.numbers.1) tried.ensures.operates
+    (goes_further (goes_further room.frees.goes_on dense.knows.goes_on) left.frees.goes_on) (makes g c).log (left.same.passes ∙ dense.same.passes ∙ room.same.passes) tried.ensures.operates
 
-pub returns-clause-room : goal.returns-clause-room
-returns-clause-room g c = (c.make_room-left.result, makes g c, c.attempt.ensures.spares)
+-- what the last try left, where it found no room
+undone : (g : Over) (c : goal.After-attempt g) (f : Shortage) → c.attempt.result.1 ≡ Err (not_done.Full f) → IsUndone c.args.change.now c.make_room-left.result c.attempt.result.0 (not_done.Full f)
+undone g c f e = of_err _ c.attempt.result.1 (not_done.Full f) c.attempt.ensures.undone e
 
-pub returns-clause-full : goal.returns-clause-full
-returns-clause-full g c f kept e same =
+full : (g : Over) (c : goal.After-attempt g) (f : Shortage) (kept : Versions) → c.attempt.result.1 ≡ Err (not_done.Full f) → AreKept c.attempt.result.0 kept → IsFull c.attempt.result.0 (full_with f kept)
+full g c f kept e same =
     let left = c.make_room-left in
     let tried = c.attempt in
     let ends = left.ensures.frees.round.kept.ends in
-    let fails = tried.ensures.fails f e in
+    let fails = (undone g c f e).fails f refl in
     full_of left.result tried.result.0 f (full_with f kept) tried.ensures.operates.known (rows_stay g c fails) left.ensures.named
-    (ends.0, ends.1 ∙ ap (λ (n : ℕ). ends.0 ++ n ∷ []) (sym left.ensures.numbers.0)) (tried.ensures.full f e) refl same
+    (ends.0, ends.1 ∙ ap (λ (n : ℕ). ends.0 ++ n ∷ []) (sym left.ensures.same.version)) ((undone g c f e).full f refl) refl same
 
-pub returns-clause-cause : goal.returns-clause-cause
-returns-clause-cause g c f kept e same =
+cause : (g : Over) (c : goal.After-attempt g) (f : Shortage) (kept : Versions) → c.attempt.result.1 ≡ Err (not_done.Full f) → AreKept c.attempt.result.0 kept
+    → CausedBy c.args.self c.attempt.result.0 (key_of c.args.change.now) (written_by c.args.change.now) (asked_by c.args.change.now) (full_with f kept)
+cause g c f kept e same =
     let left = c.make_room-left in
     let tried = c.attempt in
     let change = c.args.change.now in
-    let stays = subst (λ r. IfErr r (λ x. Tried change left.result.root left.result.seat.place.me.0 left.result.usage tried.result.0.seat.place.me.0 tried.result.0.usage (Err x))) e tried.ensures.tried in
-    let fails = tried.ensures.fails f e in
-    let root = subst (λ r. IfErr r (λ x. tried.result.0.root ≡ left.result.root)) e tried.ensures.root in
+    let stays = (undone g c f e).tried in
+    let fails = (undone g c f e).fails f refl in
+    let root = (undone g c f e).root in
     let on = tried.ensures.operates.known in
     let told = same ∙ rows_stay g c fails in
     record {
@@ -81,8 +87,8 @@ returns-clause-cause g c f kept e same =
       makes = makes g c;
       kept = told;
       fails = fails;
-      cause = cause_of c.evacuate-emptied.result.0.usage left.result tried.result.0 change f (full_with f kept) left.ensures.frees.round.frees refl told left.ensures.works left.ensures.images c.requires.leads stays root on
-          (set_stays left.result tried.result.0 on (tried.ensures.operates.stays (λ h. true≢false (sym (subst (λ r. IsOk r) e h))))) (tried.ensures.full f e);
+      cause = cause_of c.evacuate-emptied.result.0.usage left.result tried.result.0 change f (full_with f kept) left.ensures.frees.round.frees refl told left.ensures.same.works left.ensures.images c.requires.leads stays root on
+          (set_stays left.result tried.result.0 on (tried.ensures.operates.stays (λ h. true≢false (sym (subst (λ r. IsOk r) e h))))) ((undone g c f e).full f refl);
     }
 
 -- what is left when room was made, of a set that has no more cells than so many
@@ -92,33 +98,44 @@ unfolding makes
 there g c most small some fits w =
     let room = c.make_room-room in
     let dense = c.evacuate-emptied in
-    let a = ap cells (set_stays c.args.self room.result room.ensures.frees.goes_on room.ensures.log) in
-    let b = ap cells (set_stays room.result dense.result.0 dense.ensures.goes_on dense.ensures.log) in
-    let asks = subst (λ (n : ℕ). free_count room.result.usage + refused dense.result.1 ≤ free_count dense.result.0.usage + (n / 769 + 1)) (sym b) dense.ensures.asks in
-    room_small most c.args.self c.make_room-left.result small some w (makes g c) dense.ensures.works (omega arith) asks
+    let a = ap cells (set_stays c.args.self room.result room.ensures.frees.goes_on room.ensures.same.log) in
+    let b = ap cells (set_stays room.result dense.result.0 dense.ensures.knows.goes_on dense.ensures.same.log) in
+    let asks = subst (λ (n : ℕ). free_count room.result.usage + refused dense.result.1 ≤ free_count dense.result.0.usage + (n / 769 + 1)) (sym b) dense.ensures.moves.asks in
+    room_small most c.args.self c.make_room-left.result small some w (makes g c) dense.ensures.same.works (omega arith) asks
 
-pub returns-clause-small : goal.returns-clause-small
-returns-clause-small g c most small some fits w =
-    let tried = c.attempt in
-    tried_small most c.make_room-left.result.usage tried.result.0.usage tried.ensures.spares
-    (spread_few c.make_room-left.result.usage tried.result.0.usage tried.ensures.ledger tried.ensures.spares.grown tried.ensures.spares.grown.meets) (there g c most small some fits w).1
-
-pub returns-clause-crowded : goal.returns-clause-crowded
-returns-clause-crowded g c f is =
+crowded : (g : Over) (c : goal.After-attempt g) (f : Shortage) → c.attempt.result.1 ≡ Err (not_done.Full f) → Crowds c.args.self c.attempt.result.0 (key_of c.args.change.now) (written_by c.args.change.now)
+crowded g c f is =
     let left = c.make_room-left in
     let tried = c.attempt in
     let change = c.args.change.now in
     let l = left.result in
     let d = tried.result.0 in
-    let stays = subst (λ r. IfErr r (λ x. Tried change l.root l.seat.place.me.0 l.usage d.seat.place.me.0 d.usage (Err x))) is tried.ensures.tried in
-    let root = subst (λ r. IfErr r (λ x. d.root ≡ l.root)) is tried.ensures.root in
+    let stays = (undone g c f is).tried in
+    let root = (undone g c f is).root in
     let set = set_stays l d tried.ensures.operates.known (tried.ensures.operates.stays (λ h. true≢false (sym (subst (λ r. IsOk r) is h)))) in
-    let p = path_cells (HasCell (cells_with l.usage l.seat.place.me.0.turn)) (is_used l.usage) (λ k. slice_index l.usage.live k) l.root (key_of change) (working_set l) left.ensures.works.stands left.ensures.works.tells in
+    let p = path_cells (HasCell (cells_with l.usage l.seat.place.me.0.turn)) (is_used l.usage) (λ k. slice_index l.usage.live k) l.root (key_of change) (working_set l) left.ensures.same.works.stands left.ensures.same.works.tells in
     record {
       path = p.0;
       on_path = subst (λ (r : Option ℕ). PathHas d.seat.place.me.0 d.usage r (key_of change) p.0) (sym root) (stays.path p.0 p.1);
       few_twigs = subst (λ (n : ℕ). p.0 ≤ n) (sym (ap cells set)) p.2;
       bound = λ most small some fits w.
           let t = there g c most small some fits w in
-          last_crowded most l d change f p.0 t.1.rests.rows t.0.0 t.0.1 tried.ensures.spares (stays.consumes p.0 p.1) (tried.ensures.full f is);
+          last_crowded most l d change f p.0 t.1.rests.rows t.0.0 t.0.1 tried.ensures.takes.spares (stays.consumes p.0 p.1) ((undone g c f is).full f refl);
     }
+
+pub returns-clause-full : goal.returns-clause-full
+returns-clause-full g c f e = record {
+  full = λ kept same. full g c f kept e same;
+  cause = λ kept same. cause g c f kept e same;
+  crowded = crowded g c f e;
+}
+
+pub returns-clause-tries : goal.returns-clause-tries
+returns-clause-tries g c = record {
+  table = c.attempt.ensures.takes.table ∙ c.make_room-left.ensures.same.table ∙ c.evacuate-emptied.ensures.same.table ∙ c.make_room-room.ensures.same.table;
+  room = (c.make_room-left.result, makes g c, c.attempt.ensures.takes.spares);
+  small = λ most small some fits w.
+      let tried = c.attempt in
+      tried_small most c.make_room-left.result.usage tried.result.0.usage tried.ensures.takes.spares
+      (spread_few c.make_room-left.result.usage tried.result.0.usage tried.ensures.takes.ledger tried.ensures.takes.spares.grown tried.ensures.takes.spares.grown.meets) (there g c most small some fits w).1;
+}

@@ -14,8 +14,8 @@ returns-clause-pass g c =
     let new = (known_at c.learn.new.self.seat).seen in
     let grows = c.learn.ensures.learnt.grows in
     record {
-      table_here = c.learn.ensures.here;
-      table_place = c.learn.ensures.place ∙ is.table_place;
+      table_here = c.learn.ensures.back.here;
+      table_place = c.learn.ensures.back.place ∙ is.table_place;
       opening = subst (IsTable origins) (sym (opened_same new (table_known p).seen (seat_told p.table.seat is.table_here) grows)) is.opening;
       zones_here = c.learn_each.ensures.here;
       zone_places = c.learn_each.ensures.places ∙ is.zone_places;

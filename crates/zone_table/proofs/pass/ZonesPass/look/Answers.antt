@@ -22,7 +22,7 @@ returns g c =
     let left : known_at new.seat ≡ with_progress q.seat.place.me.0 progress.Idle = c.drop-query.ensures.left ∙ ap (λ x. with_progress x.seat.place.me.0 progress.Idle) same in
     let pinned = pinned_left IsAmong (known_at p.table.seat) q.seat.place.me.0 (known_at new.seat) progress.Idle q.seat.version own left in
     let number = c.version.ensures.number ∙ ap (λ x. x.seat.version) c.look.ensures.same in
-    let looked_at = c.look.ensures.attached es c.query-query.ensures.holds (λ is. subst (λ (names : List Name). AreAttached names es p.remembered.attached) (sym c.deref.ensures.value)
+    let looked_at = c.look.ensures.attached es c.query-query.ensures.reads.holds (λ is. subst (λ (names : List Name). AreAttached names es p.remembered.attached) (sym c.deref.ensures.value)
     (still_attached origins q.seat.place.me.0.seen (known_at p.table.seat).seen p.remembered.version q.seat.version p.remembered.attached c.requires.pass.remembers own.grows own.version is)) in
     let are = subst (λ (v : Known). AreAttached origins (version_seen v.seen) c.look.new.self.attached) (sym left)
     (subst (λ (names : List Name). AreAttached names es c.look.new.self.attached) c.deref.ensures.value looked_at) in

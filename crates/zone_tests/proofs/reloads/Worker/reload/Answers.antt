@@ -10,23 +10,23 @@ pub replace_all-requires-clause-works : goal.replace_all-requires-clause-works
 replace_all-requires-clause-works g c = begun (known_at c.args.self.now.pass.seat) c.write-write.result.locked.now.working c.write-write.ensures.begins
 
 pub replace_all-requires-clause-shown : goal.replace_all-requires-clause-shown
-replace_all-requires-clause-shown g c = shows_held _ _ c.query-version.ensures.holds c.query-version.ensures.pinned.good
+replace_all-requires-clause-shown g c = shows_held _ _ c.query-version.ensures.reads.holds c.query-version.ensures.pinned.good
 
 pub commit-requires-clause-works : goal.commit-requires-clause-works
 commit-requires-clause-works g c =
-    let before = shows_held _ _ c.query-version.ensures.holds c.query-version.ensures.pinned.good in
+    let before = shows_held _ _ c.query-version.ensures.reads.holds c.query-version.ensures.pinned.good in
     done_works (known_at c.args.self.now.pass.seat) c.write-write.result.locked.now.working c.write-write.ensures.begins c.args.origin.now (difference Keep before.0 c.args.zone.pairs) c.replace_all.new.transaction.locked.now.working
     (c.in_ok-replace_all.ensures.replaces before.0 before.1)
 
 pub commit-requires-clause-lawful : goal.commit-requires-clause-lawful
 commit-requires-clause-lawful g c =
-    let before = shows_held _ _ c.query-version.ensures.holds c.query-version.ensures.pinned.good in
+    let before = shows_held _ _ c.query-version.ensures.reads.holds c.query-version.ensures.pinned.good in
     done_stored (known_at c.args.self.now.pass.seat) c.write-write.result.locked.now.working c.write-write.ensures.begins c.args.origin.now (difference Keep before.0 c.args.zone.pairs) c.replace_all.new.transaction.locked.now.working
     (c.in_ok-replace_all.ensures.replaces before.0 before.1)
 
 pub invariant_of-self : goal.invariant_of-self
 invariant_of-self g c =
-    let before = shows_held _ _ c.query-version.ensures.holds c.query-version.ensures.pinned.good in
+    let before = shows_held _ _ c.query-version.ensures.reads.holds c.query-version.ensures.pinned.good in
     let there = replaced_some (Begins IsStored (known_at c.args.self.now.pass.seat)) c.args.origin.now (difference Keep before.0 c.args.zone.pairs) (Err c.in_err-replace_all.field-0.0) c.write-write.result.locked.now.working c.replace_all.new.transaction.locked.now.working
     c.write-write.ensures.begins (c.in_err-replace_all.ensures.replaces before.0 before.1) in record {
       ready = back_ready c.replace_all.new.transaction.locked.now.working _ there c.drop-write.ensures.back;
