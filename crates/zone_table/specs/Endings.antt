@@ -1,5 +1,5 @@
 -- How the zones end.
-use Rattle.std.specs.Prelude.{◌≡◌, ℕ, ◌+◌, List, [], ◌∷◌, ◌++◌, Vec, length, map, All, IsSome, Some, slice_get, slice_index}
+use Rattle.std.specs.Prelude.{◌≡◌, ℕ, ◌+◌, ◌≤◌, List, [], ◌∷◌, ◌++◌, Vec, length, map, All, IsSome, Some, slice_get, slice_index}
 use Rattle.std.specs.Global.{Global}
 use Rattle.qp_multi.specs.declared.index.Index.{Index}
 use Rattle.qp_multi.specs.declared.meaning.Named.{Ghosts}
@@ -33,6 +33,12 @@ pub record AreSplit {X : Type 0} {N : Ghosts X} (count : ℕ) (passes : List (Zo
 -- each list is of passes of the zone at its place
 abbrev pub Belong : {T X : Type 0} {N : Ghosts X} → List (Index T X N) → List (Vec (Pass X N) Global) → Type 0
 Belong {T = T} {X = X} {N = N} zones lists = (k : ℕ) (z : Index T X N) (l : Vec (Pass X N) Global) → slice_get zones k ≡ Some z → slice_get lists k ≡ Some l → All (λ p. (IsSome p.seat) × (p.place ≡ z.place)) l.items
+
+-- sixteen zones or fewer can end, each with the passes of its list
+pub record CanEnd {T X : Type 0} {N : Ghosts X} (zones : List (Index T X N)) (lists : List (Vec (Pass X N) Global)) : Type 0 where
+  pub few : length zones ≤ 16
+  pub count : length lists ≡ length zones
+  pub here : Belong zones lists
 
 -- each zone ended with these, and its number stands behind the first
 abbrev pub AreEnded : {T X : Type 0} {N : Ghosts X} → List (Index T X N) → List (Vec (Pass X N) Global) → List ℕ → Type 0

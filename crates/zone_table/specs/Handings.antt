@@ -1,6 +1,7 @@
 -- How the passes of the table and of the zones are put together.
 use Rattle.std.specs.Prelude.{◌≡◌, ℕ, ◌<◌, List, [], ◌∷◌, ◌++◌, length, map, All, Some, None, slice_get}
 use Rattle.trie_model.specs.Keys.{Entry}
+use Rattle.shared_cells.specs.declared.view.TableSize.{TableSize}
 use Rattle.qp_multi.specs.declared.meaning.Named.{Ghosts}
 use Rattle.qp_multi.specs.declared.pass.Pass.{Pass}
 use Rattle.qp_multi.specs.Closings.{AreAll}
@@ -8,7 +9,8 @@ use Rattle.qp_multi.specs.Openings.{SeesFirst}
 use Rattle.qp_multi.specs.Passes.{Known, commits_in, first_version, pinned_in}
 use Rattle.zone_table.specs.declared.opening.ZoneItems.{ZoneItems}
 use Rattle.zone_table.specs.declared.pass.ZonesPass.{ZonesPass}
-use Rattle.zone_table.specs.Openings.{entries_in, origins_of}
+use Rattle.zone_table.specs.declared.zones.Zones.{Zones}
+use Rattle.zone_table.specs.Openings.{AllFit, entries_in, origins_of, places_of}
 use Rattle.zone_table.specs.Passes.{IsPassOf, table_known, zone_known}
 use Rattle.zone_table.specs.Tables.{IsTable}
 
@@ -58,3 +60,20 @@ pub record AreMade {X : Type 0} {N : Ghosts X} (zones : List ZoneItems) (count :
   pub table : IsTable (origins_of zones) opening
   pub opened : All (λ p. first_version (table_known p).seen ≡ opening) all
   pub every : AreAllPasses count (length zones) all
+
+-- zones with a table of their origins, and the passes of all
+pub record AreAssembled {T X : Type 0} {N : Ghosts X} (zones : List ZoneItems) (key : TableSize) (made : Zones T X N) (all : List (ZonesPass X N)) : Type 0 where
+  pub origins : made.origins.items ≡ origins_of zones
+  -- the table has this size
+  pub table : made.table.shared.table.shared.key ≡ key
+  pub passes : AreMade zones key.passes all
+
+-- The same of zones that were opened on tables of these sizes.
+pub record HaveOpened {T X : Type 0} {N : Ghosts X} (zones : List ZoneItems) (keys : List TableSize) (key : TableSize) (made : Zones T X N) (all : List (ZonesPass X N)) : Type 0 where
+  pub origins : made.origins.items ≡ origins_of zones
+  pub sizes : map (λ z. z.shared.table.shared.key) made.zones.items ≡ keys
+  -- the table of the origins has this one
+  pub table : made.table.shared.table.shared.key ≡ key
+  pub passes : AreMade zones key.passes all
+  -- each zone's trie is sure to find room
+  pub fits : AllFit (places_of zones keys)

@@ -6,7 +6,9 @@ use Rattle.trie_model.specs.Keys.{Entry}
 use Rattle.shared_cells.specs.declared.view.Seen.{Seen}
 use Rattle.qp_multi.specs.declared.meaning.Named.{Ghosts}
 use Rattle.qp_multi.specs.declared.meaning.Operation.{Operation}
-use Rattle.qp_multi.specs.Passes.{Known, Learnt}
+use Rattle.qp_multi.specs.declared.note.Note.{Note}
+use Rattle.qp_multi.specs.declared.pass.Pass.{Pass}
+use Rattle.qp_multi.specs.Passes.{Known, Learnt, known_at}
 use Rattle.zone_table.specs.declared.note.ZonesNote.{ZonesNote}
 use Rattle.zone_table.specs.declared.pass.ZonesPass.{ZonesPass}
 use Rattle.zone_table.specs.Passes.{table_known, zones_known}
@@ -35,6 +37,10 @@ pub record IsNoteOf {X : Type 0} {N : Ghosts X} (origins : List Name) (n : Zones
 pub record Tells {X : Type 0} {N : Ghosts X} (p : ZonesPass X N) (n : ZonesNote X N) : Type 0 where
   pub table : table_told n ≡ (table_known p).seen
   pub zones : zones_told n ≡ map (λ (v : Known). v.seen) (zones_known p)
+
+-- each note tells what the pass at its place had seen
+abbrev pub TellEach : {X : Type 0} {N : Ghosts X} → List (Pass X N) → List (Note X N) → Type 0
+TellEach passes notes = map (λ z. z.told.place.me.0.seen) notes ≡ map (λ (v : Known). v.seen) (map (λ z. known_at z.seat) passes)
 
 -- it knows as much of the table and of each zone
 pub record KnowsSame {X : Type 0} {N : Ghosts X} (old new : ZonesPass X N) : Type 0 where

@@ -1,8 +1,9 @@
 -- What a pass of the zones has: a seat at the table and one at each zone.
-use Rattle.std.specs.Prelude.{◌≡◌, ℕ, List, length, map, All, IfSome, IsSome, None, slice_get, unwrap_or}
+use Rattle.std.specs.Prelude.{◌≡◌, ℕ, ◌+◌, ◌<◌, List, length, map, All, IfSome, IsSome, None, slice_get, unwrap_or}
 use Rattle.std.specs.List.{range_with_len}
 use Rattle.zone_model.specs.Names.{Name}
 use Rattle.qp_multi.specs.declared.meaning.Named.{Ghosts}
+use Rattle.qp_multi.specs.declared.pass.Pass.{Pass}
 use Rattle.qp_multi.specs.Passes.{Known, known_at, first_version}
 use Rattle.zone_table.specs.declared.pass.ZonesPass.{ZonesPass}
 use Rattle.zone_table.specs.Remembered.{Remembers}
@@ -17,6 +18,21 @@ pub record IsPassOf {X : Type 0} {N : Ghosts X} (origins : List Name) (p : Zones
   pub zones_here : All (λ z. IsSome z.seat) p.zones.items
   pub zone_places : map (λ z. z.place) p.zones.items ≡ range_with_len 1 (length origins)
   pub remembers : IfSome p.remembered.version (λ number. Remembers origins (known_at p.table.seat).seen number p.remembered.attached)
+
+-- no seat is away, and they are of the indexes at these places
+pub record StandAt {X : Type 0} {N : Ghosts X} (places : List ℕ) (passes : List (Pass X N)) : Type 0 where
+  pub here : All (λ z. IsSome z.seat) passes
+  pub there : map (λ z. z.place) passes ≡ places
+
+-- it has a zone of this number
+pub record HasZone {X : Type 0} {N : Ghosts X} (origins : List Name) (zone : ℕ) (p : ZonesPass X N) : Type 0 where
+  pub pass : IsPassOf origins p
+  pub within : zone < length origins
+
+-- the pass of a zone's index, whose seat is there
+pub record IsZonePass {X : Type 0} {N : Ghosts X} (zone : ℕ) (p : Pass X N) : Type 0 where
+  pub here : IsSome p.seat
+  pub place : p.place ≡ zone + 1
 
 -- what it knows of the table, and of each zone
 abbrev pub table_known : {X : Type 0} {N : Ghosts X} → ZonesPass X N → Known

@@ -1,6 +1,7 @@
 -- The table of zones: the origins that are served, as the entries of an index.
-use Rattle.std.specs.Prelude.{◌≡◌, List, Contains}
-use Rattle.zone_model.specs.Names.{Name, wire}
+use Rattle.std.specs.Prelude.{◌≡◌, ◌≤◌, List, Contains, length}
+use Rattle.std.specs.List.{AllByRecursion, IsDistinct}
+use Rattle.zone_model.specs.Names.{IsName, Name, same_name, wire}
 use Rattle.zone_model.specs.Keys.{key_of}
 use Rattle.trie_model.specs.Keys.{Entry, InList, Rises}
 use Rattle.trie_model.specs.Order.{IsThere}
@@ -22,6 +23,12 @@ pub record IsPart (origins : List Name) (es : List Entry) : Type 0 where
 pub record IsTable (origins : List Name) (es : List Entry) : Type 0 where
   pub all : (origin : Name) → Contains origins origin → InList (entry_for origin) es
   pub only : AreOf origins es
+
+-- sixteen origins or fewer, each another name
+pub record AreOrigins (origins : List Name) : Type 0 where
+  pub few : length origins ≤ 16
+  pub names : AllByRecursion IsName origins
+  pub different : IsDistinct same_name origins
 
 -- A version of a table that begins with the first one: entries that are there at first, in the order of their keys.
 pub record IsAmong (first later : List Entry) : Type 0 where

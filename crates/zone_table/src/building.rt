@@ -1,7 +1,7 @@
 //! Zones and the table of their origins, opened together.
-ghost use Rattle.std.specs.Prelude.{◌≡◌, ◌+◌, ◌≤◌, ℕ, List, All, IfOk, IfErr, Some, length, map, slice_get};
-ghost use Rattle.zone_table.specs.Prelude.{AllByRecursion, IsDistinct, IsName, same_name, Entry, Rises, TableSize, IsTable};
-ghost use Rattle.zone_table.specs.Prelude.{AllFit, IsBegun, AreBegun, RefusesZones, entries_in, origins_of, places_of, AreMade};
+ghost use Rattle.std.specs.Prelude.{◌≡◌, List, All, IfOk, IfErr, Some, length, map, slice_get};
+ghost use Rattle.zone_table.specs.Prelude.{IsName, Entry, IsTable, AreOrigins, IsBegun, RefusesZones, origins_of, places_of, sizes_of};
+ghost use Rattle.zone_table.specs.Prelude.{IsTableBlank, AreBlanks, CanOpen, HaveOpened, ZonesDiffer, AreOpened, AreAssembled};
 
 use crate::buckets::buckets_for;
 use crate::handing::hand_out_all;
@@ -35,9 +35,7 @@ fn open_table<N: Named>(
 ) -> Result<Opened<TableLaw, N>, AllocError>
     requires named { slice_get N.tables 0 ≡ Some blank.shared.table.shared.table_id }
     requires chunks { blank.shared.table.shared.key.chunks ≡ 512 }
-    requires few { length origins.now ≤ 16 }
-    requires names { AllByRecursion IsName origins.now }
-    requires different { IsDistinct same_name origins.now }
+    requires origins { AreOrigins origins.now }
     ensures { IfOk result (λ o. (es : List Entry) × IsTable origins.now es × IsBegun 0 blank.shared.table.shared.key es o) }
 {
     let items = table_items(alloc, origins)?;
@@ -56,18 +54,11 @@ fn build<L: Law, N: Named>(
     opened: Vec<Opened<L, N>>,
     zones: &[ZoneItems],
 ) -> Result<(Zones<L, N>, Vec<ZonesPass<N>>), AllocError>
-    requires named { slice_get N.tables 0 ≡ Some blank.shared.table.shared.table_id }
-    requires chunks { blank.shared.table.shared.key.chunks ≡ 512 }
-    requires few_passes { blank.shared.table.shared.key.passes ≤ 17 }
-    requires some { 1 ≤ length zones.now }
-    requires few { length zones.now ≤ 16 }
-    requires different { IsDistinct same_name (origins_of zones.now) }
-    requires opened { (sizes : List TableSize) × (length sizes ≡ length zones.now) × All (λ s. s.passes ≡ blank.shared.table.shared.key.passes) sizes
-        × AreBegun (places_of zones.now sizes) opened.items }
-    ensures origins { IfOk result (λ made. made.0.origins.items ≡ origins_of zones.now) }
+    requires blank { IsTableBlank N.tables blank.shared.table.shared.table_id blank.shared.table.shared.key }
+    requires zones { ZonesDiffer zones.now }
+    requires opened { AreOpened zones.now blank.shared.table.shared.key.passes opened.items }
     ensures indexes { IfOk result (λ made. made.0.zones.items ≡ map (λ o. o.index) opened.items) }
-    ensures table { IfOk result (λ made. made.0.table.shared.table.shared.key ≡ blank.shared.table.shared.key) }
-    ensures passes { IfOk result (λ made. AreMade zones.now blank.shared.table.shared.key.passes made.1.items) }
+    ensures made { IfOk result (λ made. AreAssembled zones.now blank.shared.table.shared.key made.0 made.1.items) }
 {
     let origins = origins_of(alloc, zones)?;
     let Opened { index, passes } = open_table::<N>(alloc, blank, &origins)?;
@@ -91,23 +82,11 @@ impl<L: Law, N: Named> Zones<L, N> {
         blanks: Vec<Blank<L>>,
         zones: &[ZoneItems],
     ) -> Result<(Zones<L, N>, Vec<ZonesPass<N>>), ZonesRefusal>
-        requires table_named { slice_get N.tables 0 ≡ Some table.shared.table.shared.table_id }
-        requires named { (k : ℕ) (b : _) → slice_get blanks.items k ≡ Some b → slice_get N.tables (k + 1) ≡ Some b.shared.table.shared.table_id }
-        requires chunks { table.shared.table.shared.key.chunks ≡ 512 }
-        requires few_passes { table.shared.table.shared.key.passes ≤ 17 }
-        requires passes { All (λ s. s.passes ≡ table.shared.table.shared.key.passes) (map (λ b. b.shared.table.shared.key) blanks.items) }
-        requires some { 1 ≤ length zones.now }
-        requires few { length zones.now ≤ 16 }
-        requires each { length blanks.items ≡ length zones.now }
-        requires different { IsDistinct same_name (origins_of zones.now) }
-        requires rising { All (λ z. Rises (entries_in z)) zones.now }
-        requires lawful { All (λ z. L.lawful (entries_in z) (entries_in z)) zones.now }
-        ensures origins { IfOk result (λ made. made.0.origins.items ≡ origins_of zones.now) }
-        ensures sizes { IfOk result (λ made. map (λ z. z.shared.table.shared.key) made.0.zones.items ≡ map (λ b. b.shared.table.shared.key) blanks.items) }
-        ensures table { IfOk result (λ made. made.0.table.shared.table.shared.key ≡ table.shared.table.shared.key) }
-        ensures passes { IfOk result (λ made. AreMade zones.now table.shared.table.shared.key.passes made.1.items) }
-        ensures fits { IfOk result (λ _. AllFit (places_of zones.now (map (λ b. b.shared.table.shared.key) blanks.items))) }
-        ensures refused { IfErr result (RefusesZones (places_of zones.now (map (λ b. b.shared.table.shared.key) blanks.items))) }
+        requires table { IsTableBlank N.tables table.shared.table.shared.table_id table.shared.table.shared.key }
+        requires blanks { AreBlanks N.tables table.shared.table.shared.key.passes (length zones.now) blanks.items }
+        requires zones { CanOpen L.lawful zones.now }
+        ensures opened { IfOk result (λ made. HaveOpened zones.now (sizes_of blanks.items) table.shared.table.shared.key made.0 made.1.items) }
+        ensures refused { IfErr result (RefusesZones (places_of zones.now (sizes_of blanks.items))) }
     {
         match open_each::<L, N>(alloc, blanks, zones) {
             Err(refusal) => Err(refusal),

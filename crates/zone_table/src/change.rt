@@ -1,6 +1,6 @@
 //! Changes of the table: an origin is put in, or taken out.
-ghost use Rattle.std.specs.Prelude.{◌≡◌, ◌<◌, Ok, Err, IfOk, IfSome, MatchResult, length, slice_get};
-ghost use Rattle.zone_table.specs.Prelude.{IsPassOf, table_known, Attaches, Detaches, IsReceipt};
+ghost use Rattle.std.specs.Prelude.{◌≡◌, Ok, Err, IfOk, IfSome, MatchResult, slice_get};
+ghost use Rattle.zone_table.specs.Prelude.{IsPassOf, HasZone, table_known, Attaches, Detaches, IsReceipt};
 
 use crate::pass::ZonesPass;
 use crate::zones::Zones;
@@ -43,8 +43,7 @@ impl<L: Law, N: Named> Zones<L, N> {
         pass: &mut ZonesPass<N>,
         zone: u32,
     ) -> Result<Receipt, TableRefusal>
-        requires pass { IsPassOf self.now.origins.items pass.old }
-        requires zone { zone < length self.now.origins.items }
+        requires { HasZone self.now.origins.items zone pass.old }
         ensures pass { IsPassOf self.now.origins.items pass.new }
         ensures others { pass.new.zones ≡ pass.old.zones }
         ensures attaches { IfSome (slice_get self.now.origins.items zone) (λ origin. Attaches origin (table_known pass.old) (table_known pass.new) result) }
@@ -69,8 +68,7 @@ impl<L: Law, N: Named> Zones<L, N> {
         pass: &mut ZonesPass<N>,
         zone: u32,
     ) -> Result<Receipt, TableRefusal>
-        requires pass { IsPassOf self.now.origins.items pass.old }
-        requires zone { zone < length self.now.origins.items }
+        requires { HasZone self.now.origins.items zone pass.old }
         ensures pass { IsPassOf self.now.origins.items pass.new }
         ensures others { pass.new.zones ≡ pass.old.zones }
         ensures detaches { IfSome (slice_get self.now.origins.items zone) (λ origin. Detaches origin (table_known pass.old) (table_known pass.new) result) }

@@ -1,6 +1,6 @@
 //! How the zones and their table end.
-ghost use Rattle.std.specs.Prelude.{◌≡◌, ◌+◌, ◌<◌, ◌≤◌, [], ℕ, All, IfOk, OnOk, length, map, slice_index};
-ghost use Rattle.zone_table.specs.Prelude.{IsPassOf, table_known, AreAdded, AreEnded, AreSplit, Belong, EachEnds, IsEnd};
+ghost use Rattle.std.specs.Prelude.{◌≡◌, ◌+◌, ◌<◌, [], ℕ, All, IfOk, OnOk, length, map, slice_index};
+ghost use Rattle.zone_table.specs.Prelude.{IsPassOf, table_known, AreAdded, AreEnded, AreSplit, CanEnd, EachEnds, IsEnd};
 
 use crate::pass::ZonesPass;
 use crate::zones::Zones;
@@ -63,9 +63,7 @@ fn close_each<L: Law, N: Named>(
     zones: Vec<Index<L, N>>,
     lists: Vec<Vec<Pass<N>>>,
 ) -> [u64; 17]
-    requires few { length zones.items ≤ 16 }
-    requires count { length lists.items ≡ length zones.items }
-    requires here { Belong zones.items lists.items }
+    requires { CanEnd zones.items lists.items }
     ensures first { slice_index result 0 ≡ first }
     ensures ends { AreEnded zones.items lists.items result }
     ensures rest { (k : ℕ) → length zones.items < k → slice_index result k ≡ 0 }

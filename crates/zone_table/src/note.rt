@@ -1,6 +1,6 @@
 //! Notes: what one pass of the zones has seen is told to another.
-ghost use Rattle.std.specs.Prelude.{◌≡◌, ℕ, All, IsSome, IfOk, map};
-ghost use Rattle.zone_table.specs.Prelude.{Known, known_at, IsPassOf, IsNoteOf, KnowsSame, Tells, LearntAt, HasLearnt};
+ghost use Rattle.std.specs.Prelude.{◌≡◌, ℕ, IfOk, map};
+ghost use Rattle.zone_table.specs.Prelude.{known_at, IsPassOf, StandAt, IsNoteOf, KnowsSame, Tells, TellEach, LearntAt, HasLearnt};
 
 use crate::pass::ZonesPass;
 use crate::zones::Zones;
@@ -21,14 +21,11 @@ fn note_each<L: Law, N: Named>(
     passes: &mut Vec<Pass<N>>,
     zones: &Vec<Index<L, N>>,
 ) -> Result<Vec<Note<N>>, AllocError>
-    requires here { All (λ z. IsSome z.seat) passes.old.items }
-    requires places { map (λ z. z.place) passes.old.items ≡ map (λ z. z.place) zones.now.items }
-    ensures here { All (λ z. IsSome z.seat) passes.new.items }
-    ensures places { map (λ z. z.place) passes.new.items ≡ map (λ z. z.place) passes.old.items }
+    requires { StandAt (map (λ z. z.place) zones.now.items) passes.old.items }
+    ensures stand { StandAt (map (λ z. z.place) passes.old.items) passes.new.items }
     ensures same { map (λ z. known_at z.seat) passes.new.items ≡ map (λ z. known_at z.seat) passes.old.items }
     ensures of { IfOk result (λ notes. map (λ z. z.place) notes.items ≡ map (λ z. z.place) passes.old.items) }
-    ensures told { IfOk result (λ notes. map (λ z. z.told.place.me.0.seen) notes.items
-        ≡ map (λ (v : Known). v.seen) (map (λ z. known_at z.seat) passes.old.items)) }
+    ensures told { IfOk result (λ notes. TellEach passes.old.items notes.items) }
 {
     let mut notes = Vec::with_capacity(alloc, passes.len())?;
     for place in 0..passes.len() {
@@ -44,11 +41,9 @@ fn learn_each<L: Law, N: Named>(
     zones: &Vec<Index<L, N>>,
     notes: Vec<Note<N>>,
 )
-    requires here { All (λ z. IsSome z.seat) passes.old.items }
-    requires places { map (λ z. z.place) passes.old.items ≡ map (λ z. z.place) zones.now.items }
+    requires stand { StandAt (map (λ z. z.place) zones.now.items) passes.old.items }
     requires notes { map (λ z. z.place) notes.items ≡ map (λ z. z.place) zones.now.items }
-    ensures here { All (λ z. IsSome z.seat) passes.new.items }
-    ensures places { map (λ z. z.place) passes.new.items ≡ map (λ z. z.place) passes.old.items }
+    ensures stand { StandAt (map (λ z. z.place) passes.old.items) passes.new.items }
     ensures learnt { (place : ℕ) → LearntAt (map (λ z. known_at z.seat) passes.old.items) (map (λ z. known_at z.seat) passes.new.items)
         (map (λ z. z.told.place.me.0.seen) notes.items) place }
 {

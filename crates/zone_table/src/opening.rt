@@ -1,6 +1,6 @@
 //! How the zones and their table are opened.
-ghost use Rattle.std.specs.Prelude.{◌≡◌, ◌+◌, ◌<◌, ◌≤◌, ◌++◌, ◌∷◌, [], ℕ, List, All, MatchResult, Some, length, map, slice_get};
-ghost use Rattle.zone_table.specs.Prelude.{Rises, TableSize, Refuses, Place, places_of, entries_in, OpensZones, RefusesZones};
+ghost use Rattle.std.specs.Prelude.{◌≡◌, ◌+◌, ◌<◌, ◌≤◌, ◌++◌, ◌∷◌, [], ℕ, List, MatchResult, Some, length, map, slice_get};
+ghost use Rattle.zone_table.specs.Prelude.{CanBegin, TableSize, Refuses, Place, places_of, entries_in, OpensZones, RefusesZones};
 
 use crate::law::TableLaw;
 use dns_name::Name;
@@ -99,8 +99,7 @@ pub(crate) fn open_each<L: Law, N: Named>(
     requires few { length zones.now ≤ 16 }
     requires enough { length blanks.items ≤ length zones.now }
     requires named { (k : ℕ) (b : _) → slice_get blanks.items k ≡ Some b → slice_get N.tables (k + 1) ≡ Some b.shared.table.shared.table_id }
-    requires rising { All (λ z. Rises (entries_in z)) zones.now }
-    requires lawful { All (λ z. L.lawful (entries_in z) (entries_in z)) zones.now }
+    requires begin { CanBegin L.lawful zones.now }
     ensures { OpensZones (places_of zones.now (map (λ b. b.shared.table.shared.key) blanks.items)) result }
 {
     let mut blanks = blanks;

@@ -1,6 +1,6 @@
 //! A pass of the zones: one of the table and one of each zone.
-ghost use Rattle.std.specs.Prelude.{◌≡◌, ◌<◌, ◌+◌, Some, IsSome, length, slice_get};
-ghost use Rattle.zone_table.specs.Prelude.{sem, known_at, IsPassOf, zone_known, lends_zone};
+ghost use Rattle.std.specs.Prelude.{◌≡◌, Some, slice_get};
+ghost use Rattle.zone_table.specs.Prelude.{sem, known_at, HasZone, IsZonePass, zone_known, lends_zone};
 
 use crate::remembered::Remembered;
 use crate::zones::Zones;
@@ -19,12 +19,10 @@ pub struct ZonesPass<N: Named> {
 impl<N: Named> ZonesPass<N> {
     /// Its pass of a zone, for queries and transactions of that zone's index.
     pub fn zone<L: Law>(&mut self, zones: &Zones<L, N>, zone: u32) -> &mut Pass<N>
-        requires pass { IsPassOf zones.now.origins.items self.old }
-        requires zone { zone < length zones.now.origins.items }
+        requires { HasZone zones.now.origins.items zone self.old }
         ensures* writes_back { sem 𝓛 (lends_zone N.row N.Named self.entry zone result) }
         ensures value { slice_get self.old.zones.items zone ≡ Some result.now }
-        ensures here { IsSome result.now.seat }
-        ensures place { result.now.place ≡ zone + 1 }
+        ensures at { IsZonePass zone result.now }
         ensures known { known_at result.now.seat ≡ zone_known self.old zone }
     {
         let _zones = zones; // for the proof

@@ -1,7 +1,7 @@
 //! What a pass remembers of the table: which zones are attached in the version that it has looked at last. A version never changes, so a name is located
 //! without looking at it again.
 ghost use Rattle.std.specs.Prelude.{◌≡◌, ◌↔◌, ◌≤◌, IsTrue, List, None, Some, length};
-ghost use Rattle.zone_table.specs.Prelude.{Entry, IsHeld, AreAttached, IsAttached};
+ghost use Rattle.zone_table.specs.Prelude.{Entry, IsHeld, AreAttached, IsAttached, TellsZones};
 
 use dns_name::Name;
 use shift_key::Key;
@@ -76,9 +76,7 @@ impl Remembered {
         requires held { IsHeld (V.holds version.old) }
         ensures same { version.new ≡ version.old }
         ensures version { self.new.version ≡ Some (V.number version.old) }
-        ensures attached { (es : List Entry) → V.holds version.old es
-            → (self.old.version ≡ Some (V.number version.old) → AreAttached origins.now es self.old.attached)
-            → AreAttached origins.now es self.new.attached }
+        ensures attached { TellsZones (V.holds version.old) origins.now (self.old.version ≡ Some (V.number version.old)) self.old.attached self.new.attached }
     {
         let number = version.version();
         if self.version == Some(number) {

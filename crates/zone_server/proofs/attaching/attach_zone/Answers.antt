@@ -12,8 +12,8 @@ use Rattle.zone_server.proofs.attaching.attach_zone.Goals as goal
 pub returns-in_default-clause-attached : goal.returns-in_default-clause-attached
 returns-in_default-clause-attached g c = (none_has g.H.Home.zones c.args.zones.now c.requires.zones c.args.origin.now (c.in_default.ensures.none refl), refl)
 
-pub attach-requires-clause-pass : goal.attach-requires-clause-pass
-attach-requires-clause-pass g c = pass_in g.H.Home.zones c.args.zones.now c.requires.zones c.args.pass.now c.requires.pass.pass
+pub attach-requires-pass : goal.attach-requires-pass
+attach-requires-pass g c = pass_in g.H.Home.zones c.args.zones.now c.requires.zones c.args.pass.now c.requires.pass.pass
 
 pub returns-clause-pass : goal.returns-clause-pass
 returns-clause-pass g c = looked g.H.Home.zones c.args.zones.now c.requires.zones c.args.pass.now c.attach.new.pass c.requires.pass c.attach.ensures.others c.attach.ensures.pass

@@ -12,8 +12,8 @@ use Rattle.zone_server.proofs.attaching.detach_zone.Goals as goal
 pub returns-in_default-clause-detached : goal.returns-in_default-clause-detached
 returns-in_default-clause-detached g c = (none_has g.H.Home.zones c.args.zones.now c.requires.zones c.args.origin.now (c.in_default.ensures.none refl), refl)
 
-pub detach-requires-clause-pass : goal.detach-requires-clause-pass
-detach-requires-clause-pass g c = pass_in g.H.Home.zones c.args.zones.now c.requires.zones c.args.pass.now c.requires.pass.pass
+pub detach-requires-pass : goal.detach-requires-pass
+detach-requires-pass g c = pass_in g.H.Home.zones c.args.zones.now c.requires.zones c.args.pass.now c.requires.pass.pass
 
 pub returns-clause-pass : goal.returns-clause-pass
 returns-clause-pass g c = looked g.H.Home.zones c.args.zones.now c.requires.zones c.args.pass.now c.detach.new.pass c.requires.pass c.detach.ensures.others c.detach.ensures.pass

@@ -9,8 +9,8 @@ use Rattle.zone_table.specs.Tables.{IsTable}
 use Rattle.zone_table.proofs.HandingLaws.{same_counts, numbered_indexes, indexes_many, made_of}
 use Rattle.zone_table.proofs.building.build.Goals as goal
 
-pub open_table-requires-clause-names : goal.open_table-requires-clause-names
-open_table-requires-clause-names g c = recursion_from_All IsName c.deref.result.now (subst (All IsName) (sym c.deref.ensures.value) c.in_ok-origins.ensures.names)
+pub open_table-requires-clause-origins-names : goal.open_table-requires-clause-origins-names
+open_table-requires-clause-origins-names g c = recursion_from_All IsName c.deref.result.now (subst (All IsName) (sym c.deref.ensures.value) c.in_ok-origins.ensures.names)
 
 pub hand_out_all-requires : goal.hand_out_all-requires
 hand_out_all-requires g c =
@@ -27,20 +27,20 @@ invariant_of-zones g c =
     let origins = ap length c.in_ok-origins.ensures.origins ∙ length-map c.args.zones.now (λ (z : ZoneItems). z.origin) in
     record {
       table_place = b.place;
-      chunks = ap (λ k. k.chunks) b.size_is ∙ c.requires.chunks;
-      passes = (let p = ap (λ k. k.passes) b.size_is in let m = c.requires.few_passes in omega arith);
+      chunks = ap (λ k. k.chunks) b.size_is ∙ c.requires.blank.chunks;
+      passes = (let p = ap (λ k. k.passes) b.size_is in let m = c.requires.blank.few_passes in omega arith);
       places = ap (map (λ z. z.place)) indexes ∙ numbered_indexes c.args.zones.now o.0 c.args.blank.shared.table.shared.key.passes c.args.opened.items o.1 o.2 o.3 (length c.in_ok-indexes.indexes.items) (sym (ap length indexes));
       each = origins ∙ sym many;
-      some = (let m = c.requires.some in omega arith);
-      few = (let m = c.requires.few in omega arith);
+      some = (let m = c.requires.zones.some in omega arith);
+      few = (let m = c.requires.zones.few in omega arith);
       names = recursion_from_All IsName c.in_ok-origins.origins.items c.in_ok-origins.ensures.names;
       bucket_count = c.in_ok-buckets.ensures.count;
       bucket_zones = subst (λ (names : List Name). AreZones (length names) (map (λ s. s.items) c.in_ok-buckets.buckets.items)) c.deref-2.ensures.value c.in_ok-buckets.ensures.zones;
       filed = subst (λ (names : List Name). AreFiled names (map (λ s. s.items) c.in_ok-buckets.buckets.items)) c.deref-2.ensures.value c.in_ok-buckets.ensures.filed;
     }
 
-pub returns-clause-passes : goal.returns-clause-passes
-returns-clause-passes g c =
+pub returns-clause-made-passes : goal.returns-clause-made-passes
+returns-clause-made-passes g c =
     let o = c.requires.opened in
     let t = c.in_ok-index.ensures in
     made_of c.args.zones.now o.0 c.args.blank.shared.table.shared.key.passes c.args.opened.items o.1 o.2 o.3 c.args.blank.shared.table.shared.key t.0 c.in_ok-index.field-0 c.in_ok-indexes.all.items refl

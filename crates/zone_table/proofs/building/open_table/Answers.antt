@@ -26,7 +26,7 @@ unreachable-requires g c =
     let full = subst (Refuses c.args.blank.shared.table.shared.key.chunks (entries_of_items c.deref.result.now)) c.in-Err-Full.field-0-is c.in-Err-Full.ensures.full in
     let table = subst (λ items. IsTable c.args.origins.now (entries_of_items items)) (sym c.deref.ensures.value) c.in_ok-items.ensures.table in
     let part : IsPart c.args.origins.now (entries_of_items c.deref.result.now) = record { rising = subst (λ items. Rises (entries_of_items items)) (sym c.deref.ensures.value) c.in_ok-items.ensures.rising; only = table.only } in
-    let few = few_cells c.args.origins.now (entries_of_items c.deref.result.now) c.requires.names c.requires.few part in
+    let few = few_cells c.args.origins.now (entries_of_items c.deref.result.now) c.requires.origins.names c.requires.origins.few part in
     let needed = full.0 in
     let limit = full.1 in
     let over = full.2 in

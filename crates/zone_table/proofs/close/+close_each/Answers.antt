@@ -11,7 +11,7 @@ close_each-numbers-requires g t c κs within =
     let p = parted _ _ _ _ _ _ c.in-Some.ensures.items c.in-Some-pop.ensures.items c.requires.count c.requires.here in
     let fewer = p.fewer in
     let few : length c.pop.new.self.items ≤ 16 = let m = c.requires.few in omega arith in
-    (search (rules, fewer), (within.0, (within.1, (few, (p.same, p.others_belong)))))
+    (search (rules, fewer), (within.0, (within.1, record { few = few; count = p.same; here = p.others_belong })))
 
 pub returns-clause-ends : goal.returns-clause-ends
 returns-clause-ends g t c =

@@ -10,15 +10,15 @@ use Rattle.zone_table.proofs.note.learn_each.Goals as goal
 
 pub loop-note-init : goal.loop-note-init
 loop-note-init g c =
-    let n = alike_length (λ z. z.place) (λ z. z.place) c.args.passes.now.items c.args.notes.items (c.requires.places ∙ sym c.requires.notes) in
+    let n = alike_length (λ z. z.place) (λ z. z.place) c.args.passes.now.items c.args.notes.items (c.requires.stand.there ∙ sym c.requires.notes) in
     let m = length-map c.args.passes.now.items (λ z. known_at z.seat) in
-    record { kept = kept_first c.args.passes.now.items c.requires.here; learning = learn_first c.args.passes.now.items c.args.notes.items (omega arith) }
+    record { kept = kept_first c.args.passes.now.items c.requires.stand.here; learning = learn_first c.args.passes.now.items c.args.notes.items (omega arith) }
 
 pub learn-requires-clause-pass : goal.learn-requires-clause-pass
 learn-requires-clause-pass g c =
     let place = c.len-place.ensures in
     let at : c.len-place.result ≡ length c.pop.new.self.items = omega arith in
-    let places = c.loop-note.invariant.kept.places ∙ c.requires.places in
+    let places = c.loop-note.invariant.kept.places ∙ c.requires.stand.there in
     let note : slice_get c.args.notes.items c.len-place.result ≡ Some c.in-Some.note = ap (slice_get c.args.notes.items) at
     ∙ last_note c.args.passes.now.items c.loop-note.passes.items c.args.notes.items c.loop-note.notes.items c.pop.new.self.items c.in-Some.note c.loop-note.invariant.learning c.in-Some.ensures.items in
     let inside = slice_get_within c.args.notes.items c.len-place.result c.in-Some.note note in
@@ -46,7 +46,7 @@ pub loop-note-preserved : goal.loop-note-preserved
 loop-note-preserved g c =
     let place = c.len-place.ensures in
     let at : c.len-place.result ≡ length c.pop.new.self.items = omega arith in
-    let places = c.loop-note.invariant.kept.places ∙ c.requires.places in
+    let places = c.loop-note.invariant.kept.places ∙ c.requires.stand.there in
     let note : slice_get c.args.notes.items c.len-place.result ≡ Some c.in-Some.note = ap (slice_get c.args.notes.items) at
     ∙ last_note c.args.passes.now.items c.loop-note.passes.items c.args.notes.items c.loop-note.notes.items c.pop.new.self.items c.in-Some.note c.loop-note.invariant.learning c.in-Some.ensures.items in
     let within = slice_get_within c.args.notes.items c.len-place.result c.in-Some.note note in

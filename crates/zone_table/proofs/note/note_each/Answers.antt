@@ -6,9 +6,9 @@ use Rattle.zone_table.proofs.note.note_each.Goals as goal
 
 pub note-note-requires : goal.note-note-requires
 note-note-requires g c =
-    let places = c.loop-place.invariant.kept.places ∙ c.requires.places in
+    let places = c.loop-place.invariant.kept.places ∙ c.requires.there in
     let n = alike_length (λ z. z.place) (λ z. z.place) c.loop-place.passes.items c.args.passes.now.items c.loop-place.invariant.kept.places in
-    let m = alike_length (λ z. z.place) (λ z. z.place) c.args.passes.now.items c.args.zones.now.items c.requires.places in
+    let m = alike_length (λ z. z.place) (λ z. z.place) c.args.passes.now.items c.args.zones.now.items c.requires.there in
     let l = c.loop-place-test.true in
     record {
       here = search rules;
@@ -17,8 +17,8 @@ note-note-requires g c =
           (read_at c.args.zones.now.items c.loop-place.place c.index.result.now (omega arith) c.index.ensures);
     }
 
-pub returns-in_err-push-clause-places : goal.returns-in_err-push-clause-places
-returns-in_err-push-clause-places g c =
+pub returns-in_err-push-clause-stand-there : goal.returns-in_err-push-clause-stand-there
+returns-in_err-push-clause-stand-there g c =
     (kept_set c.args.passes.now.items c.loop-place.passes.items c.loop-place.place c.index_mut.result.now c.note-note.new.self c.loop-place.invariant.kept c.index_mut.ensures.value c.note-note.ensures.back.here c.note-note.ensures.back.place).places
 
 pub returns-in_err-push-clause-same : goal.returns-in_err-push-clause-same

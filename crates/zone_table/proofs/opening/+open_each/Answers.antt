@@ -40,7 +40,7 @@ open_each-others-requires g t c κs within =
               enough,
               (
                 λ k b there. c.requires.named k b (ap (λ l. slice_get l k) c.in-Some.ensures.items ∙ get_front c.pop.new.self.items (c.in-Some.blank ∷ []) k b there),
-                (c.requires.rising, c.requires.lawful),
+                c.requires.begin,
               ),
             ),
           ),

@@ -11,13 +11,15 @@ pub returns : goal.returns
 returns g c =
     let zones = c.args.self.now.zones.items in
     let count : length zones ≡ length c.args.zones.now.origins.items = sym (length-map zones (λ z. z.place)) ∙ ap length c.requires.pass.zone_places ∙ length-range_with_len 1 (length c.args.zones.now.origins.items) in
-    let read : slice_get zones c.args.zone ≡ Some c.index_mut.result.now = read_at zones c.args.zone c.index_mut.result.now (let l = c.requires.zone in omega arith) c.index_mut.ensures.value in (
+    let read : slice_get zones c.args.zone ≡ Some c.index_mut.result.now = read_at zones c.args.zone c.index_mut.result.now (let l = c.requires.within in omega arith) c.index_mut.ensures.value in (
       (refl, λ w. refl),
       record {
         writes_back = tt;
         value = read;
-        here = all_at (λ z. IsSome z.seat) zones c.args.zone c.index_mut.result.now c.requires.pass.zones_here read;
-        place = numbered_at (λ z. z.place) zones (length c.args.zones.now.origins.items) c.args.zone c.index_mut.result.now c.requires.pass.zone_places c.requires.zone read;
+        at = record {
+          here = all_at (λ z. IsSome z.seat) zones c.args.zone c.index_mut.result.now c.requires.pass.zones_here read;
+          place = numbered_at (λ z. z.place) zones (length c.args.zones.now.origins.items) c.args.zone c.index_mut.result.now c.requires.pass.zone_places c.requires.within read;
+        };
         known = sym (ap (λ (k : Option Known). unwrap_or k (known_at None)) (mapped_at (λ z. known_at z.seat) zones c.args.zone c.index_mut.result.now read));
       },
     )
