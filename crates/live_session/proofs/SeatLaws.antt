@@ -1,6 +1,5 @@
 -- What a worker with the two passes of an index has run, as a session sees it.
-use Rattle.std.proofs.Common.{◌≡◌, ℕ, List, [], ◌∷◌, length, Result, Ok, Err, refl, sym, subst}
-use Rattle.std.specs.Prelude.{IfOk}
+use Rattle.std.proofs.Common.{◌≡◌, ℕ, List, [], ◌∷◌, length, refl, sym, subst}
 use Rattle.zone_model.specs.Names.{Name}
 use Rattle.job_model.specs.Commands.{Command}
 use Rattle.job_model.specs.Feeds.{passes_fed}
@@ -22,10 +21,6 @@ use Rattle.qp_multi.specs.Passes.{Known}
 use Rattle.session_talk.specs.Answering.{Way}
 use Rattle.live_session.specs.Ends.{StartsOn}
 use Rattle.live_session.specs.Seats.{HasRun}
-
-pub map_ok : {A E : Type 0} {P Q : A → Type 0} (r : Result A E) → ((x : A) → P x → Q x) → IfOk r P → IfOk r Q
-map_ok (Ok x) f h = f x h
-map_ok (Err e) f h = tt
 
 -- an index is one of its own origin
 pub own_index : (s : OpenedWith) (origin : Name) (size : TableSize) → IsIndex s origin size → IsIndex s s.origin size

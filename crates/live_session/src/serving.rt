@@ -1,11 +1,10 @@
 //! A session from its first byte to its last.
-ghost use Rattle.std.specs.Prelude.{◌≡◌, ◌⊎◌, ◌<◌, ◌≤◌, ◌+◌, ◌++◌, ◌^◌, ℕ, List, Some, false, true, IsTrue, IsErrOf, IfOk, IfSome, OnOk, length, slice_get};
-ghost use Rattle.live_session.specs.Prelude.{IsZone, Held, Reads, Rose, Way, entries_of_items, lines_of, passes_fed, zone_of};
+ghost use Rattle.std.specs.Prelude.{◌⊎◌, ◌≤◌, ◌++◌, ◌^◌, ℕ, List, IsTrue, IsErrOf, IfOk, IfSome, OnOk, length};
+ghost use Rattle.live_session.specs.Prelude.{BlamesEach, CanBeDumped, Held, Reads, ReadsToEnd, Refuses, entries_of_items, lines_of, zone_of};
 ghost use Rattle.live_session.specs.Dues.{IsSettled};
-ghost use Rattle.live_session.specs.Ends.{EndedSo, Fits, ServedSo, StartsOn, ZoneStops};
-ghost use Rattle.live_session.specs.Prelude.{AreNew, CanBeDumped, Entries, MayTalk, Refuses, known_in, table_size};
+ghost use Rattle.live_session.specs.Ends.{ZoneStops};
+ghost use Rattle.live_session.specs.Servings.{CanLiveOn, CanServeNamed, CanServeOpened, EndsSo, ServesNamed, ServesOpened};
 ghost use Rattle.live_session.specs.Zones.{TookZone};
-ghost use Rattle.job_threads.specs.Ready.{AreOfOne};
 
 use crate::chunks::chunks_for;
 use crate::early::EarlyEnd;
@@ -41,21 +40,10 @@ fn serve_opened<R: Wait, N: Named, K: Sink, T: Talk<K>>(
     talk: &mut T,
     sink: &mut K,
 ) -> Result<bool, EarlyEnd>
-    requires passes { AreOfOne origin.now index.now.place passes.items }
-    requires two { (table_size index.now).passes ≡ 2 }
-    requires first { 0 < first }
-    requires few { first + length intake.old.bytes ≤ 2 ^ 26 }
-    requires may { intake.old.ended ≡ false → (es : Entries) × (way : Way) × AreNew es (known_in passes.items) × (length es ≡ names)
-        × StartsOn way (table_size index.now).chunks origin.now es first (T.given talk.old) (K.held sink.old) intake.old.bytes × MayTalk T.is_settled way }
-    ensures served { (es : Entries) (way : Way) → AreNew es (known_in passes.items) → length es ≡ names
-        → StartsOn way (table_size index.now).chunks origin.now es first (T.given talk.old) (K.held sink.old) intake.old.bytes → Fits way
-        → ServedSo way (T.given talk.old) (T.given talk.new) (K.held sink.old) (K.held sink.new) result }
-    ensures unread { intake.old.ended ≡ true → (talk.new ≡ talk.old) × (IsErrOf result EarlyEnd.TalkFault → ⊥) }
-    ensures ended { intake.old.ended ≡ false → OnOk result (IsTrue (T.ended talk.new) ⊎ (2 ^ 46 ≤ length (T.given talk.new))) }
-    ensures quiet_sink { (IsErrOf result EarlyEnd.SinkFault → ⊥) → K.faults sink.new ≡ K.faults sink.old }
-    ensures sink_fault { IsErrOf result EarlyEnd.SinkFault → Rose (K.faults sink.old) (K.faults sink.new) }
-    ensures quiet_talk { (IsErrOf result EarlyEnd.TalkFault → ⊥) → T.faults talk.new ≡ T.faults talk.old }
-    ensures talk_fault { IsErrOf result EarlyEnd.TalkFault → Rose (T.faults talk.old) (T.faults talk.new) }
+    requires { CanServeOpened T.is_settled origin.now index.now passes.items names first (T.given talk.old) (K.held sink.old) intake.old }
+    ensures served { ServesOpened T.given K.held origin.now index.now passes.items names first talk.old talk.new sink.old sink.new intake.old result }
+    ensures reads { ReadsToEnd result EarlyEnd.TalkFault intake.old.ended talk.old talk.new (T.given talk.new) (T.ended talk.new) }
+    ensures faults { BlamesEach result EarlyEnd.SinkFault EarlyEnd.TalkFault (K.faults sink.old) (K.faults sink.new) (T.faults talk.old) (T.faults talk.new) }
 {
     let seat = Seat {
         rt,
@@ -81,22 +69,11 @@ fn serve_named<R: Wait, N: Named, K: Sink, T: Talk<K>>(
     talk: &mut T,
     sink: &mut K,
 ) -> Result<bool, EarlyEnd>
-    requires named { slice_get N.tables 0 ≡ Some blank.shared.table.shared.table_id }
-    requires passes { blank.shared.table.shared.key.passes ≡ passes_fed 1 }
-    requires zone { IsZone origin.now (entries_of_items items.now) }
-    requires first { 0 < first }
-    requires few { first + length intake.old.bytes ≤ 2 ^ 26 }
-    requires may { intake.old.ended ≡ false → (way : Way)
-        × StartsOn way blank.shared.table.shared.key.chunks origin.now (entries_of_items items.now) first (T.given talk.old) (K.held sink.old) intake.old.bytes × (Fits way → MayTalk T.is_settled way) }
-    ensures served { (way : Way) → StartsOn way blank.shared.table.shared.key.chunks origin.now (entries_of_items items.now) first (T.given talk.old) (K.held sink.old) intake.old.bytes
-        → ServedSo way (T.given talk.old) (T.given talk.new) (K.held sink.old) (K.held sink.new) result }
-    ensures unread { intake.old.ended ≡ true → (talk.new ≡ talk.old) × (IsErrOf result EarlyEnd.TalkFault → ⊥) }
+    requires { CanServeNamed N.tables T.is_settled blank origin.now items.now first (T.given talk.old) (K.held sink.old) intake.old }
+    ensures served { ServesNamed T.given K.held blank origin.now items.now first talk.old talk.new sink.old sink.new intake.old result }
     ensures memory { IsErrOf result EarlyEnd.Memory → Refuses blank.shared.table.shared.key.chunks (entries_of_items items.now) OpenRefusal.Memory }
-    ensures ended { intake.old.ended ≡ false → OnOk result (IsTrue (T.ended talk.new) ⊎ (2 ^ 46 ≤ length (T.given talk.new))) }
-    ensures quiet_sink { (IsErrOf result EarlyEnd.SinkFault → ⊥) → K.faults sink.new ≡ K.faults sink.old }
-    ensures sink_fault { IsErrOf result EarlyEnd.SinkFault → Rose (K.faults sink.old) (K.faults sink.new) }
-    ensures quiet_talk { (IsErrOf result EarlyEnd.TalkFault → ⊥) → T.faults talk.new ≡ T.faults talk.old }
-    ensures talk_fault { IsErrOf result EarlyEnd.TalkFault → Rose (T.faults talk.old) (T.faults talk.new) }
+    ensures reads { ReadsToEnd result EarlyEnd.TalkFault intake.old.ended talk.old talk.new (T.given talk.new) (T.ended talk.new) }
+    ensures faults { BlamesEach result EarlyEnd.SinkFault EarlyEnd.TalkFault (K.faults sink.old) (K.faults sink.new) (T.faults talk.old) (T.faults talk.new) }
 {
     let names = items.len() as u64;
     match open_for_one::<N>(alloc, blank, origin, items) {
@@ -139,16 +116,11 @@ fn live_on<R: Wait, K: Sink, T: Talk<K>>(
     talk: &mut T,
     sink: &mut K,
 ) -> Result<bool, EarlyEnd>
-    requires asked { IfSome asked (λ n. (16 ≤ n) × (n ≤ 4096)) }
-    requires took { (before : List ℕ) × TookZone before (T.given talk.old) (T.ended talk.old) intake.old taken
-        × ((bytes : List ℕ) (held : Held) → IsSettled asked origin.now bytes (K.held sink.old) held → T.is_settled (before ++ bytes) held.taken) }
+    requires { CanLiveOn T.is_settled asked origin.now taken (T.given talk.old) (T.ended talk.old) (K.held sink.old) intake.old }
     ensures ended_so { (before : List ℕ) → TookZone before (T.given talk.old) (T.ended talk.old) intake.old taken
-        → (bytes : List ℕ) × (T.given talk.new ≡ before ++ bytes) × EndedSo asked origin.now bytes (T.ended talk.new) (K.held sink.old) (K.held sink.new) result }
+        → EndsSo asked origin.now before (T.given talk.new) (T.ended talk.new) (K.held sink.old) (K.held sink.new) result }
     ensures ended { OnOk result (IsTrue (T.ended talk.new) ⊎ (2 ^ 46 ≤ length (T.given talk.new))) }
-    ensures quiet_sink { (IsErrOf result EarlyEnd.SinkFault → ⊥) → K.faults sink.new ≡ K.faults sink.old }
-    ensures sink_fault { IsErrOf result EarlyEnd.SinkFault → Rose (K.faults sink.old) (K.faults sink.new) }
-    ensures quiet_talk { (IsErrOf result EarlyEnd.TalkFault → ⊥) → T.faults talk.new ≡ T.faults talk.old }
-    ensures talk_fault { IsErrOf result EarlyEnd.TalkFault → Rose (T.faults talk.old) (T.faults talk.new) }
+    ensures faults { BlamesEach result EarlyEnd.SinkFault EarlyEnd.TalkFault (K.faults sink.old) (K.faults sink.new) (T.faults talk.old) (T.faults talk.new) }
 {
     let first = taken.lines + 1;
     let zone = match zone_in(alloc, &taken.bytes, origin) {
@@ -175,13 +147,10 @@ pub fn live<R: Wait, K: Sink, T: Talk<K>>(
     sink: &mut K,
 ) -> Result<bool, EarlyEnd>
     requires asked { IfSome asked (λ n. (16 ≤ n) × (n ≤ 4096)) }
-    requires may { (bytes : List ℕ) (held : Held) → IsSettled asked origin.now bytes (K.held sink.old) held → T.is_settled (T.given talk.old ++ bytes) held.taken }
-    ensures ended_so { (bytes : List ℕ) × (T.given talk.new ≡ T.given talk.old ++ bytes) × EndedSo asked origin.now bytes (T.ended talk.new) (K.held sink.old) (K.held sink.new) result }
+    requires may { (bytes : List ℕ) (now : Held) → IsSettled asked origin.now bytes (K.held sink.old) now → T.is_settled (T.given talk.old ++ bytes) now.taken }
+    ensures ended_so { EndsSo asked origin.now (T.given talk.old) (T.given talk.new) (T.ended talk.new) (K.held sink.old) (K.held sink.new) result }
     ensures ended { OnOk result (IsTrue (T.ended talk.new) ⊎ (2 ^ 46 ≤ length (T.given talk.new))) }
-    ensures quiet_sink { (IsErrOf result EarlyEnd.SinkFault → ⊥) → K.faults sink.new ≡ K.faults sink.old }
-    ensures sink_fault { IsErrOf result EarlyEnd.SinkFault → Rose (K.faults sink.old) (K.faults sink.new) }
-    ensures quiet_talk { (IsErrOf result EarlyEnd.TalkFault → ⊥) → T.faults talk.new ≡ T.faults talk.old }
-    ensures talk_fault { IsErrOf result EarlyEnd.TalkFault → Rose (T.faults talk.old) (T.faults talk.new) }
+    ensures faults { BlamesEach result EarlyEnd.SinkFault EarlyEnd.TalkFault (K.faults sink.old) (K.faults sink.new) (T.faults talk.old) (T.faults talk.new) }
 {
     let mut intake = Intake::new(alloc)?;
     let taken = take_zone(alloc, &mut intake, talk, sink)?;

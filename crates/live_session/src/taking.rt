@@ -1,7 +1,8 @@
 //! The zone that a session begins with.
-ghost use Rattle.std.specs.Prelude.{◌≡◌, ◌<◌, ◌++◌, [], ℕ, List, false, IfOk, OnOk, IsErrOf};
-ghost use Rattle.live_session.specs.Prelude.{IsUnbroken, Rose};
-ghost use Rattle.live_session.specs.Zones.{EndsZone, IsLongZone, IsWithinZone, IsZoneSoFar, TookZone, WantsLine, WantsMemory};
+ghost use Rattle.std.specs.Prelude.{◌≡◌, ◌++◌, [], ℕ, List, IfOk, OnOk};
+ghost use Rattle.live_session.specs.Prelude.{Blames};
+ghost use Rattle.live_session.specs.Takings.{CanTakeRest, CanTakeZone, StopsLines, StopsZone};
+ghost use Rattle.live_session.specs.Zones.{EndsZone, TookZone};
 
 use crate::zone::{ZoneBytes, take_line, take_lines};
 use outer_io::{Sink, Talk};
@@ -13,14 +14,11 @@ const READS: u64 = 67108864;
 
 // Takes what is left, of which no more comes.
 fn take_rest(zone: &mut ZoneBytes, intake: &mut Intake) -> Result<(), NoMore>
-    requires zone { IsZoneSoFar zone.old }
-    requires rest { IsUnbroken intake.old.bytes }
+    requires { CanTakeRest zone.old intake.old }
     ensures whole { OnOk result (EndsZone zone.new (zone.old.bytes.items ++ intake.old.bytes)) }
     ensures nothing { OnOk result (intake.new.bytes ≡ []) }
     ensures ended { intake.new.ended ≡ intake.old.ended }
-    ensures too_long { IsErrOf result NoMore.TooLong → IsLongZone (zone.old.bytes.items ++ intake.old.bytes) }
-    ensures memory { IsErrOf result NoMore.Memory → WantsLine zone.new.bytes.items intake.new.bytes (zone.old.bytes.items ++ intake.old.bytes) }
-    ensures others { IsErrOf result NoMore.Fault → ⊥ }
+    ensures stops { StopsLines result zone.new intake.new.bytes (zone.old.bytes.items ++ intake.old.bytes) }
 {
     let rest = intake.len();
     if rest == 0 {
@@ -37,16 +35,11 @@ pub fn take_zone<K: Sink, T: Talk<K>>(
     talk: &mut T,
     sink: &K,
 ) -> Result<ZoneBytes, NoMore>
-    requires empty { intake.old.bytes ≡ [] }
-    requires begun { intake.old.ended ≡ false }
-    requires may { (bytes : List ℕ) → IsWithinZone bytes → T.is_settled (T.given talk.old ++ bytes) (K.held sink.now).taken }
+    requires { CanTakeZone T.is_settled intake.old (T.given talk.old) (K.held sink.now).taken }
     ensures gave { (bytes : List ℕ) × (T.given talk.new ≡ T.given talk.old ++ bytes) }
     ensures took { IfOk result (TookZone (T.given talk.old) (T.given talk.new) (T.ended talk.new) intake.new) }
-    ensures within { IsErrOf result NoMore.Fault → (bytes : List ℕ) × (T.given talk.new ≡ T.given talk.old ++ bytes) × IsWithinZone bytes }
-    ensures too_long { IsErrOf result NoMore.TooLong → (bytes : List ℕ) × (T.given talk.new ≡ T.given talk.old ++ bytes) × IsLongZone bytes }
-    ensures memory { IsErrOf result NoMore.Memory → WantsMemory (T.given talk.old) (T.given talk.new) intake.new.bytes }
-    ensures fault { IsErrOf result NoMore.Fault → Rose (T.faults talk.old) (T.faults talk.new) }
-    ensures quiet { (IsErrOf result NoMore.Fault → ⊥) → T.faults talk.new ≡ T.faults talk.old }
+    ensures stops { StopsZone result (T.given talk.old) (T.given talk.new) intake.new.bytes }
+    ensures talk { Blames result NoMore.Fault (T.faults talk.old) (T.faults talk.new) }
 {
     let mut zone = ZoneBytes {
         bytes: Vec::new(alloc),

@@ -1,7 +1,8 @@
 //! The lines of a zone, one by one.
-ghost use Rattle.std.specs.Prelude.{◌≡◌, ◌≤◌, ◌<◌, ◌+◌, ◌++◌, ◌∷◌, ◌^◌, [], ℕ, List, Ok, true, false, length, take, drop, IfOk, OnOk, OnErr, IsErrOf};
-ghost use Rattle.live_session.specs.Prelude.{IsUnbroken, is_cut, lines_of};
-ghost use Rattle.live_session.specs.Zones.{CutOff, HasTaken, IsLongZone, IsZoneSoFar, WantsLine, has_cut};
+ghost use Rattle.std.specs.Prelude.{◌≡◌, ◌≤◌, ◌<◌, ◌++◌, ◌∷◌, ◌^◌, [], ℕ, List, Ok, true, false, length, take, IfOk};
+ghost use Rattle.live_session.specs.Prelude.{is_cut, lines_of};
+ghost use Rattle.live_session.specs.Takings.{CanTakeLine, IsUncut, LetsGo, StopsLine, StopsLines};
+ghost use Rattle.live_session.specs.Zones.{CutOff, HasTaken, IsZoneSoFar};
 
 use session_lines::{Intake, LONGEST, NoMore};
 use zone_text::line_at;
@@ -25,17 +26,10 @@ fn is_cut(line: &[u8]) -> bool
 
 /// Takes the next line, which has so many bytes. Tells whether it is the one behind the zone.
 pub fn take_line(zone: &mut ZoneBytes, intake: &mut Intake, count: usize) -> Result<bool, NoMore>
-    requires some { 0 < count }
-    requires inside { count ≤ length intake.old.bytes }
-    requires one { (text : List ℕ) × (lines_of (take count intake.old.bytes) ≡ text ∷ []) }
-    requires zone { IsZoneSoFar zone.old }
+    requires { CanTakeLine zone.old intake.old count }
     ensures went { IfOk result (HasTaken zone.old zone.new (take count intake.old.bytes)) }
-    ensures rest { OnOk result (intake.new.bytes ≡ drop count intake.old.bytes) }
-    ensures ended { intake.new.ended ≡ intake.old.ended }
-    ensures too_long { IsErrOf result NoMore.TooLong → (2 ^ 24 < length (zone.old.bytes.items ++ take count intake.old.bytes)) × (has_cut (take count intake.old.bytes) ≡ false) }
-    ensures memory { IsErrOf result NoMore.Memory → (length zone.old.bytes.items + count ≤ 2 ^ 24) × (has_cut (take count intake.old.bytes) ≡ false) }
-    ensures kept { OnErr result ((zone.new.bytes.items ≡ zone.old.bytes.items) × (intake.new ≡ intake.old)) }
-    ensures others { IsErrOf result NoMore.Fault → ⊥ }
+    ensures lets_go { LetsGo result intake.old intake.new count }
+    ensures stops { StopsLine result zone.old zone.new intake.old intake.new count }
 {
     if count > LONGEST {
         return Err(NoMore::TooLong);
@@ -56,12 +50,10 @@ pub fn take_line(zone: &mut ZoneBytes, intake: &mut Intake, count: usize) -> Res
 /// Takes the whole lines that are there, up to the one behind the zone. Tells whether that came.
 pub fn take_lines(zone: &mut ZoneBytes, intake: &mut Intake) -> Result<bool, NoMore>
     requires zone { IsZoneSoFar zone.old }
-    ensures not_yet { result ≡ Ok false → IsZoneSoFar zone.new × IsUnbroken intake.new.bytes × (zone.new.bytes.items ++ intake.new.bytes ≡ zone.old.bytes.items ++ intake.old.bytes) }
+    ensures not_yet { result ≡ Ok false → IsUncut zone.new intake.new.bytes (zone.old.bytes.items ++ intake.old.bytes) }
     ensures came { result ≡ Ok true → CutOff zone.new (zone.old.bytes.items ++ intake.old.bytes) intake.new.bytes }
     ensures ended { intake.new.ended ≡ intake.old.ended }
-    ensures too_long { IsErrOf result NoMore.TooLong → IsLongZone (zone.old.bytes.items ++ intake.old.bytes) }
-    ensures memory { IsErrOf result NoMore.Memory → WantsLine zone.new.bytes.items intake.new.bytes (zone.old.bytes.items ++ intake.old.bytes) }
-    ensures others { IsErrOf result NoMore.Fault → ⊥ }
+    ensures stops { StopsLines result zone.new intake.new.bytes (zone.old.bytes.items ++ intake.old.bytes) }
 {
     'lines: while let Some(count) = intake.next_line() {
         let cuts = take_line(zone, intake, count)?;

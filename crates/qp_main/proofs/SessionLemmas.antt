@@ -208,6 +208,10 @@ abbrev IsNoInput : Option (List ℕ) → Type 0
 IsNoInput None = Unit {0}
 IsNoInput (Some bytes) = ⊥
 
+-- an invocation isn't none
+pub some_not_none : (i : Invocation) → Some i ≡ None → ⊥
+some_not_none i e = let h : Some i ≡ None = e in cc
+
 -- all that is left is read before anything is answered
 pub not_lines : (v : Verb) → ((left : Option (List ℕ)) → input_of v left ≡ left) → AnswersLines v → ⊥
 not_lines (Live asked) same a = subst IsNoInput (same (Some [])) tt

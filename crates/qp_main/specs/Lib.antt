@@ -10,4 +10,7 @@ pub mod Saids
 pub mod Opens
 pub mod Heard
 pub mod Sessions
+pub mod Faults
+pub mod Scripts
+pub mod Serving
 pub mod Prelude

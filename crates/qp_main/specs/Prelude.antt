@@ -25,18 +25,22 @@ pub use Rattle.trie_write.specs.Entries.{entries_of_items}
 pub use Rattle.trie_size.specs.Sizes.{IsSizeOf}
 pub use Rattle.job_commands.specs.Calls.{AllHeard}
 pub use Rattle.job_commands.specs.Histories.{IsZone}
+pub use Rattle.job_threads.specs.Ready.{CanRunOn}
 pub use Rattle.zones_threads.specs.Sites.{IsSaid}
 pub use Rattle.qp_main.specs.Due.{Answers, Checks, CutShort, Differs, Due, DueUnder, Dumps, EndsLoad, FedAnswers, GaveFor, IsAnswerDue, IsMade, IsUnwritten}
 pub use Rattle.qp_main.specs.Due.{IsWritten, MayBeShort, RefusesScript, Sized, Sizes, Written, ZonesAnswers, input_of}
 pub use Rattle.qp_main.specs.Due.{is_streamed, refusal_text, script_kind_text, streams, zone_kind_text}
+pub use Rattle.qp_main.specs.Faults.{TellsSink, TellsSource}
 pub use Rattle.qp_main.specs.Heard.{FedJobHeard, HasRun, Heard, HeardInput, JobHeard, ListHeard, WhereRun, ZonesJobHeard}
 pub use Rattle.qp_main.specs.Due.{AnswersLines, IsSession}
 pub use Rattle.qp_main.specs.Sessions.{SaysSession, SessionRan}
 pub use Rattle.qp_main.specs.Invocations.{DueFor, invocation_in}
 pub use Rattle.qp_main.specs.Jobs.{fed_job_on, job_on, zones_job_on}
 pub use Rattle.qp_main.specs.Needs.{AreNeedsOf, chunks_text, needs_text}
-pub use Rattle.qp_main.specs.Opens.{AreAllItems, AreItemsOf}
+pub use Rattle.qp_main.specs.Opens.{AreAllItems, AreItemsOf, CanBeHandedOut, CanHaveTables}
 pub use Rattle.qp_main.specs.Saids.{IsRead, second_said, zone_said}
+pub use Rattle.qp_main.specs.Scripts.{AreOrigins, IsScriptOver, IsText}
+pub use Rattle.qp_main.specs.Serving.{EndsReading, EndsRun, HearsRun, IsInput, IsLoad, RunsSession, ServesDue, ServesLoad, WritesDue}
 pub use Rattle.qp_main.specs.Stops.{IsStop, JobStops, ListStops, ScriptStops, ZoneStops}
 pub use Rattle.qp_main.specs.Tellings.{finished_text}
 pub use Rattle.zone_model.specs.MasterFile.{zone_at}

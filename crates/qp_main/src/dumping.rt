@@ -1,6 +1,6 @@
 //! A zone that is written as a master file.
 ghost use Rattle.std.specs.Prelude.{◌≡◌, Ok, true};
-ghost use Rattle.qp_main.specs.Prelude.{Rose, CanBeDumped, zone_said, CutShort, Dumps, IsWritten, MayBeShort, Written};
+ghost use Rattle.qp_main.specs.Prelude.{CanBeDumped, zone_said, Dumps, ServesDue, TellsSink};
 
 use crate::input::Input;
 use crate::refusal_lines::no_room;
@@ -26,13 +26,8 @@ fn write_zone<K: Sink>(
 ) -> Status
     requires zone { CanBeDumped invocation.now.origin zone.now.pairs }
     requires origin { zone.now.origin ≡ invocation.now.origin }
-    ensures written { IsWritten result
-        → Written (Dumps invocation.now.chunks style invocation.now.origin (Ok zone.now.pairs)) (K.held sink.old) (K.held sink.new) result }
-    ensures cut_short { MayBeShort true result
-        → CutShort (Dumps invocation.now.chunks style invocation.now.origin (Ok zone.now.pairs)) (K.held sink.old) (K.held sink.new) }
-    ensures sink_fault { result ≡ Status.SinkFault → Rose (K.faults sink.old) (K.faults sink.new) }
-    ensures quiet_sink { (result ≡ Status.SinkFault → ⊥) → K.faults sink.new ≡ K.faults sink.old }
-    ensures others { result ≡ Status.SourceFault → ⊥ }
+    ensures due { ServesDue true (Dumps invocation.now.chunks style invocation.now.origin (Ok zone.now.pairs)) (K.held sink.old) (K.held sink.new) result }
+    ensures sink { TellsSink K.faults sink.old sink.new result }
 {
     let Ok(size) = zone_size(alloc, zone) else {
         return Status::NoMemory;
@@ -60,13 +55,9 @@ pub fn dump_input<K: Sink>(
     input: Input,
     sink: &mut K,
 ) -> Status
-    ensures written { IsWritten result
-        → Written (Dumps invocation.now.chunks style invocation.now.origin (zone_said invocation.now.origin input)) (K.held sink.old) (K.held sink.new) result }
-    ensures cut_short { MayBeShort true result
-        → CutShort (Dumps invocation.now.chunks style invocation.now.origin (zone_said invocation.now.origin input)) (K.held sink.old) (K.held sink.new) }
-    ensures sink_fault { result ≡ Status.SinkFault → Rose (K.faults sink.old) (K.faults sink.new) }
-    ensures quiet_sink { (result ≡ Status.SinkFault → ⊥) → K.faults sink.new ≡ K.faults sink.old }
-    ensures others { result ≡ Status.SourceFault → ⊥ }
+    ensures due { ServesDue true (Dumps invocation.now.chunks style invocation.now.origin (zone_said invocation.now.origin input))
+        (K.held sink.old) (K.held sink.new) result }
+    ensures sink { TellsSink K.faults sink.old sink.new result }
 {
     let zone = match input.zone(alloc, &invocation.origin) {
         Ok(zone) => zone,

@@ -1,9 +1,10 @@
 //! An input: the bytes of a zone or of several zones, and those of a script behind them.
 ghost use Rattle.std.specs.Prelude.{◌≡◌, ◌<◌, ◌≤◌, ◌+◌, ◌^◌, List, length, IfOk, IfErr, Ok, vec_len, false};
-ghost use Rattle.qp_main.specs.Prelude.{AllByRecursion, lines_of, second_said, zone_said, IsName, CanBeDumped, InTurn, NeedsNoSnapshot, fed_job_of, job_of};
+ghost use Rattle.qp_main.specs.Prelude.{AllByRecursion, lines_of, second_said, zone_said, CanBeDumped, InTurn, NeedsNoSnapshot, fed_job_of, job_of};
 ghost use Rattle.qp_main.specs.Prelude.{list_of, script_lines, script_of, script_start, zone_lines, job_view, list_view, AllAsked, zones_of};
-ghost use Rattle.qp_main.specs.Prelude.{AreListed, workers_view, IsSaid, RefusesScript, IsRead, IsStop, JobStops, ListStops, ScriptStops, ZoneStops};
+ghost use Rattle.qp_main.specs.Prelude.{AreListed, workers_view, RefusesScript, IsRead, IsStop, JobStops, ListStops, ScriptStops, ZoneStops};
 ghost use Rattle.zones_script.specs.Scripts as over_zones;
+ghost use Rattle.qp_main.specs.Prelude.{AreOrigins, IsScriptOver};
 
 use crate::reading::{job_in, list_in, zone_from, zone_in, zones_in, zones_script_in};
 use crate::refusal_lines::script_refused;
@@ -159,11 +160,9 @@ impl Input {
 
     /// The script over zones of these origins, whose blocks ask for changes of their zones; or what is told in the place of that.
     pub fn script_over(&self, alloc: Global, origins: &[Name]) -> Result<ZonesScript, Stop>
-        requires zones { length origins.now ≤ 16 }
-        requires names { AllByRecursion IsName origins.now }
+        requires { AreOrigins origins.now }
         ensures reads { IfOk result (λ s. over_zones.script_of origins.now (script_start self.now) (script_lines self.now) ≡ Ok (workers_view s)) }
-        ensures few_workers { IfOk result (λ s. length s.workers.items ≤ 16) }
-        ensures said { IfOk result (λ s. AllByRecursion (AllByRecursion (IsSaid origins.now)) (workers_view s)) }
+        ensures script { IfOk result (IsScriptOver origins.now) }
         ensures stops { IfErr result (IsStop (ScriptStops (over_zones.script_of origins.now (script_start self.now) (script_lines self.now)))) }
     {
         match zones_script_in(alloc, self.script_bytes(), self.first_line(), origins) {

@@ -1,6 +1,6 @@
 //! A session, whose lines are answered one by one.
 ghost use Rattle.std.specs.Prelude.{◌≡◌, ◌⊎◌};
-ghost use Rattle.qp_main.specs.Prelude.{Rose, SessionRan};
+ghost use Rattle.qp_main.specs.Prelude.{Rose, SessionRan, TellsSink, TellsSource};
 ghost use Rattle.qp_main.specs.Sessions.{EndsBy};
 
 use crate::refusal_lines::{no_room, zone_refused};
@@ -17,7 +17,9 @@ use std::sync::Wait;
 // Writes the last line of a session that ended early, if it has one, and answers the status.
 fn write_last<K: Sink>(alloc: Global, end: EarlyEnd, sink: &mut K) -> Status
     ensures ends { EndsBy end (K.held sink.old) (K.held sink.new) result }
-    ensures sink_fault { result ≡ Status.SinkFault → ((end ≡ EarlyEnd.SinkFault) × (K.faults sink.new ≡ K.faults sink.old)) ⊎ ((end ≡ EarlyEnd.SinkFault → ⊥) × Rose (K.faults sink.old) (K.faults sink.new)) }
+    ensures sink_fault { result ≡ Status.SinkFault
+        → ((end ≡ EarlyEnd.SinkFault) × (K.faults sink.new ≡ K.faults sink.old))
+        ⊎ ((end ≡ EarlyEnd.SinkFault → ⊥) × Rose (K.faults sink.old) (K.faults sink.new)) }
     ensures quiet_sink { (result ≡ Status.SinkFault → ⊥) → (end ≡ EarlyEnd.SinkFault → ⊥) × (K.faults sink.new ≡ K.faults sink.old) }
     ensures source_fault { result ≡ Status.SourceFault → end ≡ EarlyEnd.TalkFault }
     ensures quiet_source { (result ≡ Status.SourceFault → ⊥) → end ≡ EarlyEnd.TalkFault → ⊥ }
@@ -49,10 +51,8 @@ pub fn serve_session<R: Wait, S: Source, K: Sink>(
     sink: &mut K,
 ) -> Status
     ensures ran { SessionRan asked.chunks origin.now (S.given source.old) (S.given source.new) (S.ended source.new) (K.held sink.old) (K.held sink.new) result }
-    ensures sink_fault { result ≡ Status.SinkFault → Rose (K.faults sink.old) (K.faults sink.new) }
-    ensures quiet_sink { (result ≡ Status.SinkFault → ⊥) → K.faults sink.new ≡ K.faults sink.old }
-    ensures source_fault { result ≡ Status.SourceFault → Rose (S.faults source.old) (S.faults source.new) }
-    ensures quiet_source { (result ≡ Status.SourceFault → ⊥) → S.faults source.new ≡ S.faults source.old }
+    ensures sink { TellsSink K.faults sink.old sink.new result }
+    ensures source { TellsSource S.faults source.old source.new result }
 {
     match live(rt, alloc, origin, asked.chunks, source, sink) {
         Ok(refused) => status_of(refused),

@@ -1,11 +1,12 @@
 //! The program over any source and sink.
-ghost use Rattle.std.specs.Prelude.{◌≡◌, ◌<◌, ◌≤◌, ◌+◌, ◌^◌, ◌++◌, ◌∷◌, [], ℕ, List, length, IfOk, IfErr, OnOk, codes};
-ghost use Rattle.std.specs.Prelude.{Ok, Err, false, Option, Result, IfSome, MatchOption, IsSome, Some, None};
-ghost use Rattle.qp_main.specs.Prelude.{Due, DueFor, GaveFor, Consumes, zone_said, job_of, made_origin, Rose, Grows, GrowsByFront};
-ghost use Rattle.qp_main.specs.Prelude.{load_view, IsUnder, Make, invocation_in, invocation_view, verb_view, IsStop, Answers, Checks, CutShort};
+ghost use Rattle.std.specs.Prelude.{◌≡◌, ◌<◌, ◌∷◌, [], ℕ, List, IfOk, IfErr, OnOk, codes};
+ghost use Rattle.std.specs.Prelude.{Ok, Err, false, Option, Result, IfSome, MatchOption, IsSome, Some};
+ghost use Rattle.qp_main.specs.Prelude.{Due, DueFor, GaveFor, zone_said, job_of, Grows, GrowsByFront};
+ghost use Rattle.qp_main.specs.Prelude.{load_view, IsUnder, invocation_in, invocation_view, verb_view, IsStop, Answers, Checks};
 ghost use Rattle.qp_main.specs.Prelude.{HasRun, Heard, HeardInput, JobHeard, WhereRun};
-ghost use Rattle.qp_main.specs.Prelude.{AnswersLines, IsSession, SaysSession, SessionRan};
-ghost use Rattle.qp_main.specs.Prelude.{DueUnder, EndsLoad, IsAnswerDue, IsMade, IsUnwritten, IsWritten, MayBeShort, Written, input_of, is_streamed, streams};
+ghost use Rattle.qp_main.specs.Prelude.{SaysSession, SessionRan};
+ghost use Rattle.qp_main.specs.Prelude.{DueUnder, EndsLoad, IsAnswerDue, IsUnwritten, IsWritten, Written, input_of, is_streamed};
+ghost use Rattle.qp_main.specs.Prelude.{EndsReading, EndsRun, HearsRun, IsInput, IsLoad, RunsSession, ServesDue, ServesLoad, TellsSink, WritesDue};
 
 use crate::differing::compare_zones;
 use crate::dumping::dump_input;
@@ -83,15 +84,11 @@ fn serve_input<R: Threads + Wait + Sync, K: Sink, G: Gate>(
     sink: &mut K,
     gate: &G,
 ) -> Status
-    requires short { length bytes.items ≤ 2 ^ 24 }
-    requires whole { AnswersLines (verb_view invocation.now.verb) → ⊥ }
-    ensures written { IsWritten result → Written (DueUnder (invocation_view invocation.now) bytes.items) (K.held sink.old) (K.held sink.new) result }
-    ensures cut_short { MayBeShort (is_streamed (verb_view invocation.now.verb)) result
-        → CutShort (DueUnder (invocation_view invocation.now) bytes.items) (K.held sink.old) (K.held sink.new) }
-    ensures sink_fault { result ≡ Status.SinkFault → Rose (K.faults sink.old) (K.faults sink.new) }
-    ensures quiet_sink { (result ≡ Status.SinkFault → ⊥) → K.faults sink.new ≡ K.faults sink.old }
+    requires { IsInput (verb_view invocation.now.verb) bytes.items }
+    ensures due { ServesDue (is_streamed (verb_view invocation.now.verb)) (DueUnder (invocation_view invocation.now) bytes.items)
+        (K.held sink.old) (K.held sink.new) result }
+    ensures sink { TellsSink K.faults sink.old sink.new result }
     ensures unwritten { IsUnwritten (is_streamed (verb_view invocation.now.verb)) result → K.held sink.new ≡ K.held sink.old }
-    ensures others { result ≡ Status.SourceFault → ⊥ }
     ensures heard { HasRun result → HeardInput (G.hears gate.now) (verb_view invocation.now.verb) invocation.now.origin bytes.items }
 {
     let input = Input::of(bytes);
@@ -123,13 +120,9 @@ fn serve_made<R: Threads + Wait + Sync, K: Sink, G: Gate>(
     sink: &mut K,
     gate: &G,
 ) -> Status
-    requires made { verb_view invocation.now.verb ≡ Make (load_view load.now) }
-    requires under { invocation.now.origin ≡ made_origin }
-    ensures written { (left : Option (List ℕ)) → IsWritten result → Written (DueFor invocation.now left) (K.held sink.old) (K.held sink.new) result }
-    ensures cut_short { (left : Option (List ℕ)) → result ≡ Status.SinkFault → CutShort (DueFor invocation.now left) (K.held sink.old) (K.held sink.new) }
-    ensures sink_fault { result ≡ Status.SinkFault → Rose (K.faults sink.old) (K.faults sink.new) }
-    ensures quiet_sink { (result ≡ Status.SinkFault → ⊥) → K.faults sink.new ≡ K.faults sink.old }
-    ensures unwritten { result ≡ Status.NoMemory → K.held sink.new ≡ K.held sink.old }
+    requires { IsLoad (verb_view invocation.now.verb) invocation.now.origin (load_view load.now) }
+    ensures due { ServesLoad (DueFor invocation.now) (K.held sink.old) (K.held sink.new) result }
+    ensures sink { TellsSink K.faults sink.old sink.new result }
     ensures load { EndsLoad result }
     ensures heard { (left : Option (List ℕ)) → HasRun result → Heard (G.hears gate.now) (Some (invocation_view invocation.now)) left }
 {
@@ -149,24 +142,10 @@ fn serve<R: Threads + Wait + Sync, S: Source, K: Sink, G: Gate>(
     gate: &G,
 ) -> Status
     requires { (left : Option (List ℕ)) → input_of (verb_view invocation.now.verb) left ≡ left }
-    ensures written { IsWritten result → Written (DueFor invocation.now (S.left source.old)) (K.held sink.old) (K.held sink.new) result }
-    ensures cut_short { MayBeShort (is_streamed (verb_view invocation.now.verb)) result
-        → CutShort (DueFor invocation.now (S.left source.old)) (K.held sink.old) (K.held sink.new) }
-    ensures given { IsWritten result → GaveFor (Some (invocation_view invocation.now)) (S.given source.old) (S.given source.new) (S.ended source.new)
-        (λ left. Written (DueFor invocation.now left) (K.held sink.old) (K.held sink.new) result) }
-    ensures given_short { MayBeShort (is_streamed (verb_view invocation.now.verb)) result → (K.held sink.new ≡ K.held sink.old → ⊥)
-        → GaveFor (Some (invocation_view invocation.now)) (S.given source.old) (S.given source.new) (S.ended source.new)
-        (λ left. CutShort (DueFor invocation.now left) (K.held sink.old) (K.held sink.new)) }
-    ensures sink_fault { result ≡ Status.SinkFault → Rose (K.faults sink.old) (K.faults sink.new) }
-    ensures quiet_sink { (result ≡ Status.SinkFault → ⊥) → K.faults sink.new ≡ K.faults sink.old }
-    ensures source_fault { result ≡ Status.SourceFault → Rose (S.faults source.old) (S.faults source.new) }
-    ensures quiet_source { (result ≡ Status.SourceFault → ⊥) → S.faults source.new ≡ S.faults source.old }
-    ensures unwritten { IsUnwritten (is_streamed (verb_view invocation.now.verb)) result → K.held sink.new ≡ K.held sink.old }
-    ensures taken { result ≡ Status.TooLong → (bytes : List ℕ) × Consumes (S.left source.old) (S.left source.new) bytes
-        × (S.given source.new ≡ S.given source.old ++ bytes) × (length bytes ≡ 16777217) }
-    ensures words { result ≡ Status.WordsRefused → ⊥ }
-    ensures heard { HasRun result → GaveFor (Some (invocation_view invocation.now)) (S.given source.old) (S.given source.new) (S.ended source.new)
-        (λ left. Heard (G.hears gate.now) (Some (invocation_view invocation.now)) left) }
+    ensures due { WritesDue (Some (invocation_view invocation.now)) S.left S.given S.ended K.held source.old source.new sink.old sink.new result }
+    ensures ends { EndsReading (Some (invocation_view invocation.now)) S.left S.given S.ended S.faults K.held K.faults
+        source.old source.new sink.old sink.new result }
+    ensures heard { HearsRun (G.hears gate.now) (Some (invocation_view invocation.now)) S.given S.ended source.old source.new result }
 {
     let bytes = match read_all(alloc, source, INPUT_LIMIT) {
         Ok(bytes) => bytes,
@@ -189,28 +168,11 @@ fn serve_invocation<R: Threads + Wait + Sync, S: Source, K: Sink, G: Gate>(
     gate: &G,
 ) -> Status
     requires { IsUnder (verb_view invocation.now.verb) invocation.now.origin }
-    ensures written { IsWritten result → Written (DueFor invocation.now (S.left source.old)) (K.held sink.old) (K.held sink.new) result }
-    ensures cut_short { MayBeShort (is_streamed (verb_view invocation.now.verb)) result
-        → CutShort (DueFor invocation.now (S.left source.old)) (K.held sink.old) (K.held sink.new) }
-    ensures given { IsWritten result → GaveFor (Some (invocation_view invocation.now)) (S.given source.old) (S.given source.new) (S.ended source.new)
-        (λ left. Written (DueFor invocation.now left) (K.held sink.old) (K.held sink.new) result) }
-    ensures given_short { MayBeShort (is_streamed (verb_view invocation.now.verb)) result → (K.held sink.new ≡ K.held sink.old → ⊥)
-        → GaveFor (Some (invocation_view invocation.now)) (S.given source.old) (S.given source.new) (S.ended source.new)
-        (λ left. CutShort (DueFor invocation.now left) (K.held sink.old) (K.held sink.new)) }
-    ensures sink_fault { result ≡ Status.SinkFault → Rose (K.faults sink.old) (K.faults sink.new) }
-    ensures quiet_sink { (result ≡ Status.SinkFault → ⊥) → K.faults sink.new ≡ K.faults sink.old }
-    ensures source_fault { result ≡ Status.SourceFault → Rose (S.faults source.old) (S.faults source.new) }
-    ensures quiet_source { (result ≡ Status.SourceFault → ⊥) → S.faults source.new ≡ S.faults source.old }
-    ensures unwritten { (AnswersLines (verb_view invocation.now.verb) → ⊥) → IsUnwritten (is_streamed (verb_view invocation.now.verb)) result → K.held sink.new ≡ K.held sink.old }
-    ensures taken { (AnswersLines (verb_view invocation.now.verb) → ⊥) → result ≡ Status.TooLong → (bytes : List ℕ) × Consumes (S.left source.old) (S.left source.new) bytes
-        × (S.given source.new ≡ S.given source.old ++ bytes) × (length bytes ≡ 16777217) }
-    ensures words { result ≡ Status.WordsRefused → ⊥ }
-    ensures heard { HasRun result → GaveFor (Some (invocation_view invocation.now)) (S.given source.old) (S.given source.new) (S.ended source.new)
-        (λ left. Heard (G.hears gate.now) (Some (invocation_view invocation.now)) left) }
-    ensures made { IsMade (Some (invocation_view invocation.now)) → source.new ≡ source.old }
-    ensures load { IsMade (Some (invocation_view invocation.now)) → EndsLoad result }
-    ensures session { SaysSession (Some (invocation_view invocation.now)) (λ asked origin.
-        SessionRan asked origin (S.given source.old) (S.given source.new) (S.ended source.new) (K.held sink.old) (K.held sink.new) result) }
+    ensures due { WritesDue (Some (invocation_view invocation.now)) S.left S.given S.ended K.held source.old source.new sink.old sink.new result }
+    ensures ends { EndsRun (Some (invocation_view invocation.now)) S.left S.given S.ended S.faults K.held K.faults
+        source.old source.new sink.old sink.new result }
+    ensures heard { HearsRun (G.hears gate.now) (Some (invocation_view invocation.now)) S.given S.ended source.old source.new result }
+    ensures session { RunsSession (Some (invocation_view invocation.now)) S.given S.ended K.held source.old source.new sink.old sink.new result }
 {
     match invocation.verb {
         Verb::Make(load) => serve_made(rt, alloc, invocation, &load, sink, gate),
@@ -244,30 +206,9 @@ pub fn run<R: Threads + Wait + Sync, S: Source, K: Sink, G: Gate>(
     ensures given { IsWritten result → GaveFor (invocation_in words.now) (S.given source.old) (S.given source.new) (S.ended source.new)
         (λ left. Written (Due (invocation_in words.now) left) (K.held sink.old) (K.held sink.new) result) }
 
-    // The sink failed, and has a prefix of what was due; so it has where memory ran out under a dump, which is written while it is
-    // made. Under any status but the sink's no call on it failed.
-    ensures sink_fault { result ≡ Status.SinkFault → Rose (K.faults sink.old) (K.faults sink.new) }
-    ensures quiet_sink { (result ≡ Status.SinkFault → ⊥) → K.faults sink.new ≡ K.faults sink.old }
-    ensures cut_short { MayBeShort (streams (invocation_in words.now)) result
-        → CutShort (Due (invocation_in words.now) (S.left source.old)) (K.held sink.old) (K.held sink.new) }
-    ensures given_short { MayBeShort (streams (invocation_in words.now)) result → (K.held sink.new ≡ K.held sink.old → ⊥)
-        → GaveFor (invocation_in words.now) (S.given source.old) (S.given source.new) (S.ended source.new)
-        (λ left. CutShort (Due (invocation_in words.now) left) (K.held sink.old) (K.held sink.new)) }
-
-    // The source failed, or memory ran out, but neither under a dump nor in a session: nothing was written. Under any status but the
-    // source's no call on it failed.
-    ensures source_fault { result ≡ Status.SourceFault → Rose (S.faults source.old) (S.faults source.new) }
-    ensures quiet_source { (result ≡ Status.SourceFault → ⊥) → S.faults source.new ≡ S.faults source.old }
-    ensures unwritten { (IsSession (invocation_in words.now) → ⊥) → IsUnwritten (streams (invocation_in words.now)) result → K.held sink.new ≡ K.held sink.old }
-
-    // Refused words leave the source as it is, and no other words are told to be so. So does a load, of
-    // which neither the zone nor the script is refused. An input that is too long is read to one byte past the limit.
-    ensures unread { invocation_in words.now ≡ None → source.new ≡ source.old }
-    ensures words { result ≡ Status.WordsRefused → invocation_in words.now ≡ None }
-    ensures made { IsMade (invocation_in words.now) → source.new ≡ source.old }
-    ensures load { IsMade (invocation_in words.now) → EndsLoad result }
-    ensures taken { (IsSession (invocation_in words.now) → ⊥) → result ≡ Status.TooLong → (bytes : List ℕ) × Consumes (S.left source.old) (S.left source.new) bytes
-        × (S.given source.new ≡ S.given source.old ++ bytes) × (length bytes ≡ 16777217) }
+    // What else the status says: of a sink or a source that failed, or where memory ran out; of words that are refused, of a load, and of
+    // an input that is too long.
+    ensures ends { EndsRun (invocation_in words.now) S.left S.given S.ended S.faults K.held K.faults source.old source.new sink.old sink.new result }
 
     // Where commands were run, the gate that is handed in was told of each, by the worker's number and its own.
     ensures heard { HasRun result → GaveFor (invocation_in words.now) (S.given source.old) (S.given source.new) (S.ended source.new)

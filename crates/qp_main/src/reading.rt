@@ -1,7 +1,7 @@
 //! What octets say, read with what is so of all that they may say.
-ghost use Rattle.std.specs.Prelude.{◌≡◌, ◌<◌, ◌≤◌, ◌+◌, ◌^◌, List, length, IfOk, vec_len, false};
+ghost use Rattle.std.specs.Prelude.{◌≡◌, ◌≤◌, ◌^◌, List, length, IfOk, vec_len, false};
 ghost use Rattle.qp_main.specs.Prelude.{AllByRecursion, lines_of, zone_at, zone_of, Reads, CanBeDumped, InTurn, NeedsNoSnapshot, list_of, script_of};
-ghost use Rattle.qp_main.specs.Prelude.{Says, job_view, list_view, AllAsked, IsName, workers_view, zones_of, AreListed, IsRead, IsSaid};
+ghost use Rattle.qp_main.specs.Prelude.{Says, job_view, list_view, AllAsked, workers_view, zones_of, AreListed, IsRead, AreOrigins, IsScriptOver, IsText};
 ghost use Rattle.zones_script.specs.Scripts as over_zones;
 
 use dns_name::Name;
@@ -47,8 +47,7 @@ pub fn job_in(
     first_line: u32,
     origin: &Name,
 ) -> Result<Job, JobRefusal>
-    requires short { length bytes.now ≤ 2 ^ 24 }
-    requires few { first_line + length bytes.now < 2 ^ 32 }
+    requires { IsText first_line bytes.now }
     ensures reads { Says result job_view (script_of origin.now first_line (lines_of bytes.now)) }
     ensures in_turn { IfOk result (λ job. AllByRecursion (InTurn false) (job_view job)) }
     ensures few_workers { IfOk result (λ job. length job.workers.items ≤ 16) }
@@ -65,8 +64,7 @@ pub fn list_in(
     first_line: u32,
     origin: &Name,
 ) -> Result<Vec<Command>, JobRefusal>
-    requires short { length bytes.now ≤ 2 ^ 24 }
-    requires few { first_line + length bytes.now < 2 ^ 32 }
+    requires { IsText first_line bytes.now }
     ensures reads { Says result list_view (list_of origin.now first_line (lines_of bytes.now)) }
     ensures no_snapshots { IfOk result (λ commands. AllByRecursion NeedsNoSnapshot (list_view commands)) }
     ensures few_commands { IfOk result (λ commands. vec_len commands ≤ 10000) }
@@ -93,14 +91,11 @@ pub fn zones_script_in(
     first_line: u32,
     origins: &[Name],
 ) -> Result<ZonesScript, JobRefusal>
-    requires short { length bytes.now ≤ 2 ^ 24 }
+    requires text { IsText first_line bytes.now }
     requires first { 1 ≤ first_line }
-    requires few { first_line + length bytes.now < 2 ^ 32 }
-    requires zones { length origins.now ≤ 16 }
-    requires names { AllByRecursion IsName origins.now }
+    requires origins { AreOrigins origins.now }
     ensures reads { Says result workers_view (over_zones.script_of origins.now first_line (lines_of bytes.now)) }
-    ensures few_workers { IfOk result (λ script. length script.workers.items ≤ 16) }
-    ensures said { IfOk result (λ script. AllByRecursion (AllByRecursion (IsSaid origins.now)) (workers_view script)) }
+    ensures script { IfOk result (IsScriptOver origins.now) }
 {
     read_script(alloc, bytes, first_line, origins)
 }

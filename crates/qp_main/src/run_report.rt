@@ -1,8 +1,8 @@
 //! What is told of a job that is run.
-ghost use Rattle.std.specs.Prelude.{◌≡◌, ◌<◌, ◌≤◌, [], ℕ, IfOk, Ok, false, length, vec_len, if◌then◌else◌};
-ghost use Rattle.qp_main.specs.Prelude.{AllByRecursion, Version, CanBeDumped, InTurn, NeedsNoSnapshot, passes_fed, passes_for, pieces_text};
-ghost use Rattle.qp_main.specs.Prelude.{job_view, list_view, AllAsked, AreItemsOf, IsZone, entries_of_items, fed_job_on, finished_text, job_on};
-ghost use Rattle.qp_main.specs.Prelude.{AllHeard, Answers, FedAnswers, IsAnswerDue, ListHeard, WhereRun};
+ghost use Rattle.std.specs.Prelude.{◌≡◌, ◌<◌, [], ℕ, IfOk, Ok, length, vec_len, if◌then◌else◌};
+ghost use Rattle.qp_main.specs.Prelude.{Version, CanBeDumped, passes_for, pieces_text};
+ghost use Rattle.qp_main.specs.Prelude.{job_view, list_view, AreItemsOf, IsZone, entries_of_items, fed_job_on, finished_text, job_on};
+ghost use Rattle.qp_main.specs.Prelude.{AllHeard, Answers, FedAnswers, IsAnswerDue, ListHeard, WhereRun, CanBeHandedOut, CanRunOn};
 
 use crate::refusal_lines::no_room;
 use crate::status::Status;
@@ -70,10 +70,8 @@ pub fn report_job<R: Threads + Wait + Sync, G: Gate>(
     gate: &G,
 ) -> Result<(Status, Pieces), AllocError>
     requires chunks { blank.shared.table.shared.key.chunks ≡ invocation.now.chunks }
-    requires passes { blank.shared.table.shared.key.passes ≡ passes_for (length job.now.workers.items) }
-    requires zone { IsZone invocation.now.origin (entries_of_items items.now) }
-    requires in_turn { AllByRecursion (InTurn false) (job_view job.now) }
-    requires said { AllByRecursion (AllByRecursion (AllAsked invocation.now.origin)) (job_view job.now) }
+    requires can { CanRunOn invocation.now.origin (entries_of_items items.now) blank.shared.table.shared.key.passes (length job.now.workers.items)
+        (job_view job.now) }
     ensures told { (zone : Version) → AreItemsOf items.now zone → CanBeDumped invocation.now.origin zone
         → IfOk result (IsAnswerDue (Answers telling invocation.now.chunks (Ok (job_on invocation.now.origin zone (job_view job.now))))) }
     ensures heard { IfOk result (IsAnswerDue (WhereRun (AllHeard (G.hears gate.now) 1 (job_view job.now)))) }
@@ -134,13 +132,10 @@ pub fn report_list<R: Threads + Wait + Sync, G: Gate>(
     gate: &G,
 ) -> Result<(Status, Pieces), AllocError>
     requires chunks { blank.shared.table.shared.key.chunks ≡ invocation.now.chunks }
-    requires passes { blank.shared.table.shared.key.passes ≡ passes_fed crew }
-    requires zone { IsZone invocation.now.origin (entries_of_items items.now) }
-    requires crew { (vec_len commands.now ≡ 0 → crew ≡ 0) × (0 < vec_len commands.now → 1 ≤ crew) × (crew ≤ 16) }
-    requires few { vec_len commands.now ≤ 10000 }
-    requires no_snapshots { AllByRecursion NeedsNoSnapshot (list_view commands.now) }
-    requires said { AllByRecursion (AllAsked invocation.now.origin) (list_view commands.now) }
-    ensures told { (zone : Version) (workers : ℕ) → AreItemsOf items.now zone → CanBeDumped invocation.now.origin zone → (0 < vec_len commands.now → workers ≡ crew)
+    requires can { CanBeHandedOut invocation.now.origin (entries_of_items items.now) blank.shared.table.shared.key.passes crew (vec_len commands.now)
+        (list_view commands.now) }
+    ensures told { (zone : Version) (workers : ℕ) → AreItemsOf items.now zone → CanBeDumped invocation.now.origin zone
+        → (0 < vec_len commands.now → workers ≡ crew)
         → IfOk result (IsAnswerDue (FedAnswers workers invocation.now.chunks (Ok (fed_job_on invocation.now.origin zone (list_view commands.now))))) }
     ensures heard { IfOk result (IsAnswerDue (WhereRun (ListHeard (G.hears gate.now) crew (length (list_view commands.now))))) }
 {

@@ -1,7 +1,7 @@
 //! Several zones and a script over them.
-ghost use Rattle.std.specs.Prelude.{◌≡◌, ◌≤◌, All, Ok, IfOk, IfErr, length, map};
-ghost use Rattle.qp_main.specs.Prelude.{AreListed, origins_of, zones_job_of, workers_view, zones_job_on};
-ghost use Rattle.qp_main.specs.Prelude.{ZonesAnswers, AreAllItems, IsAnswerDue, IsRead, IsSaid, IsStop, AllByRecursion, WhereRun, ZonesJobHeard};
+ghost use Rattle.std.specs.Prelude.{◌≡◌, All, Ok, IfOk, IfErr, length, map};
+ghost use Rattle.qp_main.specs.Prelude.{AreListed, origins_of, zones_job_of, workers_view, zones_job_on, CanHaveTables, IsScriptOver};
+ghost use Rattle.qp_main.specs.Prelude.{ZonesAnswers, AreAllItems, IsAnswerDue, IsRead, IsStop, AllByRecursion, WhereRun, ZonesJobHeard};
 ghost use Rattle.zones_threads.specs.Calls.{AllHeard};
 
 use crate::input::Input;
@@ -62,10 +62,7 @@ fn zone_tables(
     passes: u32,
     zones: usize,
 ) -> Result<Vec<Blank<ZoneLaw>>, AllocError>
-    requires enough { 16 ≤ chunks }
-    requires few { chunks ≤ 4096 }
-    requires some_passes { 1 ≤ passes }
-    requires few_passes { passes ≤ 17 }
+    requires { CanHaveTables chunks passes }
     ensures each { IfOk result (λ blanks. length blanks.items ≡ zones) }
     ensures chunks { IfOk result (λ blanks. All (λ s. s.chunks ≡ chunks) (map (λ b. b.shared.table.shared.key) blanks.items)) }
     ensures passes { IfOk result (λ blanks. All (λ s. s.passes ≡ passes) (map (λ b. b.shared.table.shared.key) blanks.items)) }
@@ -88,8 +85,7 @@ fn report_zones<R: Threads + Wait + Sync, G: Gate>(
 ) -> Result<(Status, Pieces), AllocError>
     requires listed { AreListed zones.items }
     requires zones { AllByRecursion IsRead zones.items }
-    requires few_workers { length script.now.workers.items ≤ 16 }
-    requires said { AllByRecursion (AllByRecursion (IsSaid (origins_of zones.items))) (workers_view script.now) }
+    requires script { IsScriptOver (origins_of zones.items) script.now }
     ensures told { IfOk result (IsAnswerDue (ZonesAnswers invocation.now.chunks (Ok (zones_job_on zones.items (workers_view script.now))))) }
     ensures heard { IfOk result (IsAnswerDue (WhereRun (AllHeard (G.hears gate.now) 1 (workers_view script.now)))) }
 {

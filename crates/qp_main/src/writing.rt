@@ -1,6 +1,6 @@
 //! What is due is written.
 ghost use Rattle.std.specs.Prelude.{◌≡◌, OnErr, OnOk};
-ghost use Rattle.qp_main.specs.Prelude.{flat_map, Rose, Grows, GrowsByFront, pieces_text, IsWritten};
+ghost use Rattle.qp_main.specs.Prelude.{flat_map, Rose, Grows, GrowsByFront, pieces_text, IsWritten, TellsSink};
 
 use crate::status::Status;
 use job_report::Pieces;
@@ -10,8 +10,7 @@ use outer_io::{Failed, Sink, write_all};
 pub fn write_due<K: Sink>(sink: &mut K, status: Status, text: &[u8]) -> Status
     requires { IsWritten status }
     ensures whole { IsWritten result → (result ≡ status) × Grows (K.held sink.old) (K.held sink.new) text.now }
-    ensures fault { result ≡ Status.SinkFault → Rose (K.faults sink.old) (K.faults sink.new) }
-    ensures quiet { (result ≡ Status.SinkFault → ⊥) → K.faults sink.new ≡ K.faults sink.old }
+    ensures sink { TellsSink K.faults sink.old sink.new result }
     ensures front { result ≡ Status.SinkFault → GrowsByFront (K.held sink.old) (K.held sink.new) text.now }
     ensures only { (result ≡ Status.SourceFault → ⊥) × (result ≡ Status.NoMemory → ⊥) }
 {
@@ -49,8 +48,7 @@ fn write_pieces<K: Sink>(sink: &mut K, text: &Pieces) -> Result<(), Failed>
 pub fn write_answer<K: Sink>(sink: &mut K, status: Status, text: &Pieces) -> Status
     requires { IsWritten status }
     ensures whole { IsWritten result → (result ≡ status) × Grows (K.held sink.old) (K.held sink.new) (pieces_text text.now) }
-    ensures fault { result ≡ Status.SinkFault → Rose (K.faults sink.old) (K.faults sink.new) }
-    ensures quiet { (result ≡ Status.SinkFault → ⊥) → K.faults sink.new ≡ K.faults sink.old }
+    ensures sink { TellsSink K.faults sink.old sink.new result }
     ensures front { result ≡ Status.SinkFault → GrowsByFront (K.held sink.old) (K.held sink.new) (pieces_text text.now) }
     ensures only { (result ≡ Status.SourceFault → ⊥) × (result ≡ Status.NoMemory → ⊥) }
 {

@@ -1,7 +1,6 @@
 -- The words that this crate's clauses cite, passed on from one place. Declares nothing.
-pub use Rattle.std.specs.Io.KnownBytes.{Consumes}
 pub use Rattle.std.specs.Option.{is_some, option_map}
-pub use Rattle.outer_io.specs.Faults.{Rose}
+pub use Rattle.outer_io.specs.Faults.{Blames}
 pub use Rattle.zone_model.specs.Lines.{lines_of}
 pub use Rattle.zone_text.specs.Tokens.{IsPlaced, token_view}
 pub use Rattle.job_model.specs.Commands.{Command as Asked}

@@ -1,6 +1,7 @@
 //! The bytes of a talk, line by line.
-ghost use Rattle.std.specs.Prelude.{◌≡◌, ◌≤◌, ◌<◌, ◌+◌, ◌^◌, ◌++◌, [], ℕ, List, false, true, Bool, IsTrue, length, take, drop, IfOk, OnOk, IsErrOf, ◌==◌, position};
-ghost use Rattle.session_lines.specs.Prelude.{Consumes, Rose, line_end};
+ghost use Rattle.std.specs.Prelude.{◌≡◌, ◌≤◌, [], false, length, take, drop, IfOk, OnOk, ◌==◌, position};
+ghost use Rattle.session_lines.specs.Prelude.{Blames, line_end};
+ghost use Rattle.session_lines.specs.Taking.{GivesMore, HasTaken, StopsTaking};
 
 use outer_io::{Failed, Sink, Talk};
 use std::alloc::{AllocError, AllocFailed, Global};
@@ -152,17 +153,10 @@ impl Intake {
     /// bytes that the talk gave alone, which are lost then.
     pub fn take<K: Sink, T: Talk<K>>(&mut self, talk: &mut T, sink: &K) -> Result<(), NoMore>
         requires settled { T.is_settled (T.given talk.old) (K.held sink.now).taken }
-        ensures grows { (more : List ℕ) × Consumes (T.left talk.old) (T.left talk.new) more × (T.given talk.new ≡ T.given talk.old ++ more) × (length more ≤ 65536)
-            × OnOk result (self.new.bytes ≡ self.old.bytes ++ more) }
-        ensures ended { OnOk result (self.new.ended ≡ true → self.old.ended ≡ false → IsTrue (T.ended talk.new)) }
-        ensures some { OnOk result (self.new.ended ≡ false → length (T.given talk.old) < length (T.given talk.new)) }
-        ensures short { OnOk result (length self.old.bytes ≤ 2 ^ 24) }
-        ensures too_long { IsErrOf result NoMore.TooLong → (2 ^ 24 < length self.old.bytes) × (self.new ≡ self.old) × (T.given talk.new ≡ T.given talk.old) }
-        ensures memory { IsErrOf result NoMore.Memory
-            → (length self.old.bytes ≤ 2 ^ 24) × (self.new ≡ self.old) × (length (T.given talk.old) < length (T.given talk.new)) }
-        ensures fault { IsErrOf result NoMore.Fault → Rose (T.faults talk.old) (T.faults talk.new) }
-        ensures unmoved { IsErrOf result NoMore.Fault → T.given talk.new ≡ T.given talk.old }
-        ensures quiet { (IsErrOf result NoMore.Fault → ⊥) → T.faults talk.new ≡ T.faults talk.old }
+        ensures grows { GivesMore result (T.left talk.old) (T.left talk.new) (T.given talk.old) (T.given talk.new) self.old self.new }
+        ensures taken { OnOk result (HasTaken self.old self.new (T.given talk.old) (T.given talk.new) (T.ended talk.new)) }
+        ensures stops { StopsTaking result self.old self.new (T.given talk.old) (T.given talk.new) }
+        ensures talk { Blames result NoMore.Fault (T.faults talk.old) (T.faults talk.new) }
     {
         if self.len() > LONGEST {
             return Err(NoMore::TooLong);

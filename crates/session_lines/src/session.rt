@@ -1,6 +1,7 @@
 //! What one line of a session says.
 ghost use Rattle.std.specs.Prelude.{◌≡◌, ◌<◌, ◌≤◌, ◌∷◌, ◌^◌, [], ℕ, true, false, List, length, map, IfOk, IsOk, Some, None, Option};
-ghost use Rattle.session_lines.specs.Prelude.{is_some, lines_of, script_view, first_session, left_open, passed_over, refused_in, script_at, session_line, went_on};
+ghost use Rattle.session_lines.specs.Prelude.{is_some, lines_of, script_view, first_session, left_open};
+ghost use Rattle.session_lines.specs.Prelude.{passed_over, refused_in, script_at, session_line, went_on};
 ghost use Rattle.session_lines.specs.Views.{StepsTo, open_view, session_view};
 ghost use Rattle.session_lines.specs.Prelude.{State, command_view, held_by, is_last_word as ends_line};
 

@@ -4,4 +4,7 @@ pub mod Answering
 pub mod Serving
 pub mod Between
 pub mod Stops
+pub mod Replying
+pub mod Steps
+pub mod Talking
 pub mod Prelude

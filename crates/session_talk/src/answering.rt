@@ -1,9 +1,10 @@
 //! What was answered so far, and what one line more comes to.
-ghost use Rattle.std.specs.Prelude.{◌≡◌, ◌<◌, ◌≤◌, ◌+◌, ◌-◌, ◌++◌, ◌∷◌, ◌^◌, [], ℕ, Bool, List, false, IfOk, OnOk, OnErr, length};
-ghost use Rattle.session_talk.specs.Prelude.{Grows, GrowsByFront, Rose, RunsWell, lines_of, printing, said_view};
-ghost use Rattle.session_talk.specs.Entries.{Entry, Ran, Replied};
-ghost use Rattle.session_talk.specs.Answering.{AnswersLines, IsFed};
+ghost use Rattle.std.specs.Prelude.{◌≡◌, ◌+◌, ◌++◌, [], ℕ, List, IfOk, OnOk, length};
+ghost use Rattle.session_talk.specs.Prelude.{said_view};
+ghost use Rattle.session_talk.specs.Answering.{IsFed};
 ghost use Rattle.session_talk.specs.Between.{CanGoOn, HasAnswered};
+ghost use Rattle.session_talk.specs.Replying.{AnswersSaid, CanBegin, CanReply, GoesOnReplying};
+ghost use Rattle.session_talk.specs.Steps.{CanAnswer, GoesOn, HasPut, PutsAnswers, Writes};
 ghost use Rattle.session_talk.specs.Workers.{Opened};
 
 use crate::worker::Worker;
@@ -34,15 +35,9 @@ fn reply<W: Worker>(
     commands: &[Command],
     said: Said,
 ) -> Result<(), AllocError>
-    requires ready { W.is_ready worker.old }
-    requires few { replies.old.next < 2 ^ 64 - 1 }
-    requires well { (now : Bool) × RunsWell (W.origin worker.old) (W.holds worker.old) now (said_view line commands.now said) }
-    ensures ready { OnOk result (W.is_ready worker.new) }
-    ensures origin { OnOk result (W.origin worker.new ≡ W.origin worker.old) }
-    ensures held { (now : Bool) → RunsWell (W.origin worker.old) (W.holds worker.old) now (said_view line commands.now said) → OnOk result (W.holds worker.new ≡ now) }
-    ensures few { OnOk result (replies.new.next ≤ replies.old.next + 1) }
-    ensures replied { (o : Opened) (entries : List Entry) → Ran (W.has_run worker.old o) entries
-        → OnOk result (Replied (W.has_run worker.new o) entries (said_view line commands.now said) (printing replies.old) (printing replies.new)) }
+    requires { CanReply W.is_ready W.origin W.holds worker.old replies.old (said_view line commands.now said) }
+    ensures goes_on { OnOk result (GoesOnReplying W.is_ready W.origin worker.old worker.new replies.old replies.new) }
+    ensures answers { AnswersSaid W.origin W.holds W.has_run result worker.old worker.new (said_view line commands.now said) replies.old replies.new }
 {
     match said {
         Said::Nothing => Ok(()),
@@ -70,10 +65,7 @@ pub fn begin<W: Worker>(
     first: u64,
     names: u64,
 ) -> Result<Answering<'_, W>, AllocError>
-    requires first { 0 < first }
-    requires ready { W.is_ready worker }
-    requires same { W.origin worker ≡ origin.now }
-    requires free { W.holds worker ≡ false }
+    requires { CanBegin W.is_ready W.origin W.holds worker origin.now first }
     ensures sound { IfOk result (λ a. CanGoOn W.is_ready W.origin W.holds a) }
     ensures begun { IfOk result (λ a. (a.origin.now ≡ origin.now) × (a.lines + 1 ≡ first)) }
     ensures so_far { (o : Opened) → o.origin ≡ origin.now → length o.zone ≡ names → W.has_run worker o [] []
@@ -96,14 +88,8 @@ pub fn begin<W: Worker>(
 impl<W: Worker> Answering<'_, W> {
     /// Answers a line, which has its line feed unless it is the last.
     pub fn answer(&mut self, line: &[u8]) -> Result<(), AllocError>
-        requires sound { CanGoOn W.is_ready W.origin W.holds self.old }
-        requires few { self.old.lines < 2 ^ 63 }
-        requires some { 0 < length line.now }
-        requires short { length line.now ≤ 2 ^ 24 }
-        requires one { (text : List ℕ) × (lines_of line.now ≡ text ∷ []) }
-        ensures sound { OnOk result (CanGoOn W.is_ready W.origin W.holds self.new) }
-        ensures lines { OnOk result (self.new.lines ≡ self.old.lines + 1) }
-        ensures origin { OnOk result (self.new.origin ≡ self.old.origin) }
+        requires { CanAnswer W.is_ready W.origin W.holds self.old line.now }
+        ensures goes_on { OnOk result (GoesOn W.is_ready W.origin W.holds self.old self.new (self.old.lines + 1)) }
         ensures so_far { (o : Opened) (first : ℕ) (done written : List ℕ) → o.origin ≡ self.old.origin.now → IsFed done
             → HasAnswered W.has_run self.old o first done written
             → OnOk result (HasAnswered W.has_run self.new o first (done ++ line.now) written) }
@@ -124,20 +110,9 @@ impl<W: Worker> Answering<'_, W> {
     /// Writes what is to be written.
     pub fn put<K: Sink>(&mut self, sink: &mut K) -> Result<(), Failed>
         requires sound { CanGoOn W.is_ready W.origin W.holds self.old }
-        ensures sound { OnOk result (CanGoOn W.is_ready W.origin W.holds self.new) }
-        ensures lines { self.new.lines ≡ self.old.lines }
-        ensures origin { self.new.origin ≡ self.old.origin }
-        ensures nothing { OnOk result (self.new.replies.text.items ≡ []) }
-        ensures ok { OnOk result (Grows (K.held sink.old) (K.held sink.new) self.old.replies.text.items) }
-        ensures err { OnErr result (GrowsByFront (K.held sink.old) (K.held sink.new) self.old.replies.text.items) }
-        ensures failed { OnErr result (Rose (K.faults sink.old) (K.faults sink.new)) }
-        ensures quiet { OnOk result (K.faults sink.new ≡ K.faults sink.old) }
-        ensures answers { (o : Opened) (first : ℕ) (done written : List ℕ)
-            → HasAnswered W.has_run self.old o first done written
-            → AnswersLines o first done (written ++ self.old.replies.text.items) }
-        ensures so_far { (o : Opened) (first : ℕ) (done written : List ℕ)
-            → HasAnswered W.has_run self.old o first done written
-            → OnOk result (HasAnswered W.has_run self.new o first done (written ++ self.old.replies.text.items)) }
+        ensures goes_on { HasPut W.is_ready W.origin W.holds result self.old self.new }
+        ensures writes { Writes result self.old.replies.text.items (K.held sink.old) (K.held sink.new) (K.faults sink.old) (K.faults sink.new) }
+        ensures puts { PutsAnswers W.has_run result self.old self.new }
     {
         self.worker.tell();
         write_all(sink, &self.replies.text)?;

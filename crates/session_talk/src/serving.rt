@@ -1,9 +1,11 @@
 //! The loop of a session: what is due for all lines that were taken is written before more are asked for.
-ghost use Rattle.std.specs.Prelude.{◌≡◌, ◌<◌, ◌≤◌, ◌+◌, ◌^◌, ℕ, true, false, Ok, Err, List, Some, IsTrue, IfOk, IsErrOf, OnOk, OnErr, length};
-ghost use Rattle.session_talk.specs.Prelude.{IsUnbroken, NextIsShort, Rose, line_end, printing, session_view};
-ghost use Rattle.session_talk.specs.Answering.{Way};
-ghost use Rattle.session_talk.specs.Between.{CanGoOn, IsAtWork, IsThrough, MayGoOn};
-ghost use Rattle.session_talk.specs.Serving.{Finished, IsTooLong, LeftOpen, Settled, Stands};
+ghost use Rattle.std.specs.Prelude.{◌≡◌, ◌≤◌, ◌+◌, ◌^◌, Err, IsErrOf, OnErr, OnOk, length};
+ghost use Rattle.session_talk.specs.Prelude.{Blames, Rose, printing, session_view};
+ghost use Rattle.session_talk.specs.Between.{CanGoOn, MayGoOn};
+ghost use Rattle.session_talk.specs.Serving.{LeftOpen};
+ghost use Rattle.session_talk.specs.Steps.{AnswersDue, AnswersNext, AnswersWhole, CanAnswerLines, CanAnswerNext, CanFinish, EndsBehind, EndsThere};
+ghost use Rattle.session_talk.specs.Steps.{GoesOn, GoesOnBehind, StaysAtWork, TakesLines, TakesNext};
+ghost use Rattle.session_talk.specs.Talking.{CanTurn, HasTurned, ServesOn, TellsTurn};
 
 use crate::answering::Answering;
 use crate::worker::Worker;
@@ -65,15 +67,10 @@ const LONG: usize = 65536;
 // Writes what is to be written where that is much.
 fn flush<W: Worker, K: Sink>(answering: &mut Answering<'_, W>, sink: &mut K) -> Result<(), Stop>
     requires { CanGoOn W.is_ready W.origin W.holds answering.old }
-    ensures sound { OnOk result (CanGoOn W.is_ready W.origin W.holds answering.new) }
-    ensures lines { OnOk result (answering.new.lines ≡ answering.old.lines) }
-    ensures origin { OnOk result (answering.new.origin ≡ answering.old.origin) }
+    ensures goes_on { OnOk result (GoesOn W.is_ready W.origin W.holds answering.old answering.new answering.old.lines) }
     ensures quiet { (IsErrOf result Stop.Sink → ⊥) → K.faults sink.new ≡ K.faults sink.old }
     ensures failed { OnErr result ((result ≡ Err Stop.Sink) × Rose (K.faults sink.old) (K.faults sink.new)) }
-    ensures ok { (way : Way) (given pending : List ℕ) → IsAtWork W.has_run answering.old way given (K.held sink.old) pending
-        → OnOk result (IsAtWork W.has_run answering.new way given (K.held sink.new) pending) }
-    ensures stands { (way : Way) (given pending : List ℕ) → IsAtWork W.has_run answering.old way given (K.held sink.old) pending
-        → Stands way given (K.held sink.old) → Stands way given (K.held sink.new) }
+    ensures stays { StaysAtWork W.has_run result answering.old answering.new (K.held sink.old) (K.held sink.new) }
 {
     if answering.replies.text.len() < LONG {
         return Ok(());
@@ -89,25 +86,11 @@ fn answer_next<W: Worker, K: Sink>(
     count: usize,
     sink: &mut K,
 ) -> Result<(), Stop>
-    requires sound { CanGoOn W.is_ready W.origin W.holds answering.old }
-    requires few { answering.old.lines < 2 ^ 63 }
-    requires found { line_end intake.old.bytes ≡ Some count }
-    requires short { count ≤ 2 ^ 24 }
-    ensures sound { OnOk result (CanGoOn W.is_ready W.origin W.holds answering.new) }
-    ensures lines { OnOk result (answering.new.lines ≡ answering.old.lines + 1) }
-    ensures origin { OnOk result (answering.new.origin ≡ answering.old.origin) }
-    ensures rest { OnOk result (length intake.new.bytes < length intake.old.bytes) }
-    ensures ended { intake.new.ended ≡ intake.old.ended }
-    ensures quiet { (IsErrOf result Stop.Sink → ⊥) → K.faults sink.new ≡ K.faults sink.old }
-    ensures failed { IsErrOf result Stop.Sink → Rose (K.faults sink.old) (K.faults sink.new) }
-    ensures others { (IsErrOf result Stop.Fault → ⊥) × (IsErrOf result Stop.TooLong → ⊥) }
-    ensures kept { IsErrOf result Stop.Memory → intake.new ≡ intake.old }
-    ensures ok { (way : Way) (given : List ℕ) → way.opened.origin ≡ answering.old.origin.now
-        → IsAtWork W.has_run answering.old way given (K.held sink.old) intake.old.bytes
-        → OnOk result (IsAtWork W.has_run answering.new way given (K.held sink.new) intake.new.bytes) }
-    ensures stands { (way : Way) (given : List ℕ) → way.opened.origin ≡ answering.old.origin.now
-        → IsAtWork W.has_run answering.old way given (K.held sink.old) intake.old.bytes → Stands way given (K.held sink.old)
-        → Stands way given (K.held sink.new) }
+    requires { CanAnswerNext W.is_ready W.origin W.holds answering.old intake.old count }
+    ensures goes_on { OnOk result (GoesOn W.is_ready W.origin W.holds answering.old answering.new (answering.old.lines + 1)) }
+    ensures takes { TakesNext result intake.old intake.new }
+    ensures sink { Blames result Stop.Sink (K.faults sink.old) (K.faults sink.new) }
+    ensures answers { AnswersNext W.has_run result answering.old answering.new (K.held sink.old) (K.held sink.new) intake.old intake.new }
 {
     answering.answer(intake.front(count))?;
     intake.let_go(count);
@@ -120,25 +103,11 @@ fn answer_lines<W: Worker, K: Sink>(
     intake: &mut Intake,
     sink: &mut K,
 ) -> Result<(), Stop>
-    requires sound { CanGoOn W.is_ready W.origin W.holds answering.old }
-    requires few { answering.old.lines + length intake.old.bytes < 2 ^ 63 }
-    ensures sound { OnOk result (CanGoOn W.is_ready W.origin W.holds answering.new) }
-    ensures few { OnOk result (answering.new.lines + length intake.new.bytes ≤ answering.old.lines + length intake.old.bytes) }
-    ensures origin { OnOk result (answering.new.origin ≡ answering.old.origin) }
-    ensures rest { OnOk result (IsUnbroken intake.new.bytes) }
-    ensures ended { intake.new.ended ≡ intake.old.ended }
-    ensures quiet { (IsErrOf result Stop.Sink → ⊥) → K.faults sink.new ≡ K.faults sink.old }
-    ensures failed { IsErrOf result Stop.Sink → Rose (K.faults sink.old) (K.faults sink.new) }
-    ensures others { IsErrOf result Stop.Fault → ⊥ }
-    ensures memory { IsErrOf result Stop.Memory → NextIsShort intake.new.bytes }
-    ensures ok { (way : Way) (given : List ℕ) → way.opened.origin ≡ answering.old.origin.now
-        → IsAtWork W.has_run answering.old way given (K.held sink.old) intake.old.bytes
-        → OnOk result (IsAtWork W.has_run answering.new way given (K.held sink.new) intake.new.bytes) }
-    ensures stands { (way : Way) (given : List ℕ) → way.opened.origin ≡ answering.old.origin.now
-        → IsAtWork W.has_run answering.old way given (K.held sink.old) intake.old.bytes → Stands way given (K.held sink.old)
-        → Stands way given (K.held sink.new) }
-    ensures too_long { (way : Way) (given : List ℕ) → way.opened.origin ≡ answering.old.origin.now
-        → IsAtWork W.has_run answering.old way given (K.held sink.old) intake.old.bytes → IsErrOf result Stop.TooLong → IsTooLong way given (K.held sink.new) }
+    requires { CanAnswerLines W.is_ready W.origin W.holds answering.old intake.old }
+    ensures goes_on { OnOk result (GoesOnBehind W.is_ready W.origin W.holds answering.old answering.new intake.old intake.new) }
+    ensures takes { TakesLines result intake.old intake.new }
+    ensures sink { Blames result Stop.Sink (K.faults sink.old) (K.faults sink.new) }
+    ensures answers { AnswersWhole W.has_run result answering.old answering.new (K.held sink.old) (K.held sink.new) intake.old intake.new }
 {
     'lines: while let Some(count) = intake.next_line() {
         if count > LONGEST {
@@ -163,13 +132,9 @@ fn push_left_open(session: &Session, replies: &mut Replies) -> Result<(), AllocE
 // Writes what is due behind the last line.
 fn end<W: Worker, K: Sink>(answering: Answering<'_, W>, sink: &mut K) -> Result<bool, Stop>
     requires { W.is_ready answering.worker }
-    ensures quiet { (IsErrOf result Stop.Sink → ⊥) → K.faults sink.new ≡ K.faults sink.old }
-    ensures failed { IsErrOf result Stop.Sink → Rose (K.faults sink.old) (K.faults sink.new) }
+    ensures sink { Blames result Stop.Sink (K.faults sink.old) (K.faults sink.new) }
     ensures others { (IsErrOf result Stop.Fault → ⊥) × (IsErrOf result Stop.TooLong → ⊥) }
-    ensures ok { (way : Way) (given : List ℕ) → IsThrough W.has_run answering.entry way given (K.held sink.old)
-        → IfOk result (λ refused. Finished way refused given (K.held sink.new)) }
-    ensures stands { (way : Way) (given : List ℕ) → IsThrough W.has_run answering.entry way given (K.held sink.old)
-        → Stands way given (K.held sink.old) → OnErr result (Stands way given (K.held sink.new)) }
+    ensures ends { EndsThere W.has_run result answering.entry (K.held sink.old) (K.held sink.new) }
 {
     let Answering {
         alloc: _,
@@ -193,22 +158,11 @@ pub fn finish<W: Worker, K: Sink>(
     intake: &Intake,
     sink: &mut K,
 ) -> Result<bool, Stop>
-    requires sound { CanGoOn W.is_ready W.origin W.holds answering }
-    requires few { answering.lines < 2 ^ 63 }
-    requires rest { IsUnbroken intake.now.bytes }
-    ensures quiet { (IsErrOf result Stop.Sink → ⊥) → K.faults sink.new ≡ K.faults sink.old }
-    ensures failed { IsErrOf result Stop.Sink → Rose (K.faults sink.old) (K.faults sink.new) }
+    requires { CanFinish W.is_ready W.origin W.holds answering intake.now }
+    ensures sink { Blames result Stop.Sink (K.faults sink.old) (K.faults sink.new) }
     ensures others { IsErrOf result Stop.Fault → ⊥ }
     ensures memory { IsErrOf result Stop.Memory → length intake.now.bytes ≤ 2 ^ 24 }
-    ensures ok { (way : Way) (given : List ℕ) → way.opened.origin ≡ answering.entry.origin.now
-        → IsAtWork W.has_run answering.entry way given (K.held sink.old) intake.now.bytes
-        → IfOk result (λ refused. Finished way refused given (K.held sink.new)) }
-    ensures stands { (way : Way) (given : List ℕ) → way.opened.origin ≡ answering.entry.origin.now
-        → IsAtWork W.has_run answering.entry way given (K.held sink.old) intake.now.bytes
-        → Stands way given (K.held sink.old) → OnErr result (Stands way given (K.held sink.new)) }
-    ensures too_long { (way : Way) (given : List ℕ) → way.opened.origin ≡ answering.entry.origin.now
-        → IsAtWork W.has_run answering.entry way given (K.held sink.old) intake.now.bytes → IsErrOf result Stop.TooLong
-        → IsTooLong way given (K.held sink.new) }
+    ensures ends { EndsBehind W.has_run result answering.entry (K.held sink.old) (K.held sink.new) intake.now }
 {
     let rest = intake.len();
     let mut answering = answering;
@@ -229,30 +183,11 @@ pub fn answer_due<W: Worker, K: Sink>(
     intake: &mut Intake,
     sink: &mut K,
 ) -> Result<(), Stop>
-    requires sound { CanGoOn W.is_ready W.origin W.holds answering.old }
-    requires few { answering.old.lines + length intake.old.bytes < 2 ^ 63 }
-    ensures sound { OnOk result (CanGoOn W.is_ready W.origin W.holds answering.new) }
-    ensures few { OnOk result (answering.new.lines + length intake.new.bytes ≤ answering.old.lines + length intake.old.bytes) }
-    ensures origin { OnOk result (answering.new.origin ≡ answering.old.origin) }
-    ensures rest { OnOk result (IsUnbroken intake.new.bytes) }
-    ensures ended { intake.new.ended ≡ intake.old.ended }
-    ensures quiet { (IsErrOf result Stop.Sink → ⊥) → K.faults sink.new ≡ K.faults sink.old }
-    ensures failed { IsErrOf result Stop.Sink → Rose (K.faults sink.old) (K.faults sink.new) }
-    ensures others { IsErrOf result Stop.Fault → ⊥ }
-    ensures memory { IsErrOf result Stop.Memory → NextIsShort intake.new.bytes }
-    ensures ok { (way : Way) (given : List ℕ) → way.opened.origin ≡ answering.old.origin.now
-        → IsAtWork W.has_run answering.old way given (K.held sink.old) intake.old.bytes
-        → OnOk result (IsAtWork W.has_run answering.new way given (K.held sink.new) intake.new.bytes) }
-    ensures settled { (way : Way) (given : List ℕ) → way.opened.origin ≡ answering.old.origin.now
-        → IsAtWork W.has_run answering.old way given (K.held sink.old) intake.old.bytes → OnOk result (Settled way given (K.held sink.new)) }
-    ensures long { (way : Way) (given : List ℕ) → way.opened.origin ≡ answering.old.origin.now
-        → IsAtWork W.has_run answering.old way given (K.held sink.old) intake.old.bytes
-        → OnOk result (2 ^ 24 < length intake.new.bytes → IsTooLong way given (K.held sink.new)) }
-    ensures stands { (way : Way) (given : List ℕ) → way.opened.origin ≡ answering.old.origin.now
-        → IsAtWork W.has_run answering.old way given (K.held sink.old) intake.old.bytes → Stands way given (K.held sink.old)
-        → Stands way given (K.held sink.new) }
-    ensures too_long { (way : Way) (given : List ℕ) → way.opened.origin ≡ answering.old.origin.now
-        → IsAtWork W.has_run answering.old way given (K.held sink.old) intake.old.bytes → IsErrOf result Stop.TooLong → IsTooLong way given (K.held sink.new) }
+    requires { CanAnswerLines W.is_ready W.origin W.holds answering.old intake.old }
+    ensures goes_on { OnOk result (GoesOnBehind W.is_ready W.origin W.holds answering.old answering.new intake.old intake.new) }
+    ensures takes { TakesLines result intake.old intake.new }
+    ensures sink { Blames result Stop.Sink (K.faults sink.old) (K.faults sink.new) }
+    ensures answers { AnswersDue W.has_run result answering.old answering.new (K.held sink.old) (K.held sink.new) intake.old intake.new }
 {
     answer_lines(answering, intake, sink)?;
     answering.put(sink)?;
@@ -267,32 +202,11 @@ pub fn turn<W: Worker, K: Sink, T: Talk<K>>(
     talk: &mut T,
     sink: &mut K,
 ) -> Result<bool, Stop>
-    requires sound { CanGoOn W.is_ready W.origin W.holds answering.old }
-    requires few { answering.old.lines + length intake.old.bytes < 2 ^ 63 }
-    requires may { MayGoOn W.has_run T.is_settled answering.old (T.given talk.old) (K.held sink.old) intake.old.bytes }
-    ensures sound { OnOk result (CanGoOn W.is_ready W.origin W.holds answering.new) }
-    ensures few { OnOk result (answering.new.lines + length intake.new.bytes ≤ answering.old.lines + length intake.old.bytes + 65536) }
-    ensures origin { OnOk result (answering.new.origin ≡ answering.old.origin) }
+    requires { CanTurn W.is_ready W.origin W.holds W.has_run T.is_settled answering.old (T.given talk.old) (K.held sink.old) intake.old }
+    ensures goes_on { OnOk result (HasTurned W.is_ready W.origin W.holds answering.old answering.new intake.old intake.new) }
     ensures may { OnOk result (MayGoOn W.has_run T.is_settled answering.new (T.given talk.new) (K.held sink.new) intake.new.bytes) }
-    ensures over { result ≡ Ok false → IsUnbroken intake.new.bytes × (intake.old.ended ≡ true) × (T.ended talk.new ≡ T.ended talk.old) }
-    ensures more { result ≡ Ok true → intake.new.ended ≡ false → length (T.given talk.old) < length (T.given talk.new) }
-    ensures begun { result ≡ Ok true → intake.old.ended ≡ false }
-    ensures ended { OnOk result (intake.old.ended ≡ false → intake.new.ended ≡ true → IsTrue (T.ended talk.new)) }
-    ensures quiet_sink { (IsErrOf result Stop.Sink → ⊥) → K.faults sink.new ≡ K.faults sink.old }
-    ensures sink_fault { IsErrOf result Stop.Sink → Rose (K.faults sink.old) (K.faults sink.new) }
-    ensures quiet_talk { (IsErrOf result Stop.Fault → ⊥) → T.faults talk.new ≡ T.faults talk.old }
-    ensures talk_fault { IsErrOf result Stop.Fault → Rose (T.faults talk.old) (T.faults talk.new) }
-    ensures memory { IsErrOf result Stop.Memory → NextIsShort intake.new.bytes }
-    ensures ok { (way : Way) → way.opened.origin ≡ answering.old.origin.now
-        → IsAtWork W.has_run answering.old way (T.given talk.old) (K.held sink.old) intake.old.bytes
-        → OnOk result (IsAtWork W.has_run answering.new way (T.given talk.new) (K.held sink.new) intake.new.bytes) }
-    ensures stands { (way : Way) → way.opened.origin ≡ answering.old.origin.now
-        → IsAtWork W.has_run answering.old way (T.given talk.old) (K.held sink.old) intake.old.bytes
-        → Stands way (T.given talk.old) (K.held sink.old) → Stands way (T.given talk.new) (K.held sink.new) }
-    ensures settled { IsErrOf result Stop.Fault → (way : Way) → way.opened.origin ≡ answering.old.origin.now
-        → IsAtWork W.has_run answering.old way (T.given talk.old) (K.held sink.old) intake.old.bytes → Settled way (T.given talk.new) (K.held sink.new) }
-    ensures too_long { IsErrOf result Stop.TooLong → (way : Way) → way.opened.origin ≡ answering.old.origin.now
-        → IsAtWork W.has_run answering.old way (T.given talk.old) (K.held sink.old) intake.old.bytes → IsTooLong way (T.given talk.new) (K.held sink.new) }
+    ensures told { TellsTurn T.given T.ended T.faults K.faults result intake.old intake.new talk.old talk.new sink.old sink.new }
+    ensures serves { ServesOn W.has_run T.given K.held result answering.old answering.new talk.old talk.new sink.old sink.new intake.old intake.new }
 {
     answer_due(answering, intake, sink)?;
     if intake.has_ended() {

@@ -1,9 +1,8 @@
 //! A session from its first line to its last.
-ghost use Rattle.std.specs.Prelude.{◌≡◌, ◌⊎◌, ◌<◌, ◌≤◌, ◌+◌, ◌^◌, true, false, ℕ, List, IsTrue, IsErrOf, IfOk, OnErr, OnOk, length};
-ghost use Rattle.session_talk.specs.Prelude.{NextIsShort, Rose};
-ghost use Rattle.session_talk.specs.Answering.{Way};
-ghost use Rattle.session_talk.specs.Between.{CanGoOn, IsAtWork, MayGoOn};
-ghost use Rattle.session_talk.specs.Serving.{BeginsAt, Finished, IsTooLong, MayTalk, Settled, Stands};
+ghost use Rattle.std.specs.Prelude.{◌≡◌, ◌⊎◌, IsErrOf};
+ghost use Rattle.session_talk.specs.Prelude.{Blames, BlamesEach, NextIsShort};
+ghost use Rattle.session_talk.specs.Steps.{CanAnswerLines, EndsBehind};
+ghost use Rattle.session_talk.specs.Talking.{CanReadOn, CanServe, ReadsToEnd, Serves, ServesToEnd};
 
 use crate::answering::{Answering, begin};
 use crate::reads::serve_lines;
@@ -20,21 +19,11 @@ fn end_session<W: Worker, K: Sink>(
     intake: &mut Intake,
     sink: &mut K,
 ) -> Result<bool, Stop>
-    requires sound { CanGoOn W.is_ready W.origin W.holds answering }
-    requires few { answering.lines + length intake.old.bytes < 2 ^ 63 }
-    ensures quiet { (IsErrOf result Stop.Sink → ⊥) → K.faults sink.new ≡ K.faults sink.old }
-    ensures failed { IsErrOf result Stop.Sink → Rose (K.faults sink.old) (K.faults sink.new) }
+    requires { CanAnswerLines W.is_ready W.origin W.holds answering intake.old }
+    ensures sink { Blames result Stop.Sink (K.faults sink.old) (K.faults sink.new) }
     ensures others { IsErrOf result Stop.Fault → ⊥ }
     ensures memory { IsErrOf result Stop.Memory → NextIsShort intake.new.bytes }
-    ensures ok { (way : Way) (given : List ℕ) → way.opened.origin ≡ answering.entry.origin.now
-        → IsAtWork W.has_run answering.entry way given (K.held sink.old) intake.old.bytes
-        → IfOk result (λ refused. Finished way refused given (K.held sink.new)) }
-    ensures stands { (way : Way) (given : List ℕ) → way.opened.origin ≡ answering.entry.origin.now
-        → IsAtWork W.has_run answering.entry way given (K.held sink.old) intake.old.bytes
-        → Stands way given (K.held sink.old) → OnErr result (Stands way given (K.held sink.new)) }
-    ensures too_long { (way : Way) (given : List ℕ) → way.opened.origin ≡ answering.entry.origin.now
-        → IsAtWork W.has_run answering.entry way given (K.held sink.old) intake.old.bytes → IsErrOf result Stop.TooLong
-        → IsTooLong way given (K.held sink.new) }
+    ensures ends { EndsBehind W.has_run result answering.entry (K.held sink.old) (K.held sink.new) intake.old }
 {
     let mut answering = answering;
     answer_due(&mut answering, intake, sink)?;
@@ -48,26 +37,11 @@ fn serve_begun<W: Worker, K: Sink, T: Talk<K>>(
     talk: &mut T,
     sink: &mut K,
 ) -> Result<bool, Stop>
-    requires sound { CanGoOn W.is_ready W.origin W.holds answering }
-    requires few { answering.lines + length intake.old.bytes ≤ 2 ^ 26 }
-    requires may { intake.old.ended ≡ false → MayGoOn W.has_run T.is_settled answering (T.given talk.old) (K.held sink.old) intake.old.bytes }
-    ensures quiet_sink { (IsErrOf result Stop.Sink → ⊥) → K.faults sink.new ≡ K.faults sink.old }
-    ensures sink_fault { IsErrOf result Stop.Sink → Rose (K.faults sink.old) (K.faults sink.new) }
-    ensures quiet_talk { (IsErrOf result Stop.Fault → ⊥) → T.faults talk.new ≡ T.faults talk.old }
-    ensures talk_fault { IsErrOf result Stop.Fault → Rose (T.faults talk.old) (T.faults talk.new) }
+    requires { CanReadOn W.is_ready W.origin W.holds W.has_run T.is_settled answering (T.given talk.old) (K.held sink.old) intake.old }
+    ensures faults { BlamesEach result Stop.Sink Stop.Fault (K.faults sink.old) (K.faults sink.new) (T.faults talk.old) (T.faults talk.new) }
     ensures memory { IsErrOf result Stop.Memory → NextIsShort intake.new.bytes }
-    ensures unread { intake.old.ended ≡ true → (talk.new ≡ talk.old) × (IsErrOf result Stop.Fault → ⊥) }
-    ensures ended { intake.old.ended ≡ false → OnOk result (IsTrue (T.ended talk.new) ⊎ (2 ^ 46 ≤ length (T.given talk.new))) }
-    ensures ok { (way : Way) → way.opened.origin ≡ answering.entry.origin.now
-        → IsAtWork W.has_run answering.entry way (T.given talk.old) (K.held sink.old) intake.old.bytes
-        → IfOk result (λ refused. Finished way refused (T.given talk.new) (K.held sink.new)) }
-    ensures stands { (way : Way) → way.opened.origin ≡ answering.entry.origin.now
-        → IsAtWork W.has_run answering.entry way (T.given talk.old) (K.held sink.old) intake.old.bytes
-        → Stands way (T.given talk.old) (K.held sink.old) → OnErr result (Stands way (T.given talk.new) (K.held sink.new)) }
-    ensures settled { IsErrOf result Stop.Fault → (way : Way) → way.opened.origin ≡ answering.entry.origin.now
-        → IsAtWork W.has_run answering.entry way (T.given talk.old) (K.held sink.old) intake.old.bytes → Settled way (T.given talk.new) (K.held sink.new) }
-    ensures too_long { IsErrOf result Stop.TooLong → (way : Way) → way.opened.origin ≡ answering.entry.origin.now
-        → IsAtWork W.has_run answering.entry way (T.given talk.old) (K.held sink.old) intake.old.bytes → IsTooLong way (T.given talk.new) (K.held sink.new) }
+    ensures reads { ReadsToEnd result Stop.Fault intake.old.ended talk.old talk.new (T.given talk.new) (T.ended talk.new) }
+    ensures serves { ServesToEnd W.has_run T.given K.held result answering.entry talk.old talk.new sink.old sink.new intake.old }
 {
     if intake.has_ended() {
         return end_session(answering, intake, sink);
@@ -90,31 +64,11 @@ pub fn serve<W: Worker, K: Sink, T: Talk<K>>(
     talk: &mut T,
     sink: &mut K,
 ) -> Result<bool, Stop>
-    requires first { 0 < first }
-    requires ready { W.is_ready worker }
-    requires same { W.origin worker ≡ origin.now }
-    requires free { W.holds worker ≡ false }
-    requires few { first + length intake.old.bytes ≤ 2 ^ 26 }
-    requires may { intake.old.ended ≡ false → (way : Way)
-        × BeginsAt (W.has_run worker way.opened) way origin.now first names (T.given talk.old) (K.held sink.old) intake.old.bytes × MayTalk T.is_settled way }
-    ensures quiet_sink { (IsErrOf result Stop.Sink → ⊥) → K.faults sink.new ≡ K.faults sink.old }
-    ensures sink_fault { IsErrOf result Stop.Sink → Rose (K.faults sink.old) (K.faults sink.new) }
-    ensures quiet_talk { (IsErrOf result Stop.Fault → ⊥) → T.faults talk.new ≡ T.faults talk.old }
-    ensures talk_fault { IsErrOf result Stop.Fault → Rose (T.faults talk.old) (T.faults talk.new) }
+    requires { CanServe W.is_ready W.origin W.holds W.has_run T.is_settled worker origin.now first names (T.given talk.old) (K.held sink.old) intake.old }
+    ensures faults { BlamesEach result Stop.Sink Stop.Fault (K.faults sink.old) (K.faults sink.new) (T.faults talk.old) (T.faults talk.new) }
     ensures memory { IsErrOf result Stop.Memory → NextIsShort intake.new.bytes ⊎ (K.held sink.new ≡ K.held sink.old) }
-    ensures unread { intake.old.ended ≡ true → (talk.new ≡ talk.old) × (IsErrOf result Stop.Fault → ⊥) }
-    ensures ended { intake.old.ended ≡ false → OnOk result (IsTrue (T.ended talk.new) ⊎ (2 ^ 46 ≤ length (T.given talk.new))) }
-    ensures ok { (way : Way) → BeginsAt (W.has_run worker way.opened) way origin.now first names (T.given talk.old) (K.held sink.old) intake.old.bytes
-        → IfOk result (λ refused. Finished way refused (T.given talk.new) (K.held sink.new)) }
-    ensures stands { (way : Way) → BeginsAt (W.has_run worker way.opened) way origin.now first names (T.given talk.old) (K.held sink.old) intake.old.bytes
-        → OnErr result (Stands way (T.given talk.new) (K.held sink.new)
-        ⊎ ((T.given talk.new ≡ T.given talk.old) × (K.held sink.new ≡ K.held sink.old))) }
-    ensures settled { IsErrOf result Stop.Fault → (way : Way)
-        → BeginsAt (W.has_run worker way.opened) way origin.now first names (T.given talk.old) (K.held sink.old) intake.old.bytes
-        → Settled way (T.given talk.new) (K.held sink.new) }
-    ensures too_long { IsErrOf result Stop.TooLong → (way : Way)
-        → BeginsAt (W.has_run worker way.opened) way origin.now first names (T.given talk.old) (K.held sink.old) intake.old.bytes
-        → IsTooLong way (T.given talk.new) (K.held sink.new) }
+    ensures reads { ReadsToEnd result Stop.Fault intake.old.ended talk.old talk.new (T.given talk.new) (T.ended talk.new) }
+    ensures serves { Serves W.has_run T.given K.held result worker origin.now first names talk.old talk.new sink.old sink.new intake.old }
 {
     let mut answering = begin(alloc, origin, worker, first, names)?;
     answering.put(sink)?;

@@ -1,7 +1,7 @@
 //! Who runs the commands of a session.
 ghost use Rattle.std.specs.Prelude.{◌≡◌, ◌++◌, ◌∷◌, [], ℕ, Bool, List, IfOk, false};
-ghost use Rattle.session_talk.specs.Prelude.{AllAsked, Command as Asked, Labels, MayCome, command_view, held_after};
-ghost use Rattle.session_talk.specs.Workers.{ComesTo, EndsAt, Opened};
+ghost use Rattle.session_talk.specs.Prelude.{Command as Asked, Labels, command_view, held_after};
+ghost use Rattle.session_talk.specs.Workers.{ComesTo, EndsAt, MayRun, Opened, StandsAsBefore};
 
 use job_report::Outcome;
 use job_script::Command;
@@ -32,9 +32,7 @@ pub trait Worker: Drop {
 
     /// Runs the next command.
     fn run(&mut self, command: &Command) -> Result<Outcome, AllocError>
-        requires ready { is_ready self.old }
-        requires may { MayCome (holds self.old) (command_view command.now) }
-        requires asked { AllAsked (origin self.old) (command_view command.now) }
+        requires { MayRun (is_ready self.old) (holds self.old) (origin self.old) (command_view command.now) }
         ensures ready { IfOk result (λ _. is_ready self.new) }
         ensures origin { IfOk result (λ _. origin self.new ≡ origin self.old) }
         ensures held { IfOk result (λ _. holds self.new ≡ held_after (holds self.old) (command_view command.now)) }
@@ -44,9 +42,7 @@ pub trait Worker: Drop {
     /// Shows that what the commands came to is all that has become of the index. It takes no memory and waits for nobody.
     fn tell(&mut self)
         requires ready { is_ready self.old }
-        ensures ready { is_ready self.new }
-        ensures origin { origin self.new ≡ origin self.old }
-        ensures held { holds self.new ≡ holds self.old }
+        ensures same { StandsAsBefore (is_ready self.new) (origin self.old) (origin self.new) (holds self.old) (holds self.new) }
         ensures ran { (o : Opened) (commands : List Asked) (os : List Ran) → has_run self.old o commands os → has_run self.new o commands os }
         ensures told { (o : Opened) (commands : List Asked) (os : List Ran) → has_run self.old o commands os → (last : ℕ) × ComesTo o commands os last };
 

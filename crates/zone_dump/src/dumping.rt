@@ -1,6 +1,6 @@
 //! A version, written as a master file.
-ghost use Rattle.std.specs.Prelude.{◌≡◌, ◌+◌, ◌≤◌, ◌++◌, ◌∷◌, [], ℕ, List, length, Option, IfOk, OnOk, OnErr, IsErrOf};
-ghost use Rattle.zone_dump.specs.Prelude.{flat_map, StartsWith, Grows, GrowsByFront, Rose, most_item_octets, Version};
+ghost use Rattle.std.specs.Prelude.{◌≡◌, ◌+◌, ◌≤◌, ◌++◌, ◌∷◌, [], ℕ, List, length, Option, IfOk, OnOk};
+ghost use Rattle.zone_dump.specs.Prelude.{flat_map, StartsWith, most_item_octets, Version, CanRead, PassesVersion, TellsFault, WritesVersion};
 ghost use Rattle.zone_dump.specs.Prelude.{row_text, all_rows, record_count, version_lines, soa_ttl, dump, Shows};
 ghost use Rattle.zone_dump.specs.Prelude.{ShowsSome, file_text, directives_in, Faces, FacesSome, GivesNext, Passes};
 
@@ -37,17 +37,12 @@ fn push_all<V: Reading, K: Sink>(
     lines: &mut Lines,
     sink: &mut K,
 ) -> Result<(), DumpRefusal>
-    requires shown { ShowsSome (V.holds version.old) }
-    requires room { most_item_octets ≤ length item.old }
+    requires can { CanRead (V.holds version.old) item.old }
     ensures same { version.new ≡ version.old }
     ensures count { (zone : Version) → Shows (V.holds version.old) zone → OnOk result (lines.new.count ≡ lines.old.count + record_count zone) }
-    ensures ok { (zone : Version) → Shows (V.holds version.old) zone → OnOk result
-        (Passes (K.held sink.old) (K.held sink.new) lines.old.text.items lines.new.text.items (version_lines lines.old.directives zone)) }
-    ensures err { (zone : Version) → Shows (V.holds version.old) zone → OnErr result
-        (GrowsByFront (K.held sink.old) (K.held sink.new) (lines.old.text.items ++ version_lines lines.old.directives zone)) }
-    ensures fault { IsErrOf result DumpRefusal.Fault → Rose (K.faults sink.old) (K.faults sink.new) }
-    ensures later { K.faults sink.old ≤ K.faults sink.new }
-    ensures quiet { (IsErrOf result DumpRefusal.Fault → ⊥) → K.faults sink.new ≡ K.faults sink.old }
+    ensures passes { PassesVersion result (V.holds version.old) (K.held sink.old) (K.held sink.new) lines.old.text.items lines.new.text.items
+        (version_lines lines.old.directives) }
+    ensures faults { TellsFault result (K.faults sink.old) (K.faults sink.new) }
 {
     let mut iter = version.iter();
     'names: for _ in 0..u64::MAX {
@@ -67,16 +62,11 @@ fn dump_lines<V: Reading, K: Sink>(
     item: &mut [u8],
     sink: &mut K,
 ) -> Result<u64, DumpRefusal>
-    requires shown { ShowsSome (V.holds version.old) }
-    requires room { most_item_octets ≤ length item.old }
+    requires can { CanRead (V.holds version.old) item.old }
     ensures same { version.new ≡ version.old }
     ensures count { (zone : Version) → Shows (V.holds version.old) zone → IfOk result (λ n. n ≡ record_count zone) }
-    ensures ok { (zone : Version) → Shows (V.holds version.old) zone → OnOk result (Grows (K.held sink.old) (K.held sink.new) (file_text directives zone)) }
-    ensures err { (zone : Version) → Shows (V.holds version.old) zone → OnErr result
-        (GrowsByFront (K.held sink.old) (K.held sink.new) (file_text directives zone)) }
-    ensures fault { IsErrOf result DumpRefusal.Fault → Rose (K.faults sink.old) (K.faults sink.new) }
-    ensures later { K.faults sink.old ≤ K.faults sink.new }
-    ensures quiet { (IsErrOf result DumpRefusal.Fault → ⊥) → K.faults sink.new ≡ K.faults sink.old }
+    ensures written { WritesVersion result (V.holds version.old) (K.held sink.old) (K.held sink.new) (file_text directives) }
+    ensures faults { TellsFault result (K.faults sink.old) (K.faults sink.new) }
 {
     let mut lines = Lines::new(alloc, directives)?;
     push_all(version, item, &mut lines, sink)?;
@@ -85,8 +75,7 @@ fn dump_lines<V: Reading, K: Sink>(
 
 /// The time to live of the SOA at the origin; 0 where there is none.
 fn soa_ttl<V: Reading>(version: &mut V, origin: &Name, item: &mut [u8]) -> u32
-    requires shown { ShowsSome (V.holds version.old) }
-    requires room { most_item_octets ≤ length item.old }
+    requires can { CanRead (V.holds version.old) item.old }
     ensures same { version.new ≡ version.old }
     ensures ttl { (zone : Version) → Shows (V.holds version.old) zone → result ≡ soa_ttl origin.now zone }
 {
@@ -105,8 +94,7 @@ fn directives_for<V: Reading>(
     style: Style,
     item: &mut [u8],
 ) -> Option<Directives>
-    requires shown { ShowsSome (V.holds version.old) }
-    requires room { most_item_octets ≤ length item.old }
+    requires can { CanRead (V.holds version.old) item.old }
     ensures same { version.new ≡ version.old }
     ensures directives { (zone : Version) → Shows (V.holds version.old) zone → result ≡ directives_in style origin.now zone }
 {
@@ -129,13 +117,8 @@ pub fn dump_to<V: Reading, K: Sink>(
     requires { ShowsSome (V.holds version.old) }
     ensures same { version.new ≡ version.old }
     ensures count { (zone : Version) → Shows (V.holds version.old) zone → IfOk result (λ n. n ≡ record_count zone) }
-    ensures ok { (zone : Version) → Shows (V.holds version.old) zone → OnOk result
-        (Grows (K.held sink.old) (K.held sink.new) (dump style origin.now zone)) }
-    ensures err { (zone : Version) → Shows (V.holds version.old) zone → OnErr result
-        (GrowsByFront (K.held sink.old) (K.held sink.new) (dump style origin.now zone)) }
-    ensures fault { IsErrOf result DumpRefusal.Fault → Rose (K.faults sink.old) (K.faults sink.new) }
-    ensures later { K.faults sink.old ≤ K.faults sink.new }
-    ensures quiet { (IsErrOf result DumpRefusal.Fault → ⊥) → K.faults sink.new ≡ K.faults sink.old }
+    ensures written { WritesVersion result (V.holds version.old) (K.held sink.old) (K.held sink.new) (dump style origin.now) }
+    ensures faults { TellsFault result (K.faults sink.old) (K.faults sink.new) }
 {
     let mut item = item_buffer(alloc)?;
     let directives = directives_for(version, origin, style, &mut item);
@@ -150,12 +133,10 @@ pub fn dump_text<V: Reading>(
     item: &mut [u8],
     out: &mut Vec<u8>,
 ) -> Result<u64, AllocError>
-    requires shown { ShowsSome (V.holds version.old) }
-    requires room { most_item_octets ≤ length item.old }
+    requires can { CanRead (V.holds version.old) item.old }
     ensures same { version.new ≡ version.old }
     ensures count { (zone : Version) → Shows (V.holds version.old) zone → IfOk result (λ n. n ≡ record_count zone) }
-    ensures ok { (zone : Version) → Shows (V.holds version.old) zone
-        → OnOk result (out.new.items ≡ out.old.items ++ flat_map row_text (all_rows zone)) }
+    ensures ok { (zone : Version) → Shows (V.holds version.old) zone → OnOk result (out.new.items ≡ out.old.items ++ flat_map row_text (all_rows zone)) }
     ensures kept { StartsWith out.new.items out.old.items }
 {
     let text = replace(out, Vec::new(alloc));

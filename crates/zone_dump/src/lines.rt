@@ -1,7 +1,7 @@
 //! The lines of a dump, on their way to a sink.
-ghost use Rattle.std.specs.Prelude.{◌≡◌, ◌+◌, ◌≤◌, ◌++◌, ◌∷◌, [], ℕ, List, length, Option, IfOk, OnOk, OnErr, IsErrOf};
-ghost use Rattle.zone_dump.specs.Prelude.{Grows, GrowsByFront, Rose, Labels, Entry, IsItem, rows_of};
-ghost use Rattle.zone_dump.specs.Prelude.{line_text, rows_at, owner_lines, head_text, lines_from, Passes};
+ghost use Rattle.std.specs.Prelude.{◌≡◌, ◌+◌, ◌≤◌, ◌∷◌, [], ℕ, List, length, Option, IfOk, OnOk, OnErr};
+ghost use Rattle.zone_dump.specs.Prelude.{Grows, GrowsByFront, Labels, Entry, IsItem, rows_of, OfItem, PassesItem, PassesOn, TellsFault};
+ghost use Rattle.zone_dump.specs.Prelude.{line_text, rows_at, head_text, lines_from};
 
 use crate::refusal::DumpRefusal;
 use crate::writing::{RESERVED, flush, flush_long};
@@ -49,13 +49,9 @@ impl Lines {
         sink: &mut K,
     ) -> Result<(), DumpRefusal>
         ensures same { (self.new.directives ≡ self.old.directives) × (self.new.count ≡ self.old.count) }
-        ensures ok { OnOk result (Passes (K.held sink.old) (K.held sink.new) self.old.text.items self.new.text.items
-            (line_text self.old.directives first (record { owner = owner.now; rtype = set.now.rtype; ttl = set.now.ttl; octets = octets.now }))) }
-        ensures err { OnErr result (GrowsByFront (K.held sink.old) (K.held sink.new) (self.old.text.items
-            ++ line_text self.old.directives first (record { owner = owner.now; rtype = set.now.rtype; ttl = set.now.ttl; octets = octets.now }))) }
-        ensures fault { IsErrOf result DumpRefusal.Fault → Rose (K.faults sink.old) (K.faults sink.new) }
-        ensures later { K.faults sink.old ≤ K.faults sink.new }
-        ensures quiet { (IsErrOf result DumpRefusal.Fault → ⊥) → K.faults sink.new ≡ K.faults sink.old }
+        ensures passes { PassesOn result (K.held sink.old) (K.held sink.new) self.old.text.items self.new.text.items
+            (line_text self.old.directives first (record { owner = owner.now; rtype = set.now.rtype; ttl = set.now.ttl; octets = octets.now })) }
+        ensures faults { TellsFault result (K.faults sink.old) (K.faults sink.new) }
     {
         let directives = self.directives.as_ref();
         push_record(directives, first, owner, set, octets, &mut self.text)?;
@@ -73,13 +69,9 @@ impl Lines {
     ) -> Result<(), DumpRefusal>
         ensures directives { self.new.directives ≡ self.old.directives }
         ensures count { OnOk result (self.new.count ≡ self.old.count + length set.now.records) }
-        ensures ok { OnOk result (Passes (K.held sink.old) (K.held sink.new) self.old.text.items self.new.text.items
-            (lines_from self.old.directives first (rows_of owner.now set.now))) }
-        ensures err { OnErr result (GrowsByFront (K.held sink.old) (K.held sink.new)
-            (self.old.text.items ++ lines_from self.old.directives first (rows_of owner.now set.now))) }
-        ensures fault { IsErrOf result DumpRefusal.Fault → Rose (K.faults sink.old) (K.faults sink.new) }
-        ensures later { K.faults sink.old ≤ K.faults sink.new }
-        ensures quiet { (IsErrOf result DumpRefusal.Fault → ⊥) → K.faults sink.new ≡ K.faults sink.old }
+        ensures passes { PassesOn result (K.held sink.old) (K.held sink.new) self.old.text.items self.new.text.items
+            (lines_from self.old.directives first (rows_of owner.now set.now)) }
+        ensures faults { TellsFault result (K.faults sink.old) (K.faults sink.new) }
     {
         let Some(count) = self.count.checked_add(u64::from(set.len())) else {
             return Err(DumpRefusal::Memory);
@@ -98,15 +90,9 @@ impl Lines {
     pub fn push_item<K: Sink>(&mut self, item: &[u8], sink: &mut K) -> Result<(), DumpRefusal>
         requires { (owner : Labels) × (entry : Entry) × IsItem item.now owner entry }
         ensures directives { self.new.directives ≡ self.old.directives }
-        ensures count { OnOk result ((owner : Labels) (entry : Entry) → IsItem item.now owner entry
-            → self.new.count ≡ self.old.count + length (rows_at (owner, entry))) }
-        ensures ok { OnOk result ((owner : Labels) (entry : Entry) → IsItem item.now owner entry
-            → Passes (K.held sink.old) (K.held sink.new) self.old.text.items self.new.text.items (owner_lines self.old.directives (rows_at (owner, entry)))) }
-        ensures err { OnErr result ((owner : Labels) (entry : Entry) → IsItem item.now owner entry
-            → GrowsByFront (K.held sink.old) (K.held sink.new) (self.old.text.items ++ owner_lines self.old.directives (rows_at (owner, entry)))) }
-        ensures fault { IsErrOf result DumpRefusal.Fault → Rose (K.faults sink.old) (K.faults sink.new) }
-        ensures later { K.faults sink.old ≤ K.faults sink.new }
-        ensures quiet { (IsErrOf result DumpRefusal.Fault → ⊥) → K.faults sink.new ≡ K.faults sink.old }
+        ensures count { OnOk result (OfItem item.now (λ owner entry. self.new.count ≡ self.old.count + length (rows_at (owner, entry)))) }
+        ensures passes { PassesItem result item.now (K.held sink.old) (K.held sink.new) self.old.text.items self.new.text.items self.old.directives }
+        ensures faults { TellsFault result (K.faults sink.old) (K.faults sink.new) }
     {
         let Some(owner) = Name::from_wire(item) else {
             unreachable!() // an item begins with its owner
@@ -125,9 +111,7 @@ impl Lines {
         ensures count { IfOk result (λ n. n ≡ self.count) }
         ensures ok { OnOk result (Grows (K.held sink.old) (K.held sink.new) self.text.items) }
         ensures err { OnErr result (GrowsByFront (K.held sink.old) (K.held sink.new) self.text.items) }
-        ensures fault { IsErrOf result DumpRefusal.Fault → Rose (K.faults sink.old) (K.faults sink.new) }
-        ensures later { K.faults sink.old ≤ K.faults sink.new }
-        ensures quiet { (IsErrOf result DumpRefusal.Fault → ⊥) → K.faults sink.new ≡ K.faults sink.old }
+        ensures faults { TellsFault result (K.faults sink.old) (K.faults sink.new) }
     {
         flush(&mut self.text, sink)?;
         Ok(self.count)

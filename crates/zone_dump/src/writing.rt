@@ -1,6 +1,6 @@
 //! Text that is gathered in a buffer before it is written.
 ghost use Rattle.std.specs.Prelude.{◌≡◌, ◌≤◌, [], OnOk, OnErr, length};
-ghost use Rattle.zone_dump.specs.Prelude.{Grows, GrowsByFront, Rose, Passes};
+ghost use Rattle.zone_dump.specs.Prelude.{Grows, GrowsByFront, Passes, TellsFailed};
 
 use outer_io::{Failed, Sink, write_all};
 
@@ -16,9 +16,7 @@ pub fn flush<K: Sink>(text: &mut Vec<u8>, sink: &mut K) -> Result<(), Failed>
     ensures ok { OnOk result (Grows (K.held sink.old) (K.held sink.new) text.old.items) }
     ensures empty { OnOk result (text.new.items ≡ []) }
     ensures err { OnErr result (GrowsByFront (K.held sink.old) (K.held sink.new) text.old.items) }
-    ensures quiet { OnOk result (K.faults sink.new ≡ K.faults sink.old) }
-    ensures later { K.faults sink.old ≤ K.faults sink.new }
-    ensures failed { OnErr result (Rose (K.faults sink.old) (K.faults sink.new)) }
+    ensures faults { TellsFailed result (K.faults sink.old) (K.faults sink.new) }
 {
     write_all(sink, text)?;
     text.clear();
@@ -30,9 +28,7 @@ pub fn flush_long<K: Sink>(text: &mut Vec<u8>, sink: &mut K) -> Result<(), Faile
     ensures ok { OnOk result (Passes (K.held sink.old) (K.held sink.new) text.old.items text.new.items []) }
     ensures short { OnOk result (length text.new.items ≤ 40960) }
     ensures err { OnErr result (GrowsByFront (K.held sink.old) (K.held sink.new) text.old.items) }
-    ensures quiet { OnOk result (K.faults sink.new ≡ K.faults sink.old) }
-    ensures later { K.faults sink.old ≤ K.faults sink.new }
-    ensures failed { OnErr result (Rose (K.faults sink.old) (K.faults sink.new)) }
+    ensures faults { TellsFailed result (K.faults sink.old) (K.faults sink.new) }
 {
     if text.len() <= LONG {
         return Ok(());

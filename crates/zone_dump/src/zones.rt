@@ -1,7 +1,7 @@
 //! A zone that was read, written as a master file.
-ghost use Rattle.std.specs.Prelude.{◌≡◌, ◌+◌, ◌≤◌, ◌++◌, [], length, take, IfOk, IfSome, IsNone, OnOk, OnErr, IsErrOf};
-ghost use Rattle.zone_dump.specs.Prelude.{Grows, GrowsByFront, Rose, SaysEntry, item_limit, owned, record_count, version_lines, soa_ttl, dump};
-ghost use Rattle.zone_dump.specs.Prelude.{directives_in, Passes};
+ghost use Rattle.std.specs.Prelude.{◌≡◌, ◌+◌, ◌≤◌, [], length, take, IfOk, IfSome, IsNone, OnOk, OnErr};
+ghost use Rattle.zone_dump.specs.Prelude.{Grows, GrowsByFront, SaysEntry, item_limit, owned, record_count, version_lines, soa_ttl, dump, PassesOn, TellsFault};
+ghost use Rattle.zone_dump.specs.Prelude.{directives_in};
 
 use crate::lines::Lines;
 use crate::refusal::DumpRefusal;
@@ -65,12 +65,9 @@ fn push_names<K: Sink>(
 ) -> Result<(), DumpRefusal>
     requires { item_limit ≤ length item.old }
     ensures count { OnOk result (lines.new.count ≡ lines.old.count + record_count left.entry) }
-    ensures ok { OnOk result (Passes (K.held sink.old) (K.held sink.new) lines.old.text.items lines.new.text.items
-        (version_lines lines.old.directives left.entry)) }
-    ensures err { OnErr result (GrowsByFront (K.held sink.old) (K.held sink.new) (lines.old.text.items ++ version_lines lines.old.directives left.entry)) }
-    ensures fault { IsErrOf result DumpRefusal.Fault → Rose (K.faults sink.old) (K.faults sink.new) }
-    ensures later { K.faults sink.old ≤ K.faults sink.new }
-    ensures quiet { (IsErrOf result DumpRefusal.Fault → ⊥) → K.faults sink.new ≡ K.faults sink.old }
+    ensures passes { PassesOn result (K.held sink.old) (K.held sink.new) lines.old.text.items lines.new.text.items
+        (version_lines lines.old.directives left.entry) }
+    ensures faults { TellsFault result (K.faults sink.old) (K.faults sink.new) }
 {
     'names: while let Some(len) = left.next(item) {
         lines.push_item(&item[..len], sink)?;
@@ -90,9 +87,7 @@ pub fn dump_zone<K: Sink>(
     ensures count { IfOk result (λ n. n ≡ record_count zone.now.pairs) }
     ensures ok { OnOk result (Grows (K.held sink.old) (K.held sink.new) (dump style zone.now.origin zone.now.pairs)) }
     ensures err { OnErr result (GrowsByFront (K.held sink.old) (K.held sink.new) (dump style zone.now.origin zone.now.pairs)) }
-    ensures fault { IsErrOf result DumpRefusal.Fault → Rose (K.faults sink.old) (K.faults sink.new) }
-    ensures later { K.faults sink.old ≤ K.faults sink.new }
-    ensures quiet { (IsErrOf result DumpRefusal.Fault → ⊥) → K.faults sink.new ≡ K.faults sink.old }
+    ensures faults { TellsFault result (K.faults sink.old) (K.faults sink.new) }
 {
     let mut item = item_buffer(alloc)?;
     let directives = directives_of(zone, style, &mut item);

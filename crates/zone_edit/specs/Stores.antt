@@ -55,6 +55,12 @@ module _ {X : Type 0} {Y : Type 0} {N : Ghosts Y} {K : Type 0} where
   abbrev pub IsOfTheSame : Transaction X Y K N → Transaction X Y K N → Type 0
   IsOfTheSame old new = (new.home.ghost_name ≡ old.home.ghost_name) × (new.locked.ghost_name ≡ old.locked.ghost_name)
 
+  -- It goes on.
+  pub record GoesOnHere (old new : Transaction X Y K N) : Type 0 where
+    pub same_reference : IsOfTheSame old new
+    -- it is of the same index
+    pub place : new.locked.now.place ≡ old.locked.now.place
+
 -- how many operations are done: one, or none where it is refused
 abbrev pub done_by : {E : Type 0} → Result (Unit {0}) E → ℕ
 done_by (Ok u) = 1

@@ -1,8 +1,9 @@
 //! A transaction's changes: its prerequisites, then its operations in order, each tested and then stored.
 
-ghost use Rattle.std.specs.Prelude.{◌≡◌, ◌<◌, ◌≤◌, [], length, IfOk, IsSomeAnd, Err, map};
-ghost use Rattle.zone_edit.specs.Prelude.{Records, key_of, item, item_limit, IsItem, SaysEntry, operation_view, prerequisite_view};
-ghost use Rattle.zone_edit.specs.Prelude.{candidate, Between, Edits, IsSame, IsOfTheSame, Owns, Stores, done_by, WorksOnSome};
+ghost use Rattle.std.specs.Prelude.{◌≡◌, ◌<◌, ◌≤◌, [], length, IfOk, IsSomeAnd, map};
+ghost use Rattle.zone_edit.specs.Prelude.{Records, key_of, item_limit, IsItem, SaysEntry, operation_view, prerequisite_view};
+ghost use Rattle.zone_edit.specs.Prelude.{candidate, Edits, GoesOnHere, IsOfTheSame, Owns, Stores, done_by, WorksOnSome};
+ghost use Rattle.zone_edit.specs.Prelude.{CanExchange, CanStore, TellsWant};
 ghost use Rattle.zone_edit.specs.Prelude.{Edited, EditedOnce, EditedInOrder};
 
 use crate::buffers::ItemBuffers;
@@ -29,8 +30,7 @@ fn take_out<L: Law, N: Named, K>(
     requires key { key.now ≡ key_of name.now }
     requires owns { IsSomeAnd transaction.old.locked.now.working (Owns name.now before.now) }
     requires some { 0 < length before.now }
-    ensures same_reference { IsOfTheSame transaction.old transaction.new }
-    ensures place { transaction.new.locked.now.place ≡ transaction.old.locked.now.place }
+    ensures goes_on { GoesOnHere transaction.old transaction.new }
     ensures stores { Edits (done_by result) (Stores name.now before.now [] result) transaction.old.locked.now.working transaction.new.locked.now.working }
 {
     let _wire = name.wire(); // for the proof
@@ -53,8 +53,7 @@ fn put_in<L: Law, N: Named, K>(
     requires key { key.now ≡ key_of name.now }
     requires owns { IsSomeAnd transaction.old.locked.now.working (Owns name.now []) }
     requires item { IsItem item.now name.now entry.now }
-    ensures same_reference { IsOfTheSame transaction.old transaction.new }
-    ensures place { transaction.new.locked.now.place ≡ transaction.old.locked.now.place }
+    ensures goes_on { GoesOnHere transaction.old transaction.new }
     ensures stores { Edits (done_by result) (Stores name.now [] entry.now result) transaction.old.locked.now.working transaction.new.locked.now.working }
 {
     let _wire = name.wire(); // for the proof
@@ -75,13 +74,8 @@ fn exchange<L: Law, N: Named, K>(
     entry: &Entry,
     item: &[u8],
 ) -> Result<(), Shortage>
-    requires key { key.now ≡ key_of name.now }
-    requires owns { IsSomeAnd transaction.old.locked.now.working (Owns name.now before.now) }
-    requires some { 0 < length before.now }
-    requires item { IsItem item.now name.now entry.now }
-    requires other { entry.now ≡ before.now → ⊥ }
-    ensures same_reference { IsOfTheSame transaction.old transaction.new }
-    ensures place { transaction.new.locked.now.place ≡ transaction.old.locked.now.place }
+    requires { CanExchange name.now key.now before.now entry.now item.now transaction.old.locked.now.working }
+    ensures goes_on { GoesOnHere transaction.old transaction.new }
     ensures stores { Edits (done_by result) (Stores name.now before.now entry.now result) transaction.old.locked.now.working
         transaction.new.locked.now.working }
 {
@@ -105,13 +99,8 @@ fn store<L: Law, N: Named, K>(
     entry: &Entry,
     out: &mut [u8],
 ) -> Result<(), Shortage>
-    requires key { key.now ≡ key_of name.now }
-    requires says { SaysEntry name.now octets.now before.now }
-    requires owns { IsSomeAnd transaction.old.locked.now.working (Owns name.now before.now) }
-    requires short { 0 < length entry.now → length (item name.now entry.now) ≤ item_limit }
-    requires room { item_limit ≤ length out.old }
-    ensures same_reference { IsOfTheSame transaction.old transaction.new }
-    ensures place { transaction.new.locked.now.place ≡ transaction.old.locked.now.place }
+    requires { CanStore name.now key.now octets.now before.now entry.now out.old transaction.old.locked.now.working }
+    ensures goes_on { GoesOnHere transaction.old transaction.new }
     ensures stores { Edits (done_by result) (Stores name.now before.now entry.now result) transaction.old.locked.now.working
         transaction.new.locked.now.working }
 {
@@ -163,12 +152,9 @@ fn apply<L: Law, N: Named, K>(
 ) -> Result<(), EditRefusal>
     requires works { IsSomeAnd transaction.old.locked.now.working WorksOnSome }
     requires room { (item_limit ≤ length item_before.old) × (item_limit ≤ length item_after.old) }
-    ensures same_reference { IsOfTheSame transaction.old transaction.new }
-    ensures place { transaction.new.locked.now.place ≡ transaction.old.locked.now.place }
+    ensures goes_on { GoesOnHere transaction.old transaction.new }
     ensures applies { EditedOnce origin.now (operation_view operation.now) result transaction.old.locked.now.working transaction.new.locked.now.working }
-    ensures number { (at : _) (shortage : _) → result ≡ Err (EditRefusal.Full at shortage) → at ≡ number }
-    // Memory is wanted for entries alone, before anything is tried.
-    ensures untried { result ≡ Err EditRefusal.Memory → Between IsSame transaction.old.locked.now.working transaction.new.locked.now.working }
+    ensures want { TellsWant result number transaction.old.locked.now.working transaction.new.locked.now.working }
 {
     let owner = operation.owner();
     let key = Key::of(owner);

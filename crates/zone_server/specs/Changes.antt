@@ -2,12 +2,14 @@
 use Rattle.std.specs.Prelude.{◌≡◌, ◌≢◌, ℕ, List, length, Option, Some, None, Result, Ok, Err, slice_get}
 use Rattle.zone_model.specs.Names.{Name}
 use Rattle.zone_model.specs.Transactions.{Transaction}
+use Rattle.job_model.specs.declared.Ending.{Ending}
 use Rattle.job_model.specs.declared.Ending.TheVariants.{Commit}
+use Rattle.job_report.specs.declared.outcomes.Outcome.{Outcome}
 use Rattle.job_model.specs.Outcomes.{Ended, Committed, Refused, Rule, Full, Spent}
 use Rattle.shared_cells.specs.History.{IsPartOf}
 use Rattle.qp_multi.specs.Passes.{Known}
 use Rattle.job_commands.specs.Histories.{OpenedWith}
-use Rattle.job_commands.specs.Commands.{BlockWants, Transacts}
+use Rattle.job_commands.specs.Commands.{BlockRan, BlockWants, Transacts}
 use Rattle.zone_server.specs.Homes.{Served, opened_as}
 use Rattle.zone_server.specs.Servings.{ServerKnown, of_zone}
 use Rattle.zone_server.specs.Updates.{UpdateView}
@@ -33,6 +35,14 @@ pub record HappensIn (served : List Served) (origin : Name) (happens : Served �
   pub happened : happens zone_is (of_zone old zone) (of_zone new zone)
   pub others : (other : ℕ) → other ≢ zone → of_zone new other ≡ of_zone old other
   pub table : new.table ≡ old.table
+
+-- a block was run there, and came to this outcome
+abbrev pub RunsIn : List Served → Name → Transaction → Ending → ServerKnown → ServerKnown → Outcome → Type 0
+RunsIn served origin asked ending old new outcome = HappensIn served origin (λ s v w. BlockRan (opened_as s) asked ending v w outcome) old new
+
+-- memory was wanted for one there
+abbrev pub WantsIn : List Served → Name → Transaction → ServerKnown → ServerKnown → Type 0
+WantsIn served origin asked old new = HappensIn served origin (λ s v w. BlockWants (opened_as s) asked v w) old new
 
 -- how a transaction ended that was on a version
 abbrev pub ended_of : Result ℕ ChangeRefusal → Option (ℕ × Ended)

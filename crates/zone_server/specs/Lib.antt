@@ -6,6 +6,7 @@ pub mod Homes
 pub mod Loadings
 pub mod Notes
 pub mod Openings
+pub mod Passes
 pub mod Prelude
 pub mod Reloads
 pub mod Replies

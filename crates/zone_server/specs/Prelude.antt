@@ -10,7 +10,7 @@ pub use Rattle.zone_text.specs.Views.{Reads}
 pub use Rattle.job_model.specs.Outcomes.{RolledBack}
 pub use Rattle.job_report.specs.Outcomes.{EndsBlock, ended_view}
 pub use Rattle.job_script.specs.Views.{asked_view}
-pub use Rattle.report_laws.specs.Changes.{AllSaid, IsSaid}
+pub use Rattle.report_laws.specs.Changes.{IsSaid}
 pub use Rattle.shared_cells.specs.History.{IsPartOf}
 pub use Rattle.zone_change.specs.Views.{operation_view}
 pub use Rattle.zone_diff.specs.Blocks.{changes}
@@ -20,20 +20,21 @@ pub use Rattle.zone_diff.specs.declared.Serial.TheVariants.{Keep}
 pub use Rattle.zone_answer.specs.Prelude.{Version, answer, respond, IsGiven, IsResponded, Shows, ShowsSome}
 pub use Rattle.qp_multi.specs.Keepings.{versions_in}
 pub use Rattle.qp_multi.specs.Passes.{Known, known_at}
-pub use Rattle.job_commands.specs.Commands.{BlockRan, BlockWants, IsOpenedWith, OpensAt}
+pub use Rattle.job_commands.specs.Commands.{IsOpenedWith}
 pub use Rattle.job_commands.specs.Histories.{IsZone, OpenedWith, StandsAs}
 pub use Rattle.zone_table.specs.Openings.{entries_in}
 pub use Rattle.zone_server.specs.Asks.{Needs, Takes, adds}
 pub use Rattle.zone_server.specs.Attachings.{Attached, Detached, attach_told}
 pub use Rattle.zone_server.specs.Builds.{AddsZone, OpensFor}
-pub use Rattle.zone_server.specs.Changes.{Changes, HappensIn, NoneHas, Ran, ended_of}
-pub use Rattle.zone_server.specs.Homes.{Served, opened_as}
+pub use Rattle.zone_server.specs.Changes.{Changes, NoneHas, Ran, RunsIn, WantsIn, ended_of}
+pub use Rattle.zone_server.specs.Homes.{Served}
 pub use Rattle.zone_server.specs.Loadings.{Loads}
 pub use Rattle.zone_server.specs.Notes.{HasLearnt, IsNote, Tells, told_of}
-pub use Rattle.zone_server.specs.Openings.{IsOpening, OpeningView, origin_in, served_of}
-pub use Rattle.zone_server.specs.Reloads.{MakesZone, NoRule, RanOn, Reloading, Reloads, StopsReload, commit_told}
-pub use Rattle.zone_server.specs.Replies.{HasGrown, IsAfter, IsFrom, IsReply, IsShown, IsTold, reply_map}
+pub use Rattle.zone_server.specs.Openings.{IsOpening, OpeningView, origin_in, served_of, sizes_of}
+pub use Rattle.zone_server.specs.Passes.{AreServing, CanExchange, CanReload, CanRunIn, HasAsked, IsAt, Stays, StaysServing}
+pub use Rattle.zone_server.specs.Reloads.{NoRule, RanOn, Reloading, Reloads, StopsReload, commit_told}
+pub use Rattle.zone_server.specs.Replies.{IsAfter, IsFrom, IsReply, IsShown, IsTold, reply_map}
 pub use Rattle.zone_server.specs.Servings.{IsServed, IsServing, ServerKnown, known_of, of_zone}
 pub use Rattle.zone_server.specs.Updates.{IsUpdate, UpdateView}
-pub use Rattle.zone_server.specs.Transfers.{Dumps, IsDumped, Transfers, transfer_told, transferred}
+pub use Rattle.zone_server.specs.Transfers.{IsDumpedTo, Transfers, transfer_told, transferred}
 pub use Rattle.zone_server.specs.Wire.{wire_row, wire_rows}

@@ -34,6 +34,10 @@ pub record IsDumped (dumps : Version → Type 0) (old new : Known) (result : Res
   pub shown : IsShown dumps old new (length new.seen.history)
   pub version : IfOk result (λ t. t.version ≡ length new.seen.history)
 
+-- the same of a zone of the origin that goes to a sink
+abbrev pub IsDumpedTo : Style → Name → Held → Held → Known → Known → Result Transferred DumpRefusal → Type 0
+IsDumpedTo style origin held held_now old new result = IsDumped (λ zone. Dumps style origin zone held held_now result) old new result
+
 -- The zone of an origin was written down, or not whole, as of one version; or no zone has the origin, and nothing was done.
 abbrev pub Transfers : List Served → Name → Style → Held → Held → ServerKnown → ServerKnown → Result Transferred TransferRefusal → Type 0
 Transfers served origin style old new before after (Ok t) =

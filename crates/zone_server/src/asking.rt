@@ -1,6 +1,6 @@
 //! Questions.
-ghost use Rattle.std.specs.Prelude.{◌≡◌, [], IfOk, IsSome};
-ghost use Rattle.zone_server.specs.Prelude.{HasGrown, IsGiven, IsReply, IsServed, IsServing, IsShown, answer, known_at, known_of, reply_map};
+ghost use Rattle.std.specs.Prelude.{◌≡◌, [], IfOk};
+ghost use Rattle.zone_server.specs.Prelude.{HasAsked, IsAt, IsGiven, IsReply, IsServed, IsServing, IsShown, answer, known_at, known_of, reply_map};
 
 use crate::home::Home;
 use crate::reply::{FromZone, Reply};
@@ -38,12 +38,9 @@ fn ask_index<N: Named, S: RowSink>(
     scratch: &mut Scratch,
     rows: &mut S,
 ) -> Result<Shown<Kind>, AllocError>
-    requires here { IsSome pass.old.seat }
-    requires place { pass.old.place ≡ index.now.place }
+    requires pass { IsAt index.now.place pass.old }
     requires none { S.has rows.old [] }
-    ensures here { IsSome pass.new.seat }
-    ensures place { pass.new.place ≡ pass.old.place }
-    ensures grows { HasGrown (known_at pass.old.seat) (known_at pass.new.seat) }
+    ensures asks { HasAsked pass.old pass.new }
     ensures shown { IfOk result (λ s. IsShown (λ zone. IsGiven (S.has rows.new) (answer origin.now zone name.now rtype) s.told)
         (known_at pass.old.seat) (known_at pass.new.seat) s.version) }
 {

@@ -1,7 +1,7 @@
 //! Changes of a zone by transactions.
-ghost use Rattle.std.specs.Prelude.{◌≡◌, ◌≢◌, Some, IfOk, OnErr, slice_get};
-ghost use Rattle.zone_server.specs.Prelude.{AllSaid, BlockRan, BlockWants, Changes, EndsBlock, HappensIn, IsServed, IsServing, IsUpdate};
-ghost use Rattle.zone_server.specs.Prelude.{RolledBack, UpdateView, asked_view, ended_of, ended_view, known_of, opened_as};
+ghost use Rattle.std.specs.Prelude.{◌≡◌, ◌≢◌, Some, IfOk, OnErr};
+ghost use Rattle.zone_server.specs.Prelude.{CanRunIn, Changes, EndsBlock, IsServed, IsServing, IsUpdate, RunsIn, WantsIn};
+ghost use Rattle.zone_server.specs.Prelude.{RolledBack, UpdateView, asked_view, ended_of, ended_view, known_of};
 
 use crate::finding::zone_of;
 use crate::home::Home;
@@ -102,16 +102,11 @@ fn run_in<R: Wait, H: Home>(
     block: &Block,
     items: &mut ItemBuffers,
 ) -> Result<Outcome, AllocError>
-    requires zones { IsServed H.zones zones.now }
-    requires pass { IsServing H.zones pass.old }
-    requires zone { slice_get zones.now.origins.items zone ≡ Some origin.now }
-    requires said { AllSaid origin.now (asked_view block.now) }
+    requires { CanRunIn H.zones zones.now pass.old zone origin.now (asked_view block.now) }
     ensures pass { IsServing H.zones pass.new }
     ensures ends { IfOk result (λ o. EndsBlock o.told) }
-    ensures ran { IfOk result (λ o. HappensIn H.zones origin.now (λ s v w. BlockRan (opened_as s) (asked_view block.now) block.now.ending v w o)
-        (known_of pass.old) (known_of pass.new)) }
-    ensures wants { OnErr result (HappensIn H.zones origin.now (λ s v w. BlockWants (opened_as s) (asked_view block.now) v w)
-        (known_of pass.old) (known_of pass.new)) }
+    ensures ran { IfOk result (RunsIn H.zones origin.now (asked_view block.now) block.now.ending (known_of pass.old) (known_of pass.new)) }
+    ensures wants { OnErr result (WantsIn H.zones origin.now (asked_view block.now) (known_of pass.old) (known_of pass.new)) }
 {
     let index = zones.zone(zone);
     let place = pass.zone(zones, zone);

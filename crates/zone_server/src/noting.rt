@@ -1,6 +1,6 @@
 //! What one thread has seen is told to another.
 ghost use Rattle.std.specs.Prelude.{◌≡◌, IfOk};
-ghost use Rattle.zone_server.specs.Prelude.{HasLearnt, IsNote, IsServed, IsServing, Tells, known_of, told_of};
+ghost use Rattle.zone_server.specs.Prelude.{HasLearnt, IsNote, IsServed, IsServing, StaysServing, Tells, known_of, told_of};
 
 use crate::home::Home;
 use crate::server::{Server, ServerPass};
@@ -32,8 +32,7 @@ fn note_zones<H: Home>(
 ) -> Result<ZonesNote<H>, AllocError>
     requires zones { IsServed H.zones zones.now }
     requires pass { IsServing H.zones pass.old }
-    ensures pass { IsServing H.zones pass.new }
-    ensures same { known_of pass.new ≡ known_of pass.old }
+    ensures stays { StaysServing H.zones pass.old pass.new }
     ensures of { IfOk result (IsNote H.zones) }
     ensures told { IfOk result (λ n. Tells (known_of pass.old) (told_of n)) }
 {

@@ -1,6 +1,6 @@
 //! How a server is opened.
-ghost use Rattle.std.specs.Prelude.{◌≡◌, ◌+◌, ◌≤◌, ℕ, All, IfOk, Some, length, map, slice_get};
-ghost use Rattle.zone_server.specs.Prelude.{IsOpening, IsServing, IsZone, StandsAs, entries_in, list_any, origin_in, served_of, same_name};
+ghost use Rattle.std.specs.Prelude.{◌≡◌, ◌+◌, ◌≤◌, ℕ, All, IfOk, Some, length, slice_get};
+ghost use Rattle.zone_server.specs.Prelude.{IsOpening, IsServing, IsZone, StandsAs, entries_in, list_any, origin_in, served_of, same_name, sizes_of};
 
 use crate::home::Home;
 use crate::loading::LoadedZone;
@@ -151,8 +151,8 @@ fn open<H: Home>(
 ) -> Result<(Server<H>, Vec<ServerPass<H>>), OpenRefusal>
     requires table_named { slice_get H.tables 0 ≡ Some table.shared.table.shared.table_id }
     requires named { (k : ℕ) (b : _) → slice_get blanks.items k ≡ Some b → slice_get H.tables (k + 1) ≡ Some b.shared.table.shared.table_id }
-    requires opening { IsOpening table.shared.table.shared.key.passes zones.now (map (λ b. b.shared.table.shared.key) blanks.items) table.shared.table.shared.key }
-    requires served { H.zones ≡ served_of zones.now (map (λ b. b.shared.table.shared.key) blanks.items) }
+    requires opening { IsOpening table.shared.table.shared.key.passes zones.now (sizes_of blanks.items) table.shared.table.shared.key }
+    requires served { H.zones ≡ served_of zones.now (sizes_of blanks.items) }
     requires some { 1 ≤ length zones.now }
 {
     let (zones, passes) = Zones::<ZoneLaw, H>::open(alloc, table, blanks, zones)?;

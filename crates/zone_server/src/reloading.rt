@@ -1,7 +1,7 @@
 //! Zones that are exchanged whole, each by one transaction that changes what differs and nothing else.
 ghost use Rattle.std.specs.Prelude.{◌≡◌, map, IfOk, IsSome};
-ghost use Rattle.zone_server.specs.Prelude.{CanBeDumped, IsServed, IsServing, IsOpenedWith, IsShown, Keep, MakesZone, NoRule, OpensAt, Reloading, Reloads};
-ghost use Rattle.zone_server.specs.Prelude.{RanOn, OpenedWith, StopsReload, changes, commit_told, difference, known_at, known_of};
+ghost use Rattle.zone_server.specs.Prelude.{CanBeDumped, CanExchange, CanReload, IsServed, IsServing, IsOpenedWith, IsShown, Keep, NoRule, Reloading, Reloads};
+ghost use Rattle.zone_server.specs.Prelude.{RanOn, OpenedWith, Stays, StopsReload, changes, commit_told, difference, known_at, known_of};
 ghost use Rattle.zone_server.specs.Prelude.{operation_view, versions_in};
 
 use crate::asking::Shown;
@@ -118,12 +118,8 @@ fn exchange<R: Wait, N: Named>(
     operations: &[Operation],
     items: &mut ItemBuffers,
 ) -> Result<u64, ReloadRefusal>
-    requires here { IsSome pass.old.seat }
-    requires place { pass.old.place ≡ index.now.place }
-    requires opens { OpensAt origin.now (known_at pass.old.seat) }
-    requires makes { MakesZone origin.now (changes (map operation_view operations.now)) (known_at pass.old.seat) number }
-    ensures here { IsSome pass.new.seat }
-    ensures place { pass.new.place ≡ pass.old.place }
+    requires { CanExchange index.now.place pass.old origin.now (changes (map operation_view operations.now)) number }
+    ensures stays { Stays pass.old pass.new }
     ensures ran { (s : OpenedWith) → IsOpenedWith s origin.now index.now.shared.table.shared.key (known_at pass.old.seat)
         → RanOn s (changes (map operation_view operations.now)) (known_at pass.old.seat) (known_at pass.new.seat) result }
 {
@@ -148,12 +144,8 @@ fn reload_index<R: Wait, N: Named>(
     zone: &Zone,
     items: &mut ItemBuffers,
 ) -> Result<u64, ReloadRefusal>
-    requires here { IsSome pass.old.seat }
-    requires place { pass.old.place ≡ index.now.place }
-    requires opens { OpensAt zone.now.origin (known_at pass.old.seat) }
-    requires zone { CanBeDumped zone.now.origin zone.now.pairs }
-    ensures here { IsSome pass.new.seat }
-    ensures place { pass.new.place ≡ pass.old.place }
+    requires { CanReload index.now.place pass.old zone.now }
+    ensures stays { Stays pass.old pass.new }
     ensures reloading { (s : OpenedWith) → IsOpenedWith s zone.now.origin index.now.shared.table.shared.key (known_at pass.old.seat)
         → Reloading s zone.now.pairs (known_at pass.old.seat) (known_at pass.new.seat) result }
 {

@@ -1,6 +1,6 @@
 //! Responses: what a message of an authoritative server says.
-ghost use Rattle.std.specs.Prelude.{◌≡◌, [], IfOk, IsSome};
-ghost use Rattle.zone_server.specs.Prelude.{HasGrown, IsReply, IsResponded, IsServed, IsServing, IsShown, known_at, known_of, reply_map, respond};
+ghost use Rattle.std.specs.Prelude.{◌≡◌, [], IfOk};
+ghost use Rattle.zone_server.specs.Prelude.{HasAsked, IsAt, IsReply, IsResponded, IsServed, IsServing, IsShown, known_at, known_of, reply_map, respond};
 
 use crate::asking::Shown;
 use crate::home::Home;
@@ -25,12 +25,9 @@ fn respond_index<N: Named, S: RowSink + Drop>(
     scratch: &mut Scratch,
     rows: &mut Sections<S>,
 ) -> Result<Shown<Header>, AllocError>
-    requires here { IsSome pass.old.seat }
-    requires place { pass.old.place ≡ index.now.place }
+    requires pass { IsAt index.now.place pass.old }
     requires none { S.has rows.old.rows [] }
-    ensures here { IsSome pass.new.seat }
-    ensures place { pass.new.place ≡ pass.old.place }
-    ensures grows { HasGrown (known_at pass.old.seat) (known_at pass.new.seat) }
+    ensures asks { HasAsked pass.old pass.new }
     ensures shown { IfOk result (λ s. IsShown (λ zone. IsResponded (S.has rows.new.rows) (respond origin.now zone name.now rtype) s.told)
         (known_at pass.old.seat) (known_at pass.new.seat) s.version) }
 {

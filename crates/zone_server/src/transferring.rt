@@ -1,6 +1,6 @@
 //! A zone that is written down, as of one version.
-ghost use Rattle.std.specs.Prelude.{◌≡◌, IsSome};
-ghost use Rattle.zone_server.specs.Prelude.{Dumps, IsDumped, IsServed, IsServing, Transfers, known_at, known_of, transfer_told, transferred};
+ghost use Rattle.std.specs.Prelude.{◌≡◌};
+ghost use Rattle.zone_server.specs.Prelude.{AreServing, IsAt, IsDumpedTo, IsServing, Stays, Transfers, known_at, known_of, transfer_told, transferred};
 
 use crate::finding::zone_of;
 use crate::home::Home;
@@ -76,13 +76,11 @@ fn dump_index<N: Named, K: Sink, T, F: FnOnce() -> T>(
     sink: &mut K,
     before: F,
 ) -> (T, Result<Transferred, DumpRefusal>)
-    requires here { IsSome pass.old.seat }
-    requires place { pass.old.place ≡ index.now.place }
+    requires pass { IsAt index.now.place pass.old }
     requires before { F.pre before }
-    ensures here { IsSome pass.new.seat }
-    ensures place { pass.new.place ≡ pass.old.place }
+    ensures stays { Stays pass.old pass.new }
     ensures before { F.post before result.0 }
-    ensures dumped { IsDumped (λ zone. Dumps style origin.now zone (K.held sink.old) (K.held sink.new) result.1) (known_at pass.old.seat) (known_at pass.new.seat) result.1 }
+    ensures dumped { IsDumpedTo style origin.now (K.held sink.old) (K.held sink.new) (known_at pass.old.seat) (known_at pass.new.seat) result.1 }
 {
     let mut held = pass.query(index);
     let version = held.version();
@@ -101,8 +99,7 @@ fn transfer_zones<H: Home, K: Sink, T, F: FnOnce() -> T>(
     sink: &mut K,
     before: F,
 ) -> (T, Result<Transferred, TransferRefusal>)
-    requires zones { IsServed H.zones zones.now }
-    requires pass { IsServing H.zones pass.old }
+    requires serves { AreServing H.zones zones.now pass.old }
     requires before { F.pre before }
     ensures pass { IsServing H.zones pass.new }
     ensures before { F.post before result.0 }

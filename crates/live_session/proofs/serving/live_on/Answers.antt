@@ -13,24 +13,28 @@ use Rattle.live_session.proofs.serving.live_on.Goals as goal
 pub zone_size-requires : goal.zone_size-requires
 zone_size-requires g c = entries_rise c.args.origin.now c.in-Ok.zone.pairs c.in-Ok.ensures.of_origin
 
-pub serve_named-requires-clause-zone : goal.serve_named-requires-clause-zone
-serve_named-requires-clause-zone g c = record {
-  version = c.in-Ok.zone.pairs;
-  stands = record { valid = c.in_ok-items.ensures.version; entries = search (rules, c.in_ok-items.ensures, c.deref-2.ensures.value) };
-  zone = c.in-Ok.ensures.of_origin;
+pub serve_named-requires : goal.serve_named-requires
+serve_named-requires g c = record {
+  named = search rules;
+  passes = search rules;
+  zone = record {
+    version = c.in-Ok.zone.pairs;
+    stands = record { valid = c.in_ok-items.ensures.version; entries = search (rules, c.in_ok-items.ensures, c.deref-2.ensures.value) };
+    zone = c.in-Ok.ensures.of_origin;
+  };
+  first = search rules;
+  few = search rules;
+  may = λ goes_on.
+      let took = c.requires.took in
+      let stands : StandsAs (entries_of_items c.deref-2.result.now) c.in-Ok.zone.pairs = search (rules, c.in_ok-items.ensures, c.deref-2.ensures.value) in
+      (_, starts_as (sym c.in_ok-blank.ensures.chunks) (starts_on c.args.asked c.args.origin.now took.1 (g.K.Sink.held c.args.sink.now) _ _ (read_of c.args.origin.now c.deref.ensures.value c.in-Ok.ensures.zone) (chunks_of c.args.asked c.chunks_for-chunks.result (c.cells.ensures _ c.in_ok-size.ensures) c.chunks_for-chunks.ensures.chunks) _ _ stands refl), may_talk c.args.asked c.args.origin.now took.1 (g.K.Sink.held c.args.sink.now) _ _ (read_of c.args.origin.now c.deref.ensures.value c.in-Ok.ensures.zone) (chunks_of c.args.asked c.chunks_for-chunks.result (c.cells.ensures _ c.in_ok-size.ensures) c.chunks_for-chunks.ensures.chunks) g.T.Talk.is_settled goes_on took.2);
 }
-
-pub serve_named-requires-clause-may : goal.serve_named-requires-clause-may
-serve_named-requires-clause-may g c = λ goes_on.
-    let took = c.requires.took in
-    let stands : StandsAs (entries_of_items c.deref-2.result.now) c.in-Ok.zone.pairs = search (rules, c.in_ok-items.ensures, c.deref-2.ensures.value) in
-    (_, starts_as (sym c.in_ok-blank.ensures.chunks) (starts_on c.args.asked c.args.origin.now took.1 (g.K.Sink.held c.args.sink.now) _ _ (read_of c.args.origin.now c.deref.ensures.value c.in-Ok.ensures.zone) (chunks_of c.args.asked c.chunks_for-chunks.result (c.cells.ensures _ c.in_ok-size.ensures) c.chunks_for-chunks.ensures.chunks) _ _ stands refl), may_talk c.args.asked c.args.origin.now took.1 (g.K.Sink.held c.args.sink.now) _ _ (read_of c.args.origin.now c.deref.ensures.value c.in-Ok.ensures.zone) (chunks_of c.args.asked c.chunks_for-chunks.result (c.cells.ensures _ c.in_ok-size.ensures) c.chunks_for-chunks.ensures.chunks) g.T.Talk.is_settled goes_on took.2)
 
 pub returns-clause-ended_so : goal.returns-clause-ended_so
 returns-clause-ended_so g c = λ before t.
     let stands : StandsAs (entries_of_items c.deref-2.result.now) c.in-Ok.zone.pairs = search (rules, c.in_ok-items.ensures, c.deref-2.ensures.value) in
     ended_so c.args.asked c.args.origin.now _ _ _ (read_of c.args.origin.now c.deref.ensures.value c.in-Ok.ensures.zone) (chunks_of c.args.asked c.chunks_for-chunks.result (c.cells.ensures _ c.in_ok-size.ensures) c.chunks_for-chunks.ensures.chunks) before _ _ _ _ _ _ c.args.intake.now t c.serve_named.result
-    (λ e. let u = c.serve_named.ensures.unread e in (ap g.T.Talk.given u.0, subst (λ x. IsTrue (g.T.Talk.ended x)) (sym u.0) (t.told e), u.1))
+    (λ e. let u = c.serve_named.ensures.reads.unread e in (ap g.T.Talk.given u.0, subst (λ x. IsTrue (g.T.Talk.ended x)) (sym u.0) (t.told e), u.1))
     (c.serve_named.ensures.served _ (starts_as (sym c.in_ok-blank.ensures.chunks) (starts_on c.args.asked c.args.origin.now t (g.K.Sink.held c.args.sink.now) _ _ (read_of c.args.origin.now c.deref.ensures.value c.in-Ok.ensures.zone) (chunks_of c.args.asked c.chunks_for-chunks.result (c.cells.ensures _ c.in_ok-size.ensures) c.chunks_for-chunks.ensures.chunks) _ _ stands refl)))
 
 pub returns-in-Err-clause-ended_so : goal.returns-in-Err-clause-ended_so

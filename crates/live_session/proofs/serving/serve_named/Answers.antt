@@ -5,10 +5,16 @@ use Rattle.qp_multi.specs.Openings.{Refuses}
 use Rattle.live_session.proofs.StartLaws.{fits_by, starts_as, unfit_by}
 use Rattle.live_session.proofs.serving.serve_named.Goals as goal
 
-pub serve_opened-requires-clause-may : goal.serve_opened-requires-clause-may
-serve_opened-requires-clause-may g c = λ e.
-    let m = c.requires.may e in
-    (entries_of_items c.args.items.now, m.0, c.in-Ok.ensures.opens.new, length-map c.args.items.now entry_of, starts_as (sym (ap (λ k. k.chunks) c.in-Ok.ensures.opens.size)) m.1, m.2 (fits_by m.1 c.in-Ok.ensures.opens.fits))
+pub serve_opened-requires : goal.serve_opened-requires
+serve_opened-requires g c = record {
+  passes = c.in-Ok.ensures.opens.passes;
+  two = search rules;
+  first = c.requires.first;
+  few = c.requires.few;
+  may = λ e.
+      let m = c.requires.may e in
+      (entries_of_items c.args.items.now, m.0, c.in-Ok.ensures.opens.new, length-map c.args.items.now entry_of, starts_as (sym (ap (λ k. k.chunks) c.in-Ok.ensures.opens.size)) m.1, m.2 (fits_by m.1 c.in-Ok.ensures.opens.fits));
+}
 
 pub returns-in-Ok-clause-served : goal.returns-in-Ok-clause-served
 returns-in-Ok-clause-served g c = λ way s.

@@ -1,4 +1,4 @@
-use Rattle.std.proofs.Common.{◌≡◌, ◌∙◌, ◌≤◌, ◌+◌, ◌^◌, ◌++◌, List, ℕ, Ok, Err, length, refl, sym, ap, arith, subst, length-append}
+use Rattle.std.proofs.Common.{rules, ◌≡◌, ◌∙◌, ◌≤◌, ◌+◌, ◌^◌, ◌++◌, List, ℕ, Ok, Err, length, refl, sym, ap, arith, subst, length-append}
 use Rattle.live_session.proofs.ErrorLaws.{same_error}
 use Rattle.live_session.proofs.TakingLaws.{long_rest, took_cut, wants_for_line, wants_for_read, within_zone}
 use Rattle.live_session.proofs.taking.take_zone.Goals as goal
@@ -20,26 +20,35 @@ take-requires g c =
           (c.requires.may bytes (within_zone c.take_lines.new.zone c.take_lines.new.intake.bytes n.0 n.1));
     }
 
-pub returns-in_err-take-clause-too_long : goal.returns-in_err-take-clause-too_long
-returns-in_err-take-clause-too_long g c = λ is.
-    let i = c.reads.invariant in
-    let n = c.in_ok-came.ensures.not_yet (ap Ok c.if-came.false) in
-    let t = c.in_err-take.ensures.too_long (ap Err (sym (same_error c.from_residual-in_err-take.result _ _ c.from_residual-in_err-take.ensures.1 is))) in
-    (c.take_lines.new.zone.bytes.items ++ c.take_lines.new.intake.bytes, t.2 ∙ i.gave ∙ ap (λ (l : List ℕ). g.T.Talk.given c.args.talk.now ++ l) (sym n.2), long_rest c.take_lines.new.zone c.take_lines.new.intake.bytes n.0 n.1 t.0)
+pub returns-in_err-take-clause-stops : goal.returns-in_err-take-clause-stops
+returns-in_err-take-clause-stops g c = record {
+  within = search rules;
+  too_long = λ is.
+      let i = c.reads.invariant in
+      let n = c.in_ok-came.ensures.not_yet (ap Ok c.if-came.false) in
+      let t = c.in_err-take.ensures.stops.too_long (ap Err (sym (same_error c.from_residual-in_err-take.result _ _ c.from_residual-in_err-take.ensures.1 is))) in
+      (c.take_lines.new.zone.bytes.items ++ c.take_lines.new.intake.bytes, t.2 ∙ i.gave ∙ ap (λ (l : List ℕ). g.T.Talk.given c.args.talk.now ++ l) (sym n.2), long_rest c.take_lines.new.zone c.take_lines.new.intake.bytes n.0 n.1 t.0);
+  memory = λ is.
+      let i = c.reads.invariant in
+      let n = c.in_ok-came.ensures.not_yet (ap Ok c.if-came.false) in
+      let m = c.in_err-take.ensures.stops.memory (ap Err (sym (same_error c.from_residual-in_err-take.result _ _ c.from_residual-in_err-take.ensures.1 is))) in
+      let grows = c.in_err-take.ensures.grows in
+      wants_for_read _ _ _ c.take_lines.new.intake.bytes _ grows.0 c.take_lines.new.zone (i.gave ∙ ap (λ (l : List ℕ). g.T.Talk.given c.args.talk.now ++ l) (sym n.2)) grows.2 (ap (λ p. p.bytes) m.1) n.0 m.0 m.2;
+}
 
-pub returns-in_err-came-clause-memory : goal.returns-in_err-came-clause-memory
-returns-in_err-came-clause-memory g c = λ is.
-    wants_for_line _ _ c.take_lines.new.zone.bytes.items _ _ _ c.reads.invariant.gave refl (c.in_err-came.ensures.memory (ap Err (sym (same_error c.from_residual.result _ _ c.from_residual.ensures.1 is))))
+pub returns-in_err-came-clause-stops : goal.returns-in_err-came-clause-stops
+returns-in_err-came-clause-stops g c = record {
+  within = search rules;
+  too_long = search rules;
+  memory = λ is.
+      wants_for_line _ _ c.take_lines.new.zone.bytes.items _ _ _ c.reads.invariant.gave refl (c.in_err-came.ensures.stops.memory (ap Err (sym (same_error c.from_residual.result _ _ c.from_residual.ensures.1 is))));
+}
 
-pub returns-in_err-take_rest-clause-memory : goal.returns-in_err-take_rest-clause-memory
-returns-in_err-take_rest-clause-memory g c = λ is.
-    let n = c.in_ok-came.ensures.not_yet (ap Ok c.if-came.false) in
-    wants_for_line _ _ c.take_rest.new.zone.bytes.items _ _ _ c.reads.invariant.gave n.2 (c.in_err-take_rest.ensures.memory (ap Err (sym (same_error c.from_residual-in_err-take_rest.result _ _ c.from_residual-in_err-take_rest.ensures.1 is))))
-
-pub returns-in_err-take-clause-memory : goal.returns-in_err-take-clause-memory
-returns-in_err-take-clause-memory g c = λ is.
-    let i = c.reads.invariant in
-    let n = c.in_ok-came.ensures.not_yet (ap Ok c.if-came.false) in
-    let m = c.in_err-take.ensures.memory (ap Err (sym (same_error c.from_residual-in_err-take.result _ _ c.from_residual-in_err-take.ensures.1 is))) in
-    let grows = c.in_err-take.ensures.grows in
-    wants_for_read _ _ _ c.take_lines.new.intake.bytes _ grows.0 c.take_lines.new.zone (i.gave ∙ ap (λ (l : List ℕ). g.T.Talk.given c.args.talk.now ++ l) (sym n.2)) grows.2 (ap (λ p. p.bytes) m.1) n.0 m.0 m.2
+pub returns-in_err-take_rest-clause-stops : goal.returns-in_err-take_rest-clause-stops
+returns-in_err-take_rest-clause-stops g c = record {
+  within = search rules;
+  too_long = search rules;
+  memory = λ is.
+      let n = c.in_ok-came.ensures.not_yet (ap Ok c.if-came.false) in
+      wants_for_line _ _ c.take_rest.new.zone.bytes.items _ _ _ c.reads.invariant.gave n.2 (c.in_err-take_rest.ensures.stops.memory (ap Err (sym (same_error c.from_residual-in_err-take_rest.result _ _ c.from_residual-in_err-take_rest.ensures.1 is))));
+}

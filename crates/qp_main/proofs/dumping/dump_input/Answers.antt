@@ -7,19 +7,29 @@ use Rattle.qp_main.proofs.DueLemmas.{nothing_yet, short_is, some_dump}
 use Rattle.qp_main.proofs.StopLemmas.{dump_stops}
 use Rattle.qp_main.proofs.dumping.dump_input.Goals as goal
 
-pub returns-in-Err-Refused-clause-cut_short : goal.returns-in-Err-Refused-clause-cut_short
-returns-in-Err-Refused-clause-cut_short g c = λ short.
-    let i = c.args.invocation.now in
-    let zone = zone_of i.origin (zone_lines c.args.input) in
+pub returns-in-Err-Refused-clause-due : goal.returns-in-Err-Refused-clause-due
+returns-in-Err-Refused-clause-due g c =
     record {
-      status = c.in-Err-Refused.status;
-      text = c.in-Err-Refused.line;
-      is_due = subst (IsStop (Dumps i.chunks c.args.style i.origin zone)) c.in-Err-Refused.field-0-is (dump_stops i.chunks c.args.style i.origin zone c.in-Err-Refused.field-0 c.in-Err-Refused.ensures.stops);
-      grew = search (rules, c.as_slice.ensures, c.write_due.ensures.front (short_is true c.write_due.result short c.write_due.ensures.only.1));
+      written = search rules;
+      cut_short = λ short.
+          let i = c.args.invocation.now in
+          let zone = zone_of i.origin (zone_lines c.args.input) in
+          record {
+            status = c.in-Err-Refused.status;
+            text = c.in-Err-Refused.line;
+            is_due = subst (IsStop (Dumps i.chunks c.args.style i.origin zone)) c.in-Err-Refused.field-0-is (dump_stops i.chunks c.args.style i.origin zone c.in-Err-Refused.field-0 c.in-Err-Refused.ensures.stops);
+            grew = search (rules, c.as_slice.ensures, c.write_due.ensures.front (short_is true c.write_due.result short c.write_due.ensures.only.1));
+          };
+      others = search rules;
     }
 
-pub returns-in-Err-Memory-clause-cut_short : goal.returns-in-Err-Memory-clause-cut_short
-returns-in-Err-Memory-clause-cut_short g c = λ short.
-    let i = c.args.invocation.now in
-    let zone = zone_of i.origin (zone_lines c.args.input) in
-    nothing_yet (Dumps i.chunks c.args.style i.origin zone) (g.K.Sink.held c.args.sink.now) (some_dump i.chunks c.args.style i.origin zone)
+pub returns-in-Err-Memory-clause-due : goal.returns-in-Err-Memory-clause-due
+returns-in-Err-Memory-clause-due g c =
+    record {
+      written = search rules;
+      cut_short = λ short.
+          let i = c.args.invocation.now in
+          let zone = zone_of i.origin (zone_lines c.args.input) in
+          nothing_yet (Dumps i.chunks c.args.style i.origin zone) (g.K.Sink.held c.args.sink.now) (some_dump i.chunks c.args.style i.origin zone);
+      others = search rules;
+    }

@@ -10,8 +10,15 @@ use Rattle.qp_main.proofs.HeardLemmas.{fed_job_heard, heard_by_more, job_unrun, 
 use Rattle.qp_main.proofs.StopLemmas.{fed_answers_stop, fed_zone_stops}
 use Rattle.qp_main.proofs.feeding.answer_list.Goals as goal
 
-pub report_list-requires-clause-zone : goal.report_list-requires-clause-zone
-report_list-requires-clause-zone g c = λ κs bounds. record { version = c.in_ok-zone.zone.pairs; stands = search (rules, c.in_ok-items.ensures, c.deref.ensures.value); zone = c.in_ok-zone.ensures.of_origin }
+pub report_list-requires-clause-can : goal.report_list-requires-clause-can
+report_list-requires-clause-can g c = λ κs bounds. record {
+  passes = search rules;
+  zone = record { version = c.in_ok-zone.zone.pairs; stands = search (rules, c.in_ok-items.ensures, c.deref.ensures.value); zone = c.in_ok-zone.ensures.of_origin };
+  workers = search rules;
+  count = search rules;
+  no_snapshots = search rules;
+  said = search rules;
+}
 
 pub returns-clause-told : goal.returns-clause-told
 returns-clause-told g c =

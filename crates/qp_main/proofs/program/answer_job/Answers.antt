@@ -10,8 +10,13 @@ use Rattle.qp_main.proofs.HeardLemmas.{job_heard, job_unrun, zone_unrun}
 use Rattle.qp_main.proofs.StopLemmas.{answers_stop, job_zone_stops}
 use Rattle.qp_main.proofs.program.answer_job.Goals as goal
 
-pub report_job-requires-clause-zone : goal.report_job-requires-clause-zone
-report_job-requires-clause-zone g c = λ κs bounds. record { version = c.in_ok-zone.zone.pairs; stands = search (rules, c.in_ok-items.ensures, c.deref.ensures.value); zone = c.in_ok-zone.ensures.of_origin }
+pub report_job-requires-clause-can : goal.report_job-requires-clause-can
+report_job-requires-clause-can g c = λ κs bounds. record {
+  passes = search rules;
+  zone = record { version = c.in_ok-zone.zone.pairs; stands = search (rules, c.in_ok-items.ensures, c.deref.ensures.value); zone = c.in_ok-zone.ensures.of_origin };
+  in_turn = search rules;
+  said = search rules;
+}
 
 pub returns-clause-told : goal.returns-clause-told
 returns-clause-told g c =

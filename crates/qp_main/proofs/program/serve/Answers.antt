@@ -11,114 +11,137 @@ use Rattle.qp_main.proofs.HeardLemmas.{given_heard, run_written}
 use Rattle.qp_main.proofs.SessionLemmas.{not_lines}
 use Rattle.qp_main.proofs.program.serve.Goals as goal
 
-pub serve_input-requires-clause-whole : goal.serve_input-requires-clause-whole
-serve_input-requires-clause-whole g c = λ κs bounds. not_lines (verb_view c.args.invocation.now.verb) c.requires
+pub serve_input-requires : goal.serve_input-requires
+serve_input-requires g c = λ κs bounds. record {
+  short = search rules;
+  whole = not_lines (verb_view c.args.invocation.now.verb) c.requires;
+}
 
-pub returns-in-Err-TooLong-clause-cut_short : goal.returns-in-Err-TooLong-clause-cut_short
-returns-in-Err-TooLong-clause-cut_short g c = λ short.
-    let i = invocation_view c.args.invocation.now in
-    let left = g.S.Source.left c.args.source.now in
-    let taken : (bytes : List ℕ) × Consumes (g.S.Source.left c.args.source.now) (g.S.Source.left c.read_all.new.source) bytes × (g.S.Source.given c.read_all.new.source ≡ g.S.Source.given c.args.source.now ++ bytes) × (length bytes ≡ 16777217) = search rules in
-    record {
-      status = status.TooLong;
-      text = codes "input over 16777216 bytes\n";
-      is_due = given_due i left status.TooLong (codes "input over 16777216 bytes\n") (c.requires left) (too_long i left (g.S.Source.left c.read_all.new.source) taken.0 taken.1 taken.3);
-      grew = search (rules, c.write_due.ensures.front (short_is (is_streamed i.verb) c.write_due.result short c.write_due.ensures.only.1));
-    }
+-- ---- an input that is too long
 
-pub returns-in-Err-TooLong-clause-written : goal.returns-in-Err-TooLong-clause-written
-returns-in-Err-TooLong-clause-written g c = λ w.
-    let i = invocation_view c.args.invocation.now in
-    let left = g.S.Source.left c.args.source.now in
-    let taken : (bytes : List ℕ) × Consumes (g.S.Source.left c.args.source.now) (g.S.Source.left c.read_all.new.source) bytes × (g.S.Source.given c.read_all.new.source ≡ g.S.Source.given c.args.source.now ++ bytes) × (length bytes ≡ 16777217) = search rules in
-    let whole = c.write_due.ensures.whole w in
-    record {
-      text = codes "input over 16777216 bytes\n";
-      is_due = subst (λ (s : Status). Due (Some (invocation_view c.args.invocation.now)) (g.S.Source.left c.args.source.now) s (codes "input over 16777216 bytes\n")) (sym whole.0)
-          (given_due i left status.TooLong (codes "input over 16777216 bytes\n") (c.requires left) (too_long i left (g.S.Source.left c.read_all.new.source) taken.0 taken.1 taken.3));
-      grew = search (rules, whole.1);
-    }
+pub returns-in-Err-TooLong-clause-due : goal.returns-in-Err-TooLong-clause-due
+returns-in-Err-TooLong-clause-due g c = record {
+  written = λ w.
+      let i = invocation_view c.args.invocation.now in
+      let left = g.S.Source.left c.args.source.now in
+      let taken : (bytes : List ℕ) × Consumes (g.S.Source.left c.args.source.now) (g.S.Source.left c.read_all.new.source) bytes × (g.S.Source.given c.read_all.new.source ≡ g.S.Source.given c.args.source.now ++ bytes) × (length bytes ≡ 16777217) = search rules in
+      let whole = c.write_due.ensures.whole w in
+      record {
+        text = codes "input over 16777216 bytes\n";
+        is_due = subst (λ (s : Status). Due (Some (invocation_view c.args.invocation.now)) (g.S.Source.left c.args.source.now) s (codes "input over 16777216 bytes\n")) (sym whole.0)
+            (given_due i left status.TooLong (codes "input over 16777216 bytes\n") (c.requires left) (too_long i left (g.S.Source.left c.read_all.new.source) taken.0 taken.1 taken.3));
+        grew = search (rules, whole.1);
+      };
+  given = λ w.
+      let i = invocation_view c.args.invocation.now in
+      let taken : (bytes : List ℕ) × Consumes (g.S.Source.left c.args.source.now) (g.S.Source.left c.read_all.new.source) bytes × (g.S.Source.given c.read_all.new.source ≡ g.S.Source.given c.args.source.now ++ bytes) × (length bytes ≡ 16777217) = search rules in
+      let whole = c.write_due.ensures.whole w in
+      given_too_long i _ _ _ taken.0 (λ left. Written (Due (Some i) left) _ _ c.write_due.result) taken.2 taken.3 (record {
+        text = codes "input over 16777216 bytes\n";
+        is_due = subst (λ (s : Status). Due (Some i) (Some taken.0) s (codes "input over 16777216 bytes\n")) (sym whole.0) (all_too_long i taken.0 (c.requires (Some taken.0)) taken.3);
+        grew = search (rules, whole.1);
+      });
+}
 
-pub returns-in-Err-Memory-clause-cut_short : goal.returns-in-Err-Memory-clause-cut_short
-returns-in-Err-Memory-clause-cut_short g c = λ streamed.
-    let i = invocation_view c.args.invocation.now in
-    let left = g.S.Source.left c.args.source.now in
-    nothing_yet (Due (Some i) left) (g.K.Sink.held c.args.sink.now) (some_words (Some i) left streamed)
-
-pub returns-clause-written : goal.returns-clause-written
-returns-clause-written g c = λ w.
-    let i = invocation_view c.args.invocation.now in
-    let left = g.S.Source.left c.args.source.now in
-    let due = source_due i left (g.S.Source.left c.read_all.new.source) c.in-Ok.bytes.items (c.requires left) (search rules) (search rules) (search rules) in
-    written_as (DueInput i.verb i.chunks i.origin c.in-Ok.bytes.items) (Due (Some i) left) _ _ c.serve_input.result due (c.serve_input.ensures.written w)
-
-pub returns-clause-cut_short : goal.returns-clause-cut_short
-returns-clause-cut_short g c = λ short.
-    let i = invocation_view c.args.invocation.now in
-    let left = g.S.Source.left c.args.source.now in
-    let due = source_due i left (g.S.Source.left c.read_all.new.source) c.in-Ok.bytes.items (c.requires left) (search rules) (search rules) (search rules) in
-    cut_as (DueInput i.verb i.chunks i.origin c.in-Ok.bytes.items) (Due (Some i) left) _ _ due (c.serve_input.ensures.cut_short short)
-
-pub returns-clause-taken : goal.returns-clause-taken
-returns-clause-taken g c = λ e.
-    let i = invocation_view c.args.invocation.now in
-    absurd (subst IsAnswer e (written_answers i.verb i.chunks i.origin c.in-Ok.bytes.items _ _ c.serve_input.result c.serve_input.ensures.written (subst IsWritten (sym e) tt)))
-
-pub returns-clause-words : goal.returns-clause-words
-returns-clause-words g c = λ e.
-    let i = invocation_view c.args.invocation.now in
-    subst IsAnswer e (written_answers i.verb i.chunks i.origin c.in-Ok.bytes.items _ _ c.serve_input.result c.serve_input.ensures.written (subst IsWritten (sym e) tt))
-
--- ---- of the bytes that the source gave
-
-pub returns-in-Err-TooLong-clause-given : goal.returns-in-Err-TooLong-clause-given
-returns-in-Err-TooLong-clause-given g c = λ w.
-    let i = invocation_view c.args.invocation.now in
-    let taken : (bytes : List ℕ) × Consumes (g.S.Source.left c.args.source.now) (g.S.Source.left c.read_all.new.source) bytes × (g.S.Source.given c.read_all.new.source ≡ g.S.Source.given c.args.source.now ++ bytes) × (length bytes ≡ 16777217) = search rules in
-    let whole = c.write_due.ensures.whole w in
-    given_too_long i _ _ _ taken.0 (λ left. Written (Due (Some i) left) _ _ c.write_due.result) taken.2 taken.3 (record {
-      text = codes "input over 16777216 bytes\n";
-      is_due = subst (λ (s : Status). Due (Some i) (Some taken.0) s (codes "input over 16777216 bytes\n")) (sym whole.0) (all_too_long i taken.0 (c.requires (Some taken.0)) taken.3);
-      grew = search (rules, whole.1);
-    })
-
-pub returns-in-Err-TooLong-clause-given_short : goal.returns-in-Err-TooLong-clause-given_short
-returns-in-Err-TooLong-clause-given_short g c = λ short some.
-    let i = invocation_view c.args.invocation.now in
-    let taken : (bytes : List ℕ) × Consumes (g.S.Source.left c.args.source.now) (g.S.Source.left c.read_all.new.source) bytes × (g.S.Source.given c.read_all.new.source ≡ g.S.Source.given c.args.source.now ++ bytes) × (length bytes ≡ 16777217) = search rules in
-    given_too_long i _ _ _ taken.0 (λ left. CutShort (Due (Some i) left) _ _) taken.2 taken.3 (record {
-      status = status.TooLong;
-      text = codes "input over 16777216 bytes\n";
-      is_due = all_too_long i taken.0 (c.requires (Some taken.0)) taken.3;
-      grew = search (rules, c.write_due.ensures.front (short_is (is_streamed i.verb) c.write_due.result short c.write_due.ensures.only.1));
-    })
-
-pub returns-clause-given : goal.returns-clause-given
-returns-clause-given g c = λ w.
-    let i = invocation_view c.args.invocation.now in
-    let bytes = c.in-Ok.bytes.items in
-    record {
-      bytes = bytes;
-      gave = c.in-Ok.ensures.gave;
-      whole = λ reads within. c.in-Ok.ensures.ended;
-      holds = written_as (DueInput i.verb i.chunks i.origin bytes) (Due (Some i) (Some bytes)) _ _ c.serve_input.result (all_due i bytes (c.requires (Some bytes)) (search rules)) (c.serve_input.ensures.written w);
-    }
-
-pub returns-clause-given_short : goal.returns-clause-given_short
-returns-clause-given_short g c = λ short some.
-    let i = invocation_view c.args.invocation.now in
-    let bytes = c.in-Ok.bytes.items in
-    record {
-      bytes = bytes;
-      gave = c.in-Ok.ensures.gave;
-      whole = λ reads within. c.in-Ok.ensures.ended;
-      holds = cut_as (DueInput i.verb i.chunks i.origin bytes) (Due (Some i) (Some bytes)) _ _ (all_due i bytes (c.requires (Some bytes)) (search rules)) (c.serve_input.ensures.cut_short short);
-    }
-
--- ---- what the gate was told of
+pub returns-in-Err-TooLong-clause-ends : goal.returns-in-Err-TooLong-clause-ends
+returns-in-Err-TooLong-clause-ends g c = record {
+  short = record {
+    cut_short = λ short.
+        let i = invocation_view c.args.invocation.now in
+        let left = g.S.Source.left c.args.source.now in
+        let taken : (bytes : List ℕ) × Consumes (g.S.Source.left c.args.source.now) (g.S.Source.left c.read_all.new.source) bytes × (g.S.Source.given c.read_all.new.source ≡ g.S.Source.given c.args.source.now ++ bytes) × (length bytes ≡ 16777217) = search rules in
+        record {
+          status = status.TooLong;
+          text = codes "input over 16777216 bytes\n";
+          is_due = given_due i left status.TooLong (codes "input over 16777216 bytes\n") (c.requires left) (too_long i left (g.S.Source.left c.read_all.new.source) taken.0 taken.1 taken.3);
+          grew = search (rules, c.write_due.ensures.front (short_is (is_streamed i.verb) c.write_due.result short c.write_due.ensures.only.1));
+        };
+    given_short = λ short some.
+        let i = invocation_view c.args.invocation.now in
+        let taken : (bytes : List ℕ) × Consumes (g.S.Source.left c.args.source.now) (g.S.Source.left c.read_all.new.source) bytes × (g.S.Source.given c.read_all.new.source ≡ g.S.Source.given c.args.source.now ++ bytes) × (length bytes ≡ 16777217) = search rules in
+        given_too_long i _ _ _ taken.0 (λ left. CutShort (Due (Some i) left) _ _) taken.2 taken.3 (record {
+          status = status.TooLong;
+          text = codes "input over 16777216 bytes\n";
+          is_due = all_too_long i taken.0 (c.requires (Some taken.0)) taken.3;
+          grew = search (rules, c.write_due.ensures.front (short_is (is_streamed i.verb) c.write_due.result short c.write_due.ensures.only.1));
+        });
+  };
+  sink = search rules;
+  source = search rules;
+  unwritten = search rules;
+  taken = search rules;
+  words = search rules;
+}
 
 pub returns-in-Err-TooLong-clause-heard : goal.returns-in-Err-TooLong-clause-heard
 returns-in-Err-TooLong-clause-heard g c = λ ran. absurd (subst HasRun (c.write_due.ensures.whole (run_written c.write_due.result ran)).0 ran)
+
+-- ---- no memory for it
+
+pub returns-in-Err-Memory-clause-ends : goal.returns-in-Err-Memory-clause-ends
+returns-in-Err-Memory-clause-ends g c = record {
+  short = record {
+    cut_short = λ streamed.
+        let i = invocation_view c.args.invocation.now in
+        let left = g.S.Source.left c.args.source.now in
+        nothing_yet (Due (Some i) left) (g.K.Sink.held c.args.sink.now) (some_words (Some i) left streamed);
+    given_short = search rules;
+  };
+  sink = search rules;
+  source = search rules;
+  unwritten = search rules;
+  taken = search rules;
+  words = search rules;
+}
+
+-- ---- one that is answered
+
+pub returns-clause-due : goal.returns-clause-due
+returns-clause-due g c = record {
+  written = λ w.
+      let i = invocation_view c.args.invocation.now in
+      let left = g.S.Source.left c.args.source.now in
+      let due = source_due i left (g.S.Source.left c.read_all.new.source) c.in-Ok.bytes.items (c.requires left) (search rules) (search rules) (search rules) in
+      written_as (DueInput i.verb i.chunks i.origin c.in-Ok.bytes.items) (Due (Some i) left) _ _ c.serve_input.result due (c.serve_input.ensures.due.written w);
+  given = λ w.
+      let i = invocation_view c.args.invocation.now in
+      let bytes = c.in-Ok.bytes.items in
+      record {
+        bytes = bytes;
+        gave = c.in-Ok.ensures.gave;
+        whole = λ reads within. c.in-Ok.ensures.ended;
+        holds = written_as (DueInput i.verb i.chunks i.origin bytes) (Due (Some i) (Some bytes)) _ _ c.serve_input.result (all_due i bytes (c.requires (Some bytes)) (search rules)) (c.serve_input.ensures.due.written w);
+      };
+}
+
+pub returns-clause-ends : goal.returns-clause-ends
+returns-clause-ends g c = record {
+  short = record {
+    cut_short = λ short.
+        let i = invocation_view c.args.invocation.now in
+        let left = g.S.Source.left c.args.source.now in
+        let due = source_due i left (g.S.Source.left c.read_all.new.source) c.in-Ok.bytes.items (c.requires left) (search rules) (search rules) (search rules) in
+        cut_as (DueInput i.verb i.chunks i.origin c.in-Ok.bytes.items) (Due (Some i) left) _ _ due (c.serve_input.ensures.due.cut_short short);
+    given_short = λ short some.
+        let i = invocation_view c.args.invocation.now in
+        let bytes = c.in-Ok.bytes.items in
+        record {
+          bytes = bytes;
+          gave = c.in-Ok.ensures.gave;
+          whole = λ reads within. c.in-Ok.ensures.ended;
+          holds = cut_as (DueInput i.verb i.chunks i.origin bytes) (Due (Some i) (Some bytes)) _ _ (all_due i bytes (c.requires (Some bytes)) (search rules)) (c.serve_input.ensures.due.cut_short short);
+        };
+  };
+  sink = search rules;
+  source = search rules;
+  unwritten = search rules;
+  taken = λ e.
+      let i = invocation_view c.args.invocation.now in
+      absurd (subst IsAnswer e (written_answers i.verb i.chunks i.origin c.in-Ok.bytes.items _ _ c.serve_input.result c.serve_input.ensures.due.written (subst IsWritten (sym e) tt)));
+  words = λ e.
+      let i = invocation_view c.args.invocation.now in
+      subst IsAnswer e (written_answers i.verb i.chunks i.origin c.in-Ok.bytes.items _ _ c.serve_input.result c.serve_input.ensures.due.written (subst IsWritten (sym e) tt));
+}
 
 pub returns-clause-heard : goal.returns-clause-heard
 returns-clause-heard g c = λ ran.

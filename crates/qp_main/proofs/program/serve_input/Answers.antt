@@ -17,13 +17,18 @@ write_answer-requires g c =
     let due : DueInput (verb_view c.args.invocation.now.verb) c.args.invocation.now.chunks c.args.invocation.now.origin c.args.bytes.items c.in-Ok.status (pieces_text c.in-Ok.text) = search rules in
     answer_written c.in-Ok.status (due_answer (verb_view i.verb) i.chunks i.origin c.args.bytes.items c.in-Ok.status (pieces_text c.in-Ok.text) due)
 
-pub returns-in-Ok-clause-cut_short : goal.returns-in-Ok-clause-cut_short
-returns-in-Ok-clause-cut_short g c = λ short. record {
-  status = c.in-Ok.status;
-  text = pieces_text c.in-Ok.text;
-  is_due = search rules;
-  grew = search (rules, c.write_answer.ensures.front (short_is (is_streamed (verb_view c.args.invocation.now.verb)) c.write_answer.result short c.write_answer.ensures.only.1));
-}
+pub returns-in-Ok-clause-due : goal.returns-in-Ok-clause-due
+returns-in-Ok-clause-due g c =
+    record {
+      written = search rules;
+      cut_short = λ short. record {
+        status = c.in-Ok.status;
+        text = pieces_text c.in-Ok.text;
+        is_due = search rules;
+        grew = search (rules, c.write_answer.ensures.front (short_is (is_streamed (verb_view c.args.invocation.now.verb)) c.write_answer.result short c.write_answer.ensures.only.1));
+      };
+      others = search rules;
+    }
 
 pub write_due-requires : goal.write_due-requires
 write_due-requires g c =
@@ -31,13 +36,18 @@ write_due-requires g c =
     let due : DueInput (verb_view c.args.invocation.now.verb) c.args.invocation.now.chunks c.args.invocation.now.origin c.args.bytes.items c.in-Err-Refused.status c.in-Err-Refused.line = search rules in
     answer_written c.in-Err-Refused.status (due_answer (verb_view i.verb) i.chunks i.origin c.args.bytes.items c.in-Err-Refused.status c.in-Err-Refused.line due)
 
-pub returns-in-Err-Refused-clause-cut_short : goal.returns-in-Err-Refused-clause-cut_short
-returns-in-Err-Refused-clause-cut_short g c = λ short. record {
-  status = c.in-Err-Refused.status;
-  text = c.in-Err-Refused.line;
-  is_due = search rules;
-  grew = search (rules, c.as_slice.ensures, c.write_due.ensures.front (short_is (is_streamed (verb_view c.args.invocation.now.verb)) c.write_due.result short c.write_due.ensures.only.1));
-}
+pub returns-in-Err-Refused-clause-due : goal.returns-in-Err-Refused-clause-due
+returns-in-Err-Refused-clause-due g c =
+    record {
+      written = search rules;
+      cut_short = λ short. record {
+        status = c.in-Err-Refused.status;
+        text = c.in-Err-Refused.line;
+        is_due = search rules;
+        grew = search (rules, c.as_slice.ensures, c.write_due.ensures.front (short_is (is_streamed (verb_view c.args.invocation.now.verb)) c.write_due.result short c.write_due.ensures.only.1));
+      };
+      others = search rules;
+    }
 
 -- ---- what the gate was told of
 

@@ -10,11 +10,11 @@ use Rattle.qp_main.proofs.BlockLemmas.{lists_said}
 use Rattle.qp_main.proofs.ReadingLemmas.{octets_of}
 use Rattle.qp_main.proofs.reading.zones_script_in.Goals as goal
 
-pub returns-clause-few_workers : goal.returns-clause-few_workers
-returns-clause-few_workers c =
-    if_ok c.read_script.result (λ (s : ZonesScript) (told : AreLists c.args.origins.now (lines_of c.args.bytes.now) (workers_view s)). omega (arith, told.few, length-map s.workers.items worker_view)) (c.read_script.ensures.told c.requires.first)
-
-pub returns-clause-said : goal.returns-clause-said
-returns-clause-said c =
+pub returns-clause-script : goal.returns-clause-script
+returns-clause-script c =
     let octets = lines_are c.args.bytes.now (octets_of c.args.bytes.now (λ i. let k : get_or c.args.bytes.now i 0 < 256 = omega (arith, c.type_inv.bytes i) in k)) in
-    if_ok c.read_script.result (λ (s : ZonesScript) (told : AreLists c.args.origins.now (lines_of c.args.bytes.now) (workers_view s)). lists_said c.args.origins.now (lines_of c.args.bytes.now) c.requires.names octets (workers_view s) told) (c.read_script.ensures.told c.requires.first)
+    if_ok c.read_script.result
+    (λ (s : ZonesScript) (told : AreLists c.args.origins.now (lines_of c.args.bytes.now) (workers_view s)). record {
+      few_workers = omega (arith, told.few, length-map s.workers.items worker_view);
+      said = lists_said c.args.origins.now (lines_of c.args.bytes.now) c.requires.origins.names octets (workers_view s) told;
+    }) (c.read_script.ensures.told c.requires.first)

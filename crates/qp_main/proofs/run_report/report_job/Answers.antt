@@ -17,7 +17,7 @@ returns-in_ok-text-in-Finished-clause-told g c = λ zone stands dumped.
     job_told c.args.telling i.chunks i.origin zone (job_view c.args.job.now) c.in-Finished.finished (pieces_text c.in_ok-text-in-Finished.text) c.any_refused-refused.result c.status_of.result (search (rules, c.in_ok-finished.ensures.ran zone stands))
     c.in_ok-text-in-Finished.ensures
     (c.any_refused-refused.ensures ∙ ap (λ (l : List Outcomes). list_any (λ (w : Outcomes). list_any (λ (o : Outcome). is_refused (ended_view o.told)) w.list.items) l) c.deref.ensures.value)
-    c.status_of.ensures (record { zone = dumped; workers = c.requires.said })
+    c.status_of.ensures (record { zone = dumped; workers = c.requires.can.said })
 
 pub returns-in_ok-text-in-Finished-clause-heard : goal.returns-in_ok-text-in-Finished-clause-heard
 returns-in_ok-text-in-Finished-clause-heard g c = λ has_run.

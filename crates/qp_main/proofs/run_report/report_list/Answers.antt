@@ -23,7 +23,7 @@ returns-in_ok-text-in-Finished-clause-told g c = λ zone workers stands dumped s
     (subst (λ (n : ℕ). FedRanOn i.chunks n i.origin zone commands (fed.Finished f)) (sym (same (search rules))) r)
     (search (rules, c.in_ok-text-in-Finished.ensures))
     (search (rules, c.any_fed_refused.ensures))
-    c.status_of-status.ensures (record { zone = dumped; commands = c.requires.said })
+    c.status_of-status.ensures (record { zone = dumped; commands = c.requires.can.said })
 
 pub returns-then-is_empty-clause-told : goal.returns-then-is_empty-clause-told
 returns-then-is_empty-clause-told g c = λ zone workers stands dumped same.

@@ -15,16 +15,19 @@ use Rattle.qp_main.proofs.HeardLemmas.{script_unrun, zones_unrun}
 use Rattle.qp_main.proofs.SeveralLemmas.{list_stops, names_are, said_over, script_stops, zones_answers, zones_heard}
 use Rattle.qp_main.proofs.several.answer_zones.Goals as goal
 
-pub script_over-requires-clause-names : goal.script_over-requires-clause-names
-script_over-requires-clause-names g c =
-    names_are c.in_ok-zones.zones.items c.deref-2.result.now (c.deref-2.ensures.value ∙ c.in_ok-origins.ensures ∙ ap origins_of c.deref.ensures.value) c.in_ok-zones.ensures.said
+pub script_over-requires : goal.script_over-requires
+script_over-requires g c = record {
+  zones = search rules;
+  names =
+      names_are c.in_ok-zones.zones.items c.deref-2.result.now (c.deref-2.ensures.value ∙ c.in_ok-origins.ensures ∙ ap origins_of c.deref.ensures.value) c.in_ok-zones.ensures.said;
+}
 
-pub report_zones-requires-clause-said : goal.report_zones-requires-clause-said
-report_zones-requires-clause-said g c =
+pub report_zones-requires-clause-script : goal.report_zones-requires-clause-script
+report_zones-requires-clause-script g c =
     let zones = c.in_ok-zones.zones.items in
     let workers = workers_view c.in_ok-script.script in
-    let over : AllByRecursion (AllByRecursion (IsSaid (origins_of zones))) workers = said_over zones c.deref-2.result.now workers (c.deref-2.ensures.value ∙ c.in_ok-origins.ensures ∙ ap origins_of c.deref.ensures.value) c.in_ok-script.ensures.said in
-    search (rules, over)
+    let over : AllByRecursion (AllByRecursion (IsSaid (origins_of zones))) workers = said_over zones c.deref-2.result.now workers (c.deref-2.ensures.value ∙ c.in_ok-origins.ensures ∙ ap origins_of c.deref.ensures.value) c.in_ok-script.ensures.script.said in
+    λ κs bounds. record { few_workers = search rules; said = search (rules, over) }
 
 pub returns-clause-told : goal.returns-clause-told
 returns-clause-told g c =

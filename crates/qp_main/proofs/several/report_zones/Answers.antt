@@ -31,7 +31,7 @@ run_zone_items-requires-clause-can g c κs within =
     let listed = c.requires.listed in
     let sizes = map (λ b. b.shared.table.shared.key) c.in_ok-blanks.blanks.items in
     let stand = they_stand c.args.zones.items items are in
-    let over = subst (λ (o : List Name). AllByRecursion (AllByRecursion (IsSaid o)) (workers_view c.args.script.now)) stand.origins c.requires.said in
+    let over = subst (λ (o : List Name). AllByRecursion (AllByRecursion (IsSaid o)) (workers_view c.args.script.now)) stand.origins c.requires.script.said in
     record {
       table_chunks = search rules;
       table_passes = search rules;

@@ -35,6 +35,6 @@ returns g c =
         c.run-status.result,
         search rules,
         subst (λ words. Ran words (g.S.Source.given c.args.source.now) (g.S.Source.given c.run-status.new.source) (g.S.Source.ended c.run-status.new.source) (g.K.Sink.held c.args.sink.now) (g.K.Sink.held c.run-status.new.sink) c.run-status.result)
-            are (record { whole = ran.given; front = ran.given_short; unwritten = ran.unwritten; session = ran.session; refused = ran.words }),
+            are (record { whole = ran.given; front = ran.ends.short.given_short; unwritten = ran.ends.unwritten; session = ran.session; refused = ran.ends.words }),
       );
     }

@@ -6,5 +6,5 @@ use Rattle.zone_dump.proofs.dumping.dump_text.Goals as goal
 
 pub returns-in-Ok-clause-ok : goal.returns-in-Ok-clause-ok
 returns-in-Ok-clause-ok g c zone shows =
-    (c.in-Ok.ensures.ok zone shows).told ∙ ap (λ (had : List ℕ). had ++ file_text None zone) (ap (λ text. text.items) c.replace-text.ensures.value)
+    (c.in-Ok.ensures.written.ok zone shows).told ∙ ap (λ (had : List ℕ). had ++ file_text None zone) (ap (λ text. text.items) c.replace-text.ensures.value)
     ∙ ap (λ (text : List ℕ). c.args.out.now.items ++ text) (file_is_full zone)

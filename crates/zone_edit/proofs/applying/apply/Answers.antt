@@ -1,4 +1,4 @@
-use Rattle.std.proofs.Common.{◌≡◌, ◌<◌, ◌≤◌, length, take, Ok, Err, refl, sym, subst, arith}
+use Rattle.std.proofs.Common.{rules, ◌≡◌, ◌<◌, ◌≤◌, length, take, Ok, Err, refl, sym, subst, arith}
 use Rattle.zone_model.specs.Names.{Name}
 use Rattle.zone_model.specs.Records.{item, item_limit}
 use Rattle.zone_model.specs.Versions.{owned, owner_of, put}
@@ -13,17 +13,23 @@ use Rattle.zone_edit.specs.declared.refusal.EditRefusal.TheVariants as refusals
 use Rattle.zone_edit.proofs.EditLaws.{edits_as, edits_on, read_some}
 use Rattle.zone_edit.proofs.applying.apply.Goals as goal
 
-pub store-requires-clause-short : goal.store-requires-clause-short
-store-requires-clause-short g c some =
-    let operation = operation_view c.args.operation.now in
-    let owner = c.owner-owner.result.now in
-    let octets = take c.read_owned-len.result c.read_owned-len.new.item in
-    let r = read_some owner c.read_owned-len.new.item c.read_owned-len.result c.args.transaction.now.locked.now.working c.read_owned-len.new.transaction.locked.now.working c.requires.works c.read_owned-len.ensures.read in
-    let both = c.in-Ok.ensures (owned owner r.0) r.2.says in
-    let mine : c.in-Ok.before ≡ owned (owner_of operation) r.0 = subst (λ (n : Name). c.in-Ok.before ≡ owned n r.0) c.owner-owner.ensures both.0 in
-    let made = made_of c.args.origin.now operation owner octets c.in-Ok.before c.in-Ok.entry (owned owner r.0) c.owner-owner.ensures c.in_default.ensures r.2.says both.0 both.1 in
-    let short : 0 < length c.in-Ok.before → length (item (owner_of operation) c.in-Ok.before) ≤ item_limit = λ h. owned_short (owner_of operation) r.0 c.in-Ok.before r.1 mine h in
-    subst (λ (n : Name). length (item n c.in-Ok.entry) ≤ item_limit) (sym c.owner-owner.ensures) (changed_short c.args.origin.now operation c.in-Ok.before c.in-Ok.entry made short some)
+pub store-requires : goal.store-requires
+store-requires g c = record {
+  key = search rules;
+  says = search rules;
+  owns = search rules;
+  short = λ some.
+      let operation = operation_view c.args.operation.now in
+      let owner = c.owner-owner.result.now in
+      let octets = take c.read_owned-len.result c.read_owned-len.new.item in
+      let r = read_some owner c.read_owned-len.new.item c.read_owned-len.result c.args.transaction.now.locked.now.working c.read_owned-len.new.transaction.locked.now.working c.requires.works c.read_owned-len.ensures.read in
+      let both = c.in-Ok.ensures (owned owner r.0) r.2.says in
+      let mine : c.in-Ok.before ≡ owned (owner_of operation) r.0 = subst (λ (n : Name). c.in-Ok.before ≡ owned n r.0) c.owner-owner.ensures both.0 in
+      let made = made_of c.args.origin.now operation owner octets c.in-Ok.before c.in-Ok.entry (owned owner r.0) c.owner-owner.ensures c.in_default.ensures r.2.says both.0 both.1 in
+      let short : 0 < length c.in-Ok.before → length (item (owner_of operation) c.in-Ok.before) ≤ item_limit = λ h. owned_short (owner_of operation) r.0 c.in-Ok.before r.1 mine h in
+      subst (λ (n : Name). length (item n c.in-Ok.entry) ≤ item_limit) (sym c.owner-owner.ensures) (changed_short c.args.origin.now operation c.in-Ok.before c.in-Ok.entry made short some);
+  room = search rules;
+}
 
 pub returns-in_default-both_entries-clause-applies : goal.returns-in_default-both_entries-clause-applies
 returns-in_default-both_entries-clause-applies g c =

@@ -22,8 +22,8 @@ loop-index-init g c = record {
 
 pub loop-index-preserved : goal.loop-index-preserved
 loop-index-preserved g c = record {
-  same_reference = (c.apply.ensures.same_reference.0 ∙ c.loop-index.invariant.same_reference.0, c.apply.ensures.same_reference.1 ∙ c.loop-index.invariant.same_reference.1);
-  place = c.apply.ensures.place ∙ c.loop-index.invariant.place;
+  same_reference = (c.apply.ensures.goes_on.same_reference.0 ∙ c.loop-index.invariant.same_reference.0, c.apply.ensures.goes_on.same_reference.1 ∙ c.loop-index.invariant.same_reference.1);
+  place = c.apply.ensures.goes_on.place ∙ c.loop-index.invariant.place;
   works = edits_some 1 (Applies c.args.origin.now (operation_view c.index-operations-index.result) (Ok tt)) c.loop-index.transaction.locked.now.working c.apply.new.transaction.locked.now.working c.loop-index.invariant.works (λ version e a. record { version = a.0; on = a.2 }) c.in_default.ensures.applies;
   so_far = subst (λ (l : List Operation). EditedInOrder c.args.origin.now l (Ok tt) c.args.transaction.now.locked.now.working c.apply.new.transaction.locked.now.working)
       (sym (up_to operation_view c.args.operations.now c.loop-index.index c.index-operations-index.result c.loop-index-test.true c.index-operations-index.is))
@@ -37,7 +37,7 @@ returns-in-Err-clause-applies g c =
     let long = length-map (take c.loop-index.index c.args.operations.now) operation_view ∙ length-take-le c.loop-index.index c.args.operations.now (omega arith) in
     refused_in_order c.args.origin.now (map operation_view (take c.loop-index.index c.args.operations.now)) (map operation_view (drop (c.loop-index.index + 1) c.args.operations.now)) (map operation_view c.args.operations.now) (operation_view c.index-operations-index.result)
     (c.loop-index.index + 1) c.in-Err.refusal c.args.transaction.now.locked.now.working c.loop-index.transaction.locked.now.working c.apply.new.transaction.locked.now.working
-    (all_around operation_view c.args.operations.now c.loop-index.index c.index-operations-index.result lt c.index-operations-index.is) (ap (λ (n : ℕ). n + 1) (sym long)) (λ at request e. c.apply.ensures.number at request (c.in-Err.is ∙ ap (λ x. Err x) e))
+    (all_around operation_view c.args.operations.now c.loop-index.index c.index-operations-index.result lt c.index-operations-index.is) (ap (λ (n : ℕ). n + 1) (sym long)) (λ at request e. c.apply.ensures.want.number at request (c.in-Err.is ∙ ap (λ x. Err x) e))
     c.loop-index.invariant.so_far c.in-Err.ensures.applies
 
 pub returns-clause-applies : goal.returns-clause-applies

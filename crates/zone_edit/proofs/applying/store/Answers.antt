@@ -21,9 +21,15 @@ returns-then-eq-clause-stores g c =
     edits_same 1 (Owns c.args.name.now c.args.before.now) (Stores c.args.name.now c.args.before.now c.args.entry.now (Ok tt)) c.args.transaction.now.locked.now.working c.requires.owns
     (λ d version on is. subst (WorksOn d) (sym (unchanged_put c.args.name.now c.args.entry.now version on.valid c.in-Some.ensures.item.some (same ∙ is))) on)
 
-pub exchange-requires-clause-other : goal.exchange-requires-clause-other
-exchange-requires-clause-other g c e =
-    let some : c.args.before.now ≡ [] → ⊥ = search (rules, c.if-is_empty-3.ensures, c.if-is_empty-3.false) in
-    let old = said_item c.args.name.now c.args.octets.now c.args.before.now c.requires.says some in
-    let never : take c.in-Some.len c.encode.new.out ≡ c.args.octets.now → ⊥ = search (rules, c.if-eq.ensures, c.if-eq.false) in
-    never (c.in-Some.ensures.item.octets ∙ ap (item c.args.name.now) e ∙ sym old.octets)
+pub exchange-requires : goal.exchange-requires
+exchange-requires g c = record {
+  key = c.requires.key;
+  owns = c.requires.owns;
+  some = search rules;
+  item = search rules;
+  other = λ e.
+      let some : c.args.before.now ≡ [] → ⊥ = search (rules, c.if-is_empty-3.ensures, c.if-is_empty-3.false) in
+      let old = said_item c.args.name.now c.args.octets.now c.args.before.now c.requires.says some in
+      let never : take c.in-Some.len c.encode.new.out ≡ c.args.octets.now → ⊥ = search (rules, c.if-eq.ensures, c.if-eq.false) in
+      never (c.in-Some.ensures.item.octets ∙ ap (item c.args.name.now) e ∙ sym old.octets);
+}

@@ -5,11 +5,11 @@ use Rattle.zone_server.proofs.noting.note_zones.Goals as goal
 pub note-requires : goal.note-requires
 note-requires g c = record { pass = pass_in g.H.Home.zones c.args.zones.now c.requires.zones c.args.pass.now c.requires.pass.pass }
 
-pub returns-clause-pass : goal.returns-clause-pass
-returns-clause-pass g c = serving_same g.H.Home.zones c.args.zones.now c.requires.zones c.args.pass.now c.note.new.self c.requires.pass c.note.ensures.pass c.note.ensures.same
-
-pub returns-clause-same : goal.returns-clause-same
-returns-clause-same g c = knows_same c.args.pass.now c.note.new.self c.note.ensures.same
+pub returns-clause-stays : goal.returns-clause-stays
+returns-clause-stays g c = record {
+  pass = serving_same g.H.Home.zones c.args.zones.now c.requires.zones c.args.pass.now c.note.new.self c.requires.pass c.note.ensures.pass c.note.ensures.same;
+  same = knows_same c.args.pass.now c.note.new.self c.note.ensures.same;
+}
 
 pub returns-clause-of : goal.returns-clause-of
 returns-clause-of g c = is_note g.H.Home.zones c.args.zones.now c.requires.zones c.note.result c.note.ensures.of

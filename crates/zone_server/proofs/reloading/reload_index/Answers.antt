@@ -19,26 +19,28 @@ returns-in_default-clause-reloading g c = λ s opened_with.
     reloading_none zone.origin zone.pairs c.requires.zone (known_at c.args.pass.now.seat) (known_at c.difference_of-version.new.pass.seat) (seat_told c.args.pass.now.seat c.requires.here) c.requires.opens tells c.difference_of-version.result.version c.difference_of-version.ensures.shown
     s opened_with.index.origin_is opened_with.opening (seat_told c.difference_of-version.new.pass.seat c.difference_of-version.ensures.here)
 
-pub exchange-requires-clause-opens : goal.exchange-requires-clause-opens
-exchange-requires-clause-opens g c =
-    let zone = c.args.zone.now in
-    let tells : Version → Type 0 = λ v. IfOk c.difference_of-version.result.told (λ list. map operation_view list.items ≡ difference Keep v zone.pairs) in
-    subst (λ (o : Name). OpensAt o (known_at c.difference_of-version.new.pass.seat)) (sym c.origin.ensures)
-    (looked_opens zone.origin zone.pairs c.requires.zone (known_at c.args.pass.now.seat) (known_at c.difference_of-version.new.pass.seat) (seat_told c.args.pass.now.seat c.requires.here) c.requires.opens tells c.difference_of-version.result.version c.difference_of-version.ensures.shown)
-
-pub exchange-requires-clause-makes : goal.exchange-requires-clause-makes
-exchange-requires-clause-makes g c =
-    let zone = c.args.zone.now in
-    let old = known_at c.args.pass.now.seat in
-    let looked = known_at c.difference_of-version.new.pass.seat in
-    let heard = seat_told c.args.pass.now.seat c.requires.here in
-    let tells : Version → Type 0 = λ v. IfOk c.difference_of-version.result.told (λ list. map operation_view list.items ≡ difference Keep v zone.pairs) in
-    let number = c.difference_of-version.result.version in
-    let shown = c.difference_of-version.ensures.shown in
-    let was = before zone.origin zone.pairs c.requires.zone old looked heard c.requires.opens tells number shown in
-    let listed = ok_is (λ list. map operation_view list.items ≡ difference Keep was zone.pairs) c.difference_of-version.result.told c.in-Ok.operations c.in-Ok.is (tells_before zone.origin zone.pairs c.requires.zone old looked heard c.requires.opens tells number shown) in
-    subst (λ (o : Name). MakesZone o (changes (map operation_view c.deref.result.now)) looked number) (sym c.origin.ensures)
-    (makes_by zone.origin zone.pairs c.requires.zone old looked heard c.requires.opens tells number shown (map operation_view c.deref.result.now) (ap (map operation_view) c.deref.ensures.value ∙ listed))
+pub exchange-requires : goal.exchange-requires
+exchange-requires g c = record {
+  here = c.difference_of-version.ensures.here;
+  place = c.difference_of-version.ensures.place ∙ c.requires.place;
+  opens =
+      let zone = c.args.zone.now in
+      let tells : Version → Type 0 = λ v. IfOk c.difference_of-version.result.told (λ list. map operation_view list.items ≡ difference Keep v zone.pairs) in
+      subst (λ (o : Name). OpensAt o (known_at c.difference_of-version.new.pass.seat)) (sym c.origin.ensures)
+      (looked_opens zone.origin zone.pairs c.requires.zone (known_at c.args.pass.now.seat) (known_at c.difference_of-version.new.pass.seat) (seat_told c.args.pass.now.seat c.requires.here) c.requires.opens tells c.difference_of-version.result.version c.difference_of-version.ensures.shown);
+  makes =
+      let zone = c.args.zone.now in
+      let old = known_at c.args.pass.now.seat in
+      let looked = known_at c.difference_of-version.new.pass.seat in
+      let heard = seat_told c.args.pass.now.seat c.requires.here in
+      let tells : Version → Type 0 = λ v. IfOk c.difference_of-version.result.told (λ list. map operation_view list.items ≡ difference Keep v zone.pairs) in
+      let number = c.difference_of-version.result.version in
+      let shown = c.difference_of-version.ensures.shown in
+      let was = before zone.origin zone.pairs c.requires.zone old looked heard c.requires.opens tells number shown in
+      let listed = ok_is (λ list. map operation_view list.items ≡ difference Keep was zone.pairs) c.difference_of-version.result.told c.in-Ok.operations c.in-Ok.is (tells_before zone.origin zone.pairs c.requires.zone old looked heard c.requires.opens tells number shown) in
+      subst (λ (o : Name). MakesZone o (changes (map operation_view c.deref.result.now)) looked number) (sym c.origin.ensures)
+      (makes_by zone.origin zone.pairs c.requires.zone old looked heard c.requires.opens tells number shown (map operation_view c.deref.result.now) (ap (map operation_view) c.deref.ensures.value ∙ listed));
+}
 
 pub returns-clause-reloading : goal.returns-clause-reloading
 returns-clause-reloading g c = λ s opened_with.

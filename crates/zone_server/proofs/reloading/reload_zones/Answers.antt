@@ -1,4 +1,4 @@
-use Rattle.std.proofs.Common.{◌∙◌, Some, refl, sym, ap}
+use Rattle.std.proofs.Common.{rules, ◌∙◌, Some, refl, sym, ap}
 use Rattle.std.proofs.lemmas.Option.{slice_get_within}
 use Rattle.qp_multi.specs.Passes.{known_at}
 use Rattle.job_commands.proofs.ShowLaws.{seat_told}
@@ -23,9 +23,14 @@ zone-place-requires-pass g c = pass_in g.H.Home.zones c.args.zones.now c.require
 pub zone-place-requires-within : goal.zone-place-requires-within
 zone-place-requires-within g c = slice_get_within c.args.zones.now.origins.items c.in-Some.zone c.origin.result.now c.in-Some.ensures.found
 
-pub reload_index-requires-clause-opens : goal.reload_index-requires-clause-opens
-reload_index-requires-clause-opens g c =
-    opens_at g.H.Home.zones c.args.zones.now c.requires.zones c.args.pass.now c.requires.pass c.in-Some.zone c.args.loaded.now.origin (c.in-Some.ensures.found ∙ ap Some c.origin.ensures) c.zone-place.result.now c.zone-place.ensures.known
+pub reload_index-requires : goal.reload_index-requires
+reload_index-requires g c = record {
+  here = c.zone-place.ensures.here;
+  place = search rules;
+  opens =
+      opens_at g.H.Home.zones c.args.zones.now c.requires.zones c.args.pass.now c.requires.pass c.in-Some.zone c.args.loaded.now.origin (c.in-Some.ensures.found ∙ ap Some c.origin.ensures) c.zone-place.result.now c.zone-place.ensures.known;
+  zone = c.requires.loaded;
+}
 
 pub returns-clause-pass : goal.returns-clause-pass
 returns-clause-pass g c =
@@ -39,7 +44,7 @@ returns-clause-pass g c =
     let s = served_at served zones is c.in-Some.zone origin at in
     let opened_with = opened_as_at served zones is pass c.requires.pass c.in-Some.zone origin at place c.zone-place.ensures.known c.zone-index.result.now c.zone-index.ensures.value in
     asked_serving served zones is pass pass c.requires.pass refl (pass_in served zones is pass c.requires.pass.pass)
-    c.in-Some.zone place c.reload_index.new.pass c.zone-place.ensures.value c.reload_index.ensures.here c.reload_index.ensures.place c.zone-place.ensures.known
+    c.in-Some.zone place c.reload_index.new.pass c.zone-place.ensures.value c.reload_index.ensures.stays.here c.reload_index.ensures.stays.place c.zone-place.ensures.known
     (reloading_grows (opened_as s.0) c.args.loaded.now.pairs (known_at place.seat) (known_at c.reload_index.new.pass.seat) c.reload_index.result (seat_told place.seat c.zone-place.ensures.here) (c.reload_index.ensures.reloading (opened_as s.0) opened_with))
 
 pub returns-clause-reloads : goal.returns-clause-reloads
@@ -57,5 +62,5 @@ returns-clause-reloads g c =
     let opened_with = opened_as_at served zones is pass c.requires.pass c.in-Some.zone loaded.origin at place c.zone-place.ensures.known c.zone-index.result.now c.zone-index.ensures.value in
     reloads_as served loaded (known_of pass) (known_of (with_zone pass c.in-Some.zone next)) result
     (happened_there served zones is pass pass c.requires.pass refl (pass_in served zones is pass c.requires.pass.pass)
-    c.in-Some.zone place next c.zone-place.ensures.value c.reload_index.ensures.here c.reload_index.ensures.place c.zone-place.ensures.known
+    c.in-Some.zone place next c.zone-place.ensures.value c.reload_index.ensures.stays.here c.reload_index.ensures.stays.place c.zone-place.ensures.known
     (λ x v w. Reloading (opened_as x) loaded.pairs v w result) loaded.origin at (c.reload_index.ensures.reloading (opened_as s.0) opened_with))

@@ -16,17 +16,25 @@ respond_into-requires-clause-shown g c =
     subst (λ q. ShowsSome (Holds (pinned_image q.seat.place.me.0.progress) q.seat.root)) (sym c.version-version.ensures.same)
     (shown_some _ _ _ _ c.query-query.ensures.reads.holds c.query-query.ensures.pinned.good)
 
-pub returns-in_err-told-clause-grows : goal.returns-in_err-told-clause-grows
-returns-in_err-told-clause-grows g c =
-    subst (HasGrown (known_at c.args.pass.now.seat)) {x = known_at c.drop-query.new.self.0.seat} (search rules)
-    (has_grown (known_at c.args.pass.now.seat) c.query-query.result.seat.place.me.0 (known_at c.drop-query.new.self.0.seat) c.query-query.result.seat.version c.query-query.ensures.pinned
-    (c.drop-query.ensures.left ∙ ap (λ x. with_progress x.seat.place.me.0 progress.Idle) (c.respond_into.ensures.same ∙ c.version-version.ensures.same)))
+pub returns-in_err-told-clause-asks : goal.returns-in_err-told-clause-asks
+returns-in_err-told-clause-asks g c = record {
+  here = search rules;
+  place = search rules;
+  grows =
+      subst (HasGrown (known_at c.args.pass.now.seat)) {x = known_at c.drop-query.new.self.0.seat} (search rules)
+      (has_grown (known_at c.args.pass.now.seat) c.query-query.result.seat.place.me.0 (known_at c.drop-query.new.self.0.seat) c.query-query.result.seat.version c.query-query.ensures.pinned
+      (c.drop-query.ensures.left ∙ ap (λ x. with_progress x.seat.place.me.0 progress.Idle) (c.respond_into.ensures.same ∙ c.version-version.ensures.same)));
+}
 
-pub returns-clause-grows : goal.returns-clause-grows
-returns-clause-grows g c =
-    subst (HasGrown (known_at c.args.pass.now.seat)) {x = known_at c.drop-query-2.new.self.0.seat} (search rules)
-    (has_grown (known_at c.args.pass.now.seat) c.query-query.result.seat.place.me.0 (known_at c.drop-query-2.new.self.0.seat) c.query-query.result.seat.version c.query-query.ensures.pinned
-    (c.drop-query-2.ensures.left ∙ ap (λ x. with_progress x.seat.place.me.0 progress.Idle) (c.respond_into.ensures.same ∙ c.version-version.ensures.same)))
+pub returns-clause-asks : goal.returns-clause-asks
+returns-clause-asks g c = record {
+  here = search rules;
+  place = search rules;
+  grows =
+      subst (HasGrown (known_at c.args.pass.now.seat)) {x = known_at c.drop-query-2.new.self.0.seat} (search rules)
+      (has_grown (known_at c.args.pass.now.seat) c.query-query.result.seat.place.me.0 (known_at c.drop-query-2.new.self.0.seat) c.query-query.result.seat.version c.query-query.ensures.pinned
+      (c.drop-query-2.ensures.left ∙ ap (λ x. with_progress x.seat.place.me.0 progress.Idle) (c.respond_into.ensures.same ∙ c.version-version.ensures.same)));
+}
 
 pub returns-clause-shown : goal.returns-clause-shown
 returns-clause-shown g c =

@@ -31,7 +31,7 @@ returns-clause-dumped g c =
           (λ zone stands.
           let shows = subst (λ x. Shows (Holds (pinned_image x.seat.place.me.0.progress) x.seat.root) zone) (sym c.version-version.ensures.same) (shown _ _ _ zone q.holds stands) in
           dumps_by c.args.style c.args.origin.now zone (g.K.Sink.held c.args.sink.now) (g.K.Sink.held c.dump_to-dumped.new.sink) c.version-version.result c.dump_to-dumped.result
-          (c.dump_to-dumped.ensures.count zone shows) (c.dump_to-dumped.ensures.ok zone shows) (c.dump_to-dumped.ensures.err zone shows));
+          (c.dump_to-dumped.ensures.count zone shows) (c.dump_to-dumped.ensures.written.ok zone shows) (c.dump_to-dumped.ensures.written.err zone shows));
       version = version_told c.version-version.result (length new.seen.history) c.dump_to-dumped.result (c.version-version.ensures.number ∙ sym (last_seen old pinned new number q.pinned left));
     } in
     let told = subst (λ x. IsDumped (λ zone. Dumps c.args.style c.args.origin.now zone (g.K.Sink.held c.args.sink.now) (g.K.Sink.held c.dump_to-dumped.new.sink) x) old new x) (sym c.told.ensures) facts in

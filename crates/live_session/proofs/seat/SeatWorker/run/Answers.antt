@@ -1,5 +1,6 @@
-use Rattle.live_session.proofs.SeatLaws.{map_ok, ran_on}
+use Rattle.std.proofs.lemmas.Result.{IfOk-weaker}
+use Rattle.live_session.proofs.SeatLaws.{ran_on}
 use Rattle.live_session.proofs.seat.SeatWorker.run.Goals as goal
 
 pub returns-clause-ran : goal.returns-clause-ran
-returns-clause-ran g c = λ o commands os h. map_ok c.run_next.result (λ x s. ran_on h _ _ _ s) (c.run_next.ensures.sits h.opened_with commands os h.index h.sits)
+returns-clause-ran g c = λ o commands os h. IfOk-weaker c.run_next.result _ _ (λ x s. ran_on h _ _ _ s) (c.run_next.ensures.sits h.opened_with commands os h.index h.sits)
