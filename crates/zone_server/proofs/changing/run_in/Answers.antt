@@ -15,11 +15,11 @@ use Rattle.zone_server.proofs.changing.run_in.Goals as goal
 pub zone-index-requires : goal.zone-index-requires
 zone-index-requires g c = slice_get_within c.args.zones.now.origins.items c.args.zone c.args.origin.now c.requires.zone
 
-pub zone-place-requires-pass : goal.zone-place-requires-pass
-zone-place-requires-pass g c = pass_in g.H.Home.zones c.args.zones.now c.requires.zones c.args.pass.now c.requires.pass.pass
-
-pub zone-place-requires-within : goal.zone-place-requires-within
-zone-place-requires-within g c = slice_get_within c.args.zones.now.origins.items c.args.zone c.args.origin.now c.requires.zone
+pub zone-place-requires : goal.zone-place-requires
+zone-place-requires g c = record {
+  pass = pass_in g.H.Home.zones c.args.zones.now c.requires.zones c.args.pass.now c.requires.pass.pass;
+  within = slice_get_within c.args.zones.now.origins.items c.args.zone c.args.origin.now c.requires.zone;
+}
 
 pub run_block-requires-clause-opens : goal.run_block-requires-clause-opens
 run_block-requires-clause-opens g c = opens_at g.H.Home.zones c.args.zones.now c.requires.zones c.args.pass.now c.requires.pass c.args.zone c.args.origin.now c.requires.zone c.zone-place.result.now c.zone-place.ensures.known

@@ -17,11 +17,11 @@ returns-in_default-clause-reloads g c =
 pub zone-index-requires : goal.zone-index-requires
 zone-index-requires g c = slice_get_within c.args.zones.now.origins.items c.in-Some.zone c.origin.result.now c.in-Some.ensures.found
 
-pub zone-place-requires-pass : goal.zone-place-requires-pass
-zone-place-requires-pass g c = pass_in g.H.Home.zones c.args.zones.now c.requires.zones c.args.pass.now c.requires.pass.pass
-
-pub zone-place-requires-within : goal.zone-place-requires-within
-zone-place-requires-within g c = slice_get_within c.args.zones.now.origins.items c.in-Some.zone c.origin.result.now c.in-Some.ensures.found
+pub zone-place-requires : goal.zone-place-requires
+zone-place-requires g c = record {
+  pass = pass_in g.H.Home.zones c.args.zones.now c.requires.zones c.args.pass.now c.requires.pass.pass;
+  within = slice_get_within c.args.zones.now.origins.items c.in-Some.zone c.origin.result.now c.in-Some.ensures.found;
+}
 
 pub reload_index-requires : goal.reload_index-requires
 reload_index-requires g c = record {

@@ -13,11 +13,11 @@ returns-in_default-clause-transfers g c = (none_has g.H.Home.zones c.args.zones.
 pub zone-index-requires : goal.zone-index-requires
 zone-index-requires g c = slice_get_within c.args.zones.now.origins.items c.in-Some.zone c.args.origin.now c.in-Some.ensures.found
 
-pub zone-place-requires-pass : goal.zone-place-requires-pass
-zone-place-requires-pass g c = pass_in g.H.Home.zones c.args.zones.now c.requires.serves.zones c.args.pass.now c.requires.serves.pass.pass
-
-pub zone-place-requires-within : goal.zone-place-requires-within
-zone-place-requires-within g c = slice_get_within c.args.zones.now.origins.items c.in-Some.zone c.args.origin.now c.in-Some.ensures.found
+pub zone-place-requires : goal.zone-place-requires
+zone-place-requires g c = record {
+  pass = pass_in g.H.Home.zones c.args.zones.now c.requires.serves.zones c.args.pass.now c.requires.serves.pass.pass;
+  within = slice_get_within c.args.zones.now.origins.items c.in-Some.zone c.args.origin.now c.in-Some.ensures.found;
+}
 
 pub returns-clause-pass : goal.returns-clause-pass
 returns-clause-pass g c =
