@@ -22,8 +22,7 @@ pub fn inside(
 ) -> Result<(), JobRefusal>
     requires none { script.old.block ≡ None }
     requires placed { PhrasePlaced line.bytes.now phrase.now }
-    ensures reads { ScriptReads result (script_view script.new)
-        (jobs.inside line.entry.origin.now line.entry.number (unfinished_view block)
+    ensures reads { ScriptReads result (script_view script.new) (jobs.inside line.entry.origin.now line.entry.number (unfinished_view block)
         (phrase_view line.entry.origin.now line.entry.bytes.now phrase.now) (script_view script.old)) }
     ensures told { IsOneTooMany block phrase.now → IsTold result }
 {

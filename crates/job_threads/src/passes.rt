@@ -28,8 +28,7 @@ pub fn take_snapshot<'i, N: Named>(
     ensures taken { StandAt index.now.place true passes.new }
     ensures grows { IsPartOf (known_at passes.new.asks.seat).seen (known_at passes.old.asks.seat).seen }
     ensures steps { (s : OpenedWith) → first_version (known_at passes.old.asks.seat).seen ≡ s.opening
-        → IsUnder (known_at passes.old.asks.seat) (holder_of passes.old)
-        → Step s Hold result (worker_passes_of passes.old) (worker_passes_of passes.new) }
+        → IsUnder (known_at passes.old.asks.seat) (holder_of passes.old) → Step s Hold result (worker_passes_of passes.old) (worker_passes_of passes.new) }
 {
     let Some(second) = passes.spare.take() else {
         // Nothing is held.
@@ -71,8 +70,7 @@ pub fn give_back<N: Named>(passes: &mut Passes<'_, N>) -> Outcome
     ensures same { passes.new.asks ≡ passes.old.asks }
     ensures free { StandAt passes.old.asks.place false passes.new }
     ensures steps { (s : OpenedWith) → first_version (known_at passes.old.asks.seat).seen ≡ s.opening
-        → IsUnder (known_at passes.old.asks.seat) (holder_of passes.old)
-        → Step s Release result (worker_passes_of passes.old) (worker_passes_of passes.new) }
+        → IsUnder (known_at passes.old.asks.seat) (holder_of passes.old) → Step s Release result (worker_passes_of passes.old) (worker_passes_of passes.new) }
 {
     let Some(snapshot) = passes.held.take() else {
         // A script gives a snapshot back only while one is held.

@@ -38,12 +38,10 @@ pub fn transactions_keep_zones()
 
 /// The operations of a script of octets are so: of each worker's commands, and of one list of commands.
 pub fn scripts_say_operations()
-    ensures workers { (origin : Name) (start : ℕ) (lines : List (List ℕ)) (workers : List (List Command))
-        → IsName origin → AllByRecursion AllOctets lines
-        → script_of origin start lines ≡ Ok workers → AllByRecursion (AllByRecursion (AllAsked origin)) workers }
+    ensures workers { (origin : Name) (start : ℕ) (lines : List (List ℕ)) (workers : List (List Command)) → IsName origin
+        → AllByRecursion AllOctets lines → script_of origin start lines ≡ Ok workers → AllByRecursion (AllByRecursion (AllAsked origin)) workers }
     ensures one_list { (origin : Name) (start : ℕ) (lines : List (List ℕ)) (commands : List Command)
-        → IsName origin → AllByRecursion AllOctets lines
-        → list_of origin start lines ≡ Ok commands → AllByRecursion (AllAsked origin) commands }
+        → IsName origin → AllByRecursion AllOctets lines → list_of origin start lines ≡ Ok commands → AllByRecursion (AllAsked origin) commands }
 {}
 
 /// Each version of a job can be dumped, and its dump is read as the version. The job is said by octets. Its commands may have

@@ -113,9 +113,8 @@ impl Session {
     ) -> Result<Said, AllocError>
         requires some { 0 < length line.now }
         requires short { length line.now ≤ 2 ^ 24 }
-        ensures steps { (s : State) (number : ℕ) (text : List ℕ)
-            → session_view self.old ≡ record s { block = None } → is_some s.block ≡ was_open → lines_of line.now ≡ text ∷ []
-            → IfOk result (StepsTo (refused_in number kind s (ends_line text) s.block) self.new number) }
+        ensures steps { (s : State) (number : ℕ) (text : List ℕ) → session_view self.old ≡ record s { block = None } → is_some s.block ≡ was_open
+            → lines_of line.now ≡ text ∷ [] → IfOk result (StepsTo (refused_in number kind s (ends_line text) s.block) self.new number) }
         ensures at_once { was_open ≡ false → IsOk result }
     {
         if !was_open {

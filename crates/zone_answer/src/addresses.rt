@@ -94,8 +94,7 @@ fn push_each<V: Reading, S: RowSink>(
     requires shown { ShowsSome (V.holds version.old) }
     requires room { most_item_octets ≤ length item.old }
     ensures same { version.new ≡ version.old }
-    ensures adds { (zone : Version) → Shows (V.holds version.old) zone
-        → OnOk result (Adds (S.has rows.old) (S.has rows.new)
+    ensures adds { (zone : Version) → Shows (V.holds version.old) zone → OnOk result (Adds (S.has rows.old) (S.has rows.new)
         (owned_rows (flat_map (addresses origin.now zone) (filter_map (name_from place) set.now.records)))) }
 {
     let mut records = set.records();
@@ -120,8 +119,7 @@ fn push_new<V: Reading, S: RowSink>(
     requires shown { ShowsSome (V.holds version.old) }
     requires room { most_item_octets ≤ length item.old }
     ensures same { version.new ≡ version.old }
-    ensures adds { (zone : Version) → Shows (V.holds version.old) zone
-        → OnOk result (GoesTo (addresses origin.now zone) (name_from place octets.now)
+    ensures adds { (zone : Version) → Shows (V.holds version.old) zone → OnOk result (GoesTo (addresses origin.now zone) (name_from place octets.now)
         (contains name_cmp gone_to.old) (contains name_cmp gone_to.new) (S.has rows.old) (S.has rows.new)) }
 {
     let Some(name) = name_from(place, octets) else {
@@ -147,8 +145,7 @@ fn push_once<V: Reading, S: RowSink>(
     requires shown { ShowsSome (V.holds version.old) }
     requires room { most_item_octets ≤ length item.old }
     ensures same { version.new ≡ version.old }
-    ensures adds { (zone : Version) → Shows (V.holds version.old) zone
-        → OnOk result (Adds (S.has rows.old) (S.has rows.new)
+    ensures adds { (zone : Version) → Shows (V.holds version.old) zone → OnOk result (Adds (S.has rows.old) (S.has rows.new)
         (owned_rows (flat_map (addresses origin.now zone) (once (filter_map (name_from place) set.now.records))))) }
 {
     let mut gone_to = BTreeSet::new(alloc);

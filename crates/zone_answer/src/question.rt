@@ -61,8 +61,7 @@ pub fn answer_into<V: Reading, S: RowSink>(
     requires none { S.has rows.old [] }
     requires room { most_item_octets ≤ length item.old }
     ensures same { version.new ≡ version.old }
-    ensures answer { (zone : Version) → Shows (V.holds version.old) zone
-        → IfOk result (IsGiven (S.has rows.new) (answer origin.now zone name.now rtype)) }
+    ensures answer { (zone : Version) → Shows (V.holds version.old) zone → IfOk result (IsGiven (S.has rows.new) (answer origin.now zone name.now rtype)) }
 {
     if !name.is_under(origin) {
         return Ok(Kind::Outside);

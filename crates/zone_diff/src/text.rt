@@ -191,8 +191,7 @@ impl DiffText {
         ensures style { self.new.style ≡ self.old.style }
         ensures origin { self.new.origin ≡ self.old.origin }
         ensures room { OnOk result (0 < self.new.room) }
-        ensures begun { OnOk result ((operations : List Operation)
-            → Holds self.old.style self.old.origin self.old.out.items self.old.room operations
+        ensures begun { OnOk result ((operations : List Operation) → Holds self.old.style self.old.origin self.old.out.items self.old.room operations
             → Opened self.old.style self.old.origin self.new.out.items self.new.room operations) }
     {
         if self.room > 0 {

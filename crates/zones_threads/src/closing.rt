@@ -27,8 +27,7 @@ fn names_in<N: Named>(zones: &Zones<ZoneLaw, N>, pass: &mut ZonesPass<N>, zone: 
     requires pass { IsPassOf zones.now.origins.items pass.old }
     requires zone { zone < length zones.now.origins.items }
     ensures pass { IsPassOf zones.now.origins.items pass.new }
-    ensures others { (table_known pass.new ≡ table_known pass.old)
-        × ((other : ℕ) → other ≢ zone → zone_known pass.new other ≡ zone_known pass.old other) }
+    ensures others { (table_known pass.new ≡ table_known pass.old) × ((other : ℕ) → other ≢ zone → zone_known pass.new other ≡ zone_known pass.old other) }
     ensures counted { Counted (zone_known pass.old zone) (zone_known pass.new zone) result }
 {
     let index = zones.zone(zone);
