@@ -13,7 +13,7 @@ copy_words-requires-clause-may g c =
     record {
       small = (omega arith, omega arith);
       all = may_copy_row s.shared.now.table.shared.key.chunks s.place.me c.args.self.now c.self.view_is c.args.from c.args.to c.args.n _ _ c.place_of_half-source.ensures c.place_of_half-target.ensures
-      _ s.shared.now.wide (lent_turn c.self.invariant.0) (c.self.invariant.0.copied ∙ sym (ap (λ (x : TableId). x.words) c.self.invariant.1)) c.requires.there c.requires.given c.requires.unkept c.requires.apart;
+          _ s.shared.now.wide (lent_turn c.self.invariant.0) (c.self.invariant.0.copied ∙ sym (ap (λ (x : TableId). x.words) c.self.invariant.1)) c.requires.there c.requires.given c.requires.unkept c.requires.apart;
     }
 
 pub returns-clause-copied : goal.returns-clause-copied
