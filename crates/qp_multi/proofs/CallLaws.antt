@@ -1,7 +1,7 @@
 -- What the beginning and the end of a transaction tell, part by part.
 use Rattle.std.proofs.Common.{◌≡◌, ◌↔◌, ◌∙◌, ◌+◌, ℕ, Bool, List, length, Option, Some, None, Result, Ok, Err, refl, sym, subst}
 use Rattle.std.specs.Prelude.{IfOk, IfErr, IfSome, IsErr, IsSome, IsSomeAnd}
-use Rattle.pin_core.specs.declared.TheConstants.{LAST_VERSION}
+use Rattle.pin_core.specs.declared.version.TheConstants.{LAST_VERSION}
 use Rattle.pin_core.specs.declared.version.Spent.{Spent}
 use Rattle.trie_model.specs.Keys.{Entry}
 use Rattle.shared_cells.specs.declared.pass.PassSeat.{PassSeat}

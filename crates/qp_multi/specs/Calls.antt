@@ -1,7 +1,7 @@
 -- What a transaction's calls are given, and what they leave.
 use Rattle.std.specs.Prelude.{◌≡◌, ◌≢◌, ℕ, ◌+◌, Bool, List, Option, Result, IsSome, MatchResult, length}
 use Rattle.atomic_table.specs.Seated.{TableId}
-use Rattle.pin_core.specs.declared.TheConstants.{LAST_VERSION}
+use Rattle.pin_core.specs.declared.version.TheConstants.{LAST_VERSION}
 use Rattle.pin_core.specs.declared.version.Spent.{Spent}
 use Rattle.trie_model.specs.Extents.{cells_in}
 use Rattle.trie_model.specs.Keys.{Entry, InList}

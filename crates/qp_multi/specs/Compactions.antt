@@ -1,7 +1,7 @@
 -- A compaction: a transaction that changes no entry.
 use Rattle.std.specs.Prelude.{◌≡◌, ◌≢◌, ◌+◌, ℕ, List}
 use Rattle.atomic_table.specs.Seated.{TableId}
-use Rattle.pin_core.specs.declared.TheConstants.{LAST_VERSION}
+use Rattle.pin_core.specs.declared.version.TheConstants.{LAST_VERSION}
 use Rattle.pin_core.specs.declared.version.Spent.{Spent}
 use Rattle.trie_model.specs.Keys.{Entry}
 use Rattle.shared_cells.specs.Views.{pass_of}

@@ -1,4 +1,4 @@
-use Rattle.std.proofs.Common.{◌∙◌, IfOk, IfErr, subst, rules}
+use Rattle.std.proofs.Common.{◌∙◌, false, IfOk, IfErr, subst, rules}
 use Rattle.qp_multi.specs.Compactions.{Compacts, IsLast}
 use Rattle.qp_multi.specs.Passes.{Known, known_at}
 use Rattle.qp_multi.proofs.CompactLaws.{compacts_of, last_of, same_table}

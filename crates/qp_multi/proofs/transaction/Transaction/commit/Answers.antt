@@ -1,4 +1,4 @@
-use Rattle.std.proofs.Common.{◌≡◌, Option, Some, sym, subst, rules}
+use Rattle.std.proofs.Common.{◌≡◌, ℕ, Option, Some, sym, subst, rules}
 use Rattle.std.specs.Prelude.{IfSome}
 use Rattle.qp_multi.specs.declared.writer.WorkingVersion.{WorkingVersion}
 use Rattle.qp_multi.specs.Calls.{CommitsOrStays}
@@ -12,5 +12,7 @@ returns-clause-ends g c =
     let seat = c.pass_of.result.seat in
     let told = c.commit-writer in
     let e = told.ensures in
+    let most : c.MOST_SPARSE.result ≡ g.K.Kind.MOST_SPARSE = c.MOST_SPARSE.ensures in
     subst (λ (o : Option WorkingVersion). IfSome o (CommitsOrStays g.K.Kind.MOST_SPARSE seat told.result.2)) (sym is)
-    (ends_of g.K.Kind.MOST_SPARSE seat d told.result.2 told.result.1.place.me.0 c.pass_of.ensures.here c.pass_of.ensures.known e.done e.undone e.spent)
+    (subst (λ (m : ℕ). CommitsOrStays m seat told.result.2 d) most
+    (ends_of c.MOST_SPARSE.result seat d told.result.2 told.result.1.place.me.0 c.pass_of.ensures.here c.pass_of.ensures.known e.done e.undone e.spent))
