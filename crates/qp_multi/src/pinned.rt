@@ -19,8 +19,7 @@ pub(crate) fn fetch_pinned<L: Law>(
     requires held { IsHeld (Holds (pinned_image seat.old.place.me.0.progress) seat.old.root) }
     requires room { most_item_octets ≤ length out.old }
     ensures same { seat.new ≡ seat.old }
-    ensures item { (version : List Entry) → Holds (pinned_image seat.old.place.me.0.progress) seat.old.root version
-        → Fetched key.now version out.old out.new result }
+    ensures item { (es : List Entry) → Holds (pinned_image seat.old.place.me.0.progress) seat.old.root es → Fetched key.now es out.old out.new result }
 {
     let root = seat.root;
     let mut cells = PinnedCells::new(shared, seat);
