@@ -211,6 +211,11 @@ pub same_error : {A : Type 0} (r : Result A Stop) (e x : Stop) → IsErrAnd r (�
 same_error (Ok a) e x f is = absurd cc
 same_error (Err y) e x f is = let s : y ≡ x = cc in sym s ∙ f
 
+-- where an error is passed on nothing is said of another end
+pub not_ok : {A : Type 0} (r : Result A Stop) (e : Stop) (P : Type 0) → IsErrAnd r (λ y. y ≡ e) → OnOk r P
+not_ok (Ok a) e P f = absurd f
+not_ok (Err y) e P f = tt
+
 -- the first of bytes without a line feed have none
 pub front_unbroken : (n : ℕ) (bytes : List ℕ) → n ≤ length bytes → IsUnbroken bytes → IsUnbroken (take n bytes)
 front_unbroken n bytes le whole =

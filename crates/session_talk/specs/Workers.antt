@@ -1,5 +1,5 @@
 -- What one worker's commands have come to at an index that is open.
-use Rattle.std.specs.Prelude.{◌≡◌, ℕ, Bool, List, [], ◌∷◌, length}
+use Rattle.std.specs.Prelude.{◌≡◌, ℕ, Bool, List, [], ◌∷◌, ◌++◌, Result, IfOk, length}
 use Rattle.zone_model.specs.Names.{Name}
 use Rattle.zone_model.specs.Versions.{Version}
 use Rattle.job_model.specs.Commands.{Command, MayCome}
@@ -40,6 +40,12 @@ pub record MayRun (is_ready : Type 0) (holds : Bool) (zone : Name) (command : Co
   pub may : MayCome holds command
   -- what it asks for lies in the zone
   pub asked : AllAsked zone command
+
+-- the command came to an outcome, behind those that the worker ran before
+abbrev pub RunsOneMore : {E : Type 0} → Result Outcome E → (Opened → List Command → List Outcome → Type 0) → (Opened → List Command → List Outcome → Type 0)
+    → Command → Type 0
+RunsOneMore result has_run has_run_now command = (o : Opened) (commands : List Command) (os : List Outcome) → has_run o commands os
+    → IfOk result (λ outcome. has_run_now o (commands ++ command ∷ []) (os ++ outcome ∷ []))
 
 -- A worker can go on, as it stood before.
 pub record StandsAsBefore (is_ready : Type 0) (zone zone_now : Name) (holds holds_now : Bool) : Type 0 where

@@ -1,7 +1,7 @@
 //! Who runs the commands of a session.
-ghost use Rattle.std.specs.Prelude.{◌≡◌, ◌++◌, ◌∷◌, [], ℕ, Bool, List, IfOk, false};
+ghost use Rattle.std.specs.Prelude.{◌≡◌, ℕ, Bool, List, IfOk, false};
 ghost use Rattle.session_talk.specs.Prelude.{Command as Asked, Labels, command_view, held_after};
-ghost use Rattle.session_talk.specs.Workers.{ComesTo, EndsAt, MayRun, Opened, StandsAsBefore};
+ghost use Rattle.session_talk.specs.Workers.{ComesTo, EndsAt, MayRun, Opened, RunsOneMore, StandsAsBefore};
 
 use job_report::Outcome;
 use job_script::Command;
@@ -36,8 +36,7 @@ pub trait Worker: Drop {
         ensures ready { IfOk result (λ _. is_ready self.new) }
         ensures origin { IfOk result (λ _. origin self.new ≡ origin self.old) }
         ensures held { IfOk result (λ _. holds self.new ≡ held_after (holds self.old) (command_view command.now)) }
-        ensures ran { (o : Opened) (commands : List Asked) (os : List Ran) → has_run self.old o commands os
-            → IfOk result (λ outcome. has_run self.new o (commands ++ command_view command.now ∷ []) (os ++ outcome ∷ [])) };
+        ensures ran { RunsOneMore result (has_run self.old) (has_run self.new) (command_view command.now) };
 
     /// Shows that what the commands came to is all that has become of the index. It takes no memory and waits for nobody.
     fn tell(&mut self)

@@ -1,5 +1,5 @@
 use Rattle.std.proofs.Common.{rules, ◌≡◌, ◌≤◌, ◌^◌, length, arith, Err, sym, ap}
-use Rattle.session_talk.proofs.ServeLaws.{front_unbroken, grows_front, put_stands, put_work, same_error, settled_by, too_long_by}
+use Rattle.session_talk.proofs.ServeLaws.{front_unbroken, grows_front, not_ok, put_stands, put_work, same_error, settled_by, too_long_by}
 use Rattle.session_talk.specs.declared.serving.Stop.TheVariants.{Sink, TooLong}
 use Rattle.session_talk.proofs.serving.answer_due.Goals as goal
 
@@ -26,7 +26,7 @@ pub returns-in_err-put-clause-answers : goal.returns-in_err-put-clause-answers
 returns-in_err-put-clause-answers g c = record {
   ok = search rules;
   settled = search rules;
-  long = search rules;
+  long = λ way given same w. not_ok c.from_residual-in_err-put.result _ _ c.from_residual-in_err-put.ensures.1;
   stands = λ way given same w0 st.
       let w = c.in_ok-answer_lines.ensures.answers.ok way given same w0 in
       put_stands way given _ _ _ _ _ _ c.answer_lines.new.intake.bytes w (c.in_err-put.ensures.puts.answers way.opened way.first w.done w.written w.so_far) c.in_err-put.ensures.writes.err;
@@ -37,7 +37,7 @@ pub returns-in_err-answer_lines-clause-answers : goal.returns-in_err-answer_line
 returns-in_err-answer_lines-clause-answers g c = record {
   ok = search rules;
   settled = search rules;
-  long = search rules;
+  long = λ way given same w. not_ok c.from_residual.result _ _ c.from_residual.ensures.1;
   stands = search rules;
   too_long = λ way given same w is.
       let n = same_error c.from_residual.result _ _ c.from_residual.ensures.1 is in

@@ -1,7 +1,7 @@
-use Rattle.std.proofs.Common.{rules, ◌≡◌, ◌<◌, ◌^◌, length, take, arith, ◌≤◌}
+use Rattle.std.proofs.Common.{rules, ◌≡◌, ◌∙◌, ◌<◌, ◌^◌, length, take, arith, ◌≤◌, sym}
 use Rattle.std.proofs.lemmas.List.{take_all}
 use Rattle.session_talk.proofs.FedLaws.{last_one}
-use Rattle.session_talk.proofs.ServeLaws.{front_unbroken, grows_front, last_done, on_err, put_stands, same_error, too_long_by}
+use Rattle.session_talk.proofs.ServeLaws.{front_unbroken, grows_front, last_done, none_left, on_err, put_stands, same_error, too_long_by}
 use Rattle.session_talk.specs.declared.serving.Stop.TheVariants.{Memory, Sink, TooLong}
 use Rattle.session_talk.proofs.serving.finish.Goals as goal
 
@@ -51,8 +51,9 @@ returns-in_err-put-clause-ends g c = record {
 
 pub returns-then-rest-eq0-clause-ends : goal.returns-then-rest-eq0-clause-ends
 returns-then-rest-eq0-clause-ends g c = record {
-  ok = search rules;
-  stands = search rules;
+  ok = λ way given same w. c.end.ensures.ends.ok way given (none_left way given _ _ _ _ _ c.args.intake.now.bytes w (sym c.len-rest.ensures ∙ c.if-rest-eq0.true));
+  stands = λ way given same w st.
+      c.end.ensures.ends.stands way given (none_left way given _ _ _ _ _ c.args.intake.now.bytes w (sym c.len-rest.ensures ∙ c.if-rest-eq0.true)) st;
   too_long = λ way given same w is. absurd (c.end.ensures.others.1 is);
 }
 
