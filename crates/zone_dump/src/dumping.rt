@@ -1,8 +1,8 @@
 //! A version, written as a master file.
 ghost use Rattle.std.specs.Prelude.{◌≡◌, ◌+◌, ◌≤◌, ◌++◌, ◌∷◌, [], ℕ, List, length, Option, IfOk, OnOk};
 ghost use Rattle.zone_dump.specs.Prelude.{flat_map, StartsWith, most_item_octets, Version, CanRead, PassesVersion, TellsFault, WritesVersion};
-ghost use Rattle.zone_dump.specs.Prelude.{row_text, all_rows, record_count, version_lines, soa_ttl, dump, Shows};
-ghost use Rattle.zone_dump.specs.Prelude.{ShowsSome, file_text, directives_in, Faces, FacesSome, GivesNext, Passes};
+ghost use Rattle.zone_dump.specs.Prelude.{row_text, all_rows, record_count, soa_ttl, dump, Shows};
+ghost use Rattle.zone_dump.specs.Prelude.{ShowsSome, file_text, directives_in, Faces, FacesSome, GivesNext};
 
 use crate::lines::Lines;
 use crate::refusal::DumpRefusal;
@@ -40,8 +40,7 @@ fn push_all<V: Reading, K: Sink>(
     requires can { CanRead (V.holds version.old) item.old }
     ensures same { version.new ≡ version.old }
     ensures count { (zone : Version) → Shows (V.holds version.old) zone → OnOk result (lines.new.count ≡ lines.old.count + record_count zone) }
-    ensures passes { PassesVersion result (V.holds version.old) (K.held sink.old) (K.held sink.new) lines.old.text.items lines.new.text.items
-        (version_lines lines.old.directives) }
+    ensures passes { PassesVersion result (V.holds version.old) (K.held sink.old) (K.held sink.new) lines.old lines.new }
     ensures faults { TellsFault result (K.faults sink.old) (K.faults sink.new) }
 {
     let mut iter = version.iter();

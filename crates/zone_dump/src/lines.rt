@@ -1,5 +1,5 @@
 //! The lines of a dump, on their way to a sink.
-ghost use Rattle.std.specs.Prelude.{◌≡◌, ◌+◌, ◌≤◌, ◌∷◌, [], ℕ, List, length, Option, IfOk, OnOk, OnErr};
+ghost use Rattle.std.specs.Prelude.{◌≡◌, ◌+◌, ◌∷◌, [], ℕ, List, length, Option, IfOk, OnOk, OnErr};
 ghost use Rattle.zone_dump.specs.Prelude.{Grows, GrowsByFront, Labels, Entry, IsItem, rows_of, OfItem, PassesItem, PassesOn, TellsFault};
 ghost use Rattle.zone_dump.specs.Prelude.{line_text, rows_at, head_text, lines_from};
 
