@@ -1,16 +1,23 @@
 use Rattle.std.proofs.Common.{◌∙◌, List, length, map, arith, sym, ap, subst, refl}
-use Rattle.std.specs.List.{All}
+use Rattle.std.specs.List.{All, IsDistinct}
 use Rattle.std.proofs.lemmas.List.{length-map}
 use Rattle.std.proofs.lemmas.List.Elements.{recursion_from_All}
-use Rattle.zone_model.specs.Names.{IsName, Name}
+use Rattle.zone_model.specs.Names.{IsName, Name, same_name}
 use Rattle.zone_table.specs.declared.opening.ZoneItems.{ZoneItems}
 use Rattle.zone_table.specs.Buckets.{AreFiled, AreZones}
 use Rattle.zone_table.specs.Tables.{IsTable}
 use Rattle.zone_table.proofs.HandingLaws.{same_counts, numbered_indexes, indexes_many, made_of}
 use Rattle.zone_table.proofs.building.build.Goals as goal
 
-pub open_table-requires-clause-origins-names : goal.open_table-requires-clause-origins-names
-open_table-requires-clause-origins-names g c = recursion_from_All IsName c.deref.result.now (subst (All IsName) (sym c.deref.ensures.value) c.in_ok-origins.ensures.names)
+pub open_table-requires-clause-origins : goal.open_table-requires-clause-origins
+open_table-requires-clause-origins g c =
+    let are = c.deref.ensures.value ∙ c.in_ok-origins.ensures.origins in
+    let many = ap length are ∙ length-map c.args.zones.now (λ (z : ZoneItems). z.origin) in
+    record {
+      few = (let m = c.requires.zones.few in omega arith);
+      names = recursion_from_All IsName c.deref.result.now (subst (All IsName) (sym c.deref.ensures.value) c.in_ok-origins.ensures.names);
+      different = subst (IsDistinct same_name) (sym are) c.requires.zones.different;
+    }
 
 pub hand_out_all-requires : goal.hand_out_all-requires
 hand_out_all-requires g c =
@@ -39,9 +46,13 @@ invariant_of-zones g c =
       filed = subst (λ (names : List Name). AreFiled names (map (λ s. s.items) c.in_ok-buckets.buckets.items)) c.deref-2.ensures.value c.in_ok-buckets.ensures.filed;
     }
 
-pub returns-clause-made-passes : goal.returns-clause-made-passes
-returns-clause-made-passes g c =
+pub returns-clause-made : goal.returns-clause-made
+returns-clause-made g c =
     let o = c.requires.opened in
     let t = c.in_ok-index.ensures in
-    made_of c.args.zones.now o.0 c.args.blank.shared.table.shared.key.passes c.args.opened.items o.1 o.2 o.3 c.args.blank.shared.table.shared.key t.0 c.in_ok-index.field-0 c.in_ok-indexes.all.items refl
-    (subst (λ names. IsTable names t.0) (c.deref.ensures.value ∙ c.in_ok-origins.ensures.origins) t.1) t.2 c.in_ok-indexes.ensures.passes
+    record {
+      origins = c.in_ok-origins.ensures.origins;
+      table = t.2.size_is;
+      passes = made_of c.args.zones.now o.0 c.args.blank.shared.table.shared.key.passes c.args.opened.items o.1 o.2 o.3 c.args.blank.shared.table.shared.key t.0 c.in_ok-index.field-0 c.in_ok-indexes.all.items refl
+          (subst (λ names. IsTable names t.0) (c.deref.ensures.value ∙ c.in_ok-origins.ensures.origins) t.1) t.2 c.in_ok-indexes.ensures.passes;
+    }

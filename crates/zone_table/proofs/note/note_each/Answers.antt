@@ -17,9 +17,10 @@ note-note-requires g c =
           (read_at c.args.zones.now.items c.loop-place.place c.index.result.now (omega arith) c.index.ensures);
     }
 
-pub returns-in_err-push-clause-stand-there : goal.returns-in_err-push-clause-stand-there
-returns-in_err-push-clause-stand-there g c =
-    (kept_set c.args.passes.now.items c.loop-place.passes.items c.loop-place.place c.index_mut.result.now c.note-note.new.self c.loop-place.invariant.kept c.index_mut.ensures.value c.note-note.ensures.back.here c.note-note.ensures.back.place).places
+pub returns-in_err-push-clause-stand : goal.returns-in_err-push-clause-stand
+returns-in_err-push-clause-stand g c =
+    let kept = kept_set c.args.passes.now.items c.loop-place.passes.items c.loop-place.place c.index_mut.result.now c.note-note.new.self c.loop-place.invariant.kept c.index_mut.ensures.value c.note-note.ensures.back.here c.note-note.ensures.back.place in
+    record { here = kept.here; there = kept.places }
 
 pub returns-in_err-push-clause-same : goal.returns-in_err-push-clause-same
 returns-in_err-push-clause-same g c =

@@ -17,7 +17,7 @@ returns-clause-pass g c =
       table_here = c.learn.ensures.back.here;
       table_place = c.learn.ensures.back.place ∙ is.table_place;
       opening = subst (IsTable origins) (sym (opened_same new (table_known p).seen (seat_told p.table.seat is.table_here) grows)) is.opening;
-      zones_here = c.learn_each.ensures.here;
-      zone_places = c.learn_each.ensures.places ∙ is.zone_places;
+      zones_here = c.learn_each.ensures.stand.here;
+      zone_places = c.learn_each.ensures.stand.there ∙ is.zone_places;
       remembers = remembers_later origins new (table_known p).seen p.remembered.version p.remembered.attached grows is.remembers;
     }

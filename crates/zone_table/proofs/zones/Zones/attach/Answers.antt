@@ -22,7 +22,7 @@ commit-requires-clause-lawful g c =
     (inserts_as IsThere c.write-write.result.locked.now.working c.insert.new.self.locked.now.working (Ok tt) c.of.result (key_of c.index-origin.result.now) c.wire.result.now (wire c.index-origin.result.now) c.of.ensures c.wire.ensures.wire c.in-Ok.ensures.inserts)
     (let origins = c.args.self.now.origins.items in
     insert_puts _ (entry_for c.index-origin.result.now) (c.requires.pass.opening.all c.index-origin.result.now
-    (contains_at origins c.args.zone c.index-origin.result.now (read_at origins c.args.zone c.index-origin.result.now c.requires.zone c.index-origin.ensures))))
+    (contains_at origins c.args.zone c.index-origin.result.now (read_at origins c.args.zone c.index-origin.result.now c.requires.within c.index-origin.ensures))))
 
 pub returns-in-Ok : goal.returns-in-Ok
 returns-in-Ok g c =
@@ -37,7 +37,7 @@ returns-in-Ok g c =
     record {
       pass = done.pass;
       others = refl {a = c.args.pass.now.zones};
-      attaches = if_read (λ x. Attaches x old (known_at new.seat) c.committed.result) c.args.self.now.origins.items c.args.zone c.index-origin.result.now c.requires.zone c.index-origin.ensures
+      attaches = if_read (λ x. Attaches x old (known_at new.seat) c.committed.result) c.args.self.now.origins.items c.args.zone c.index-origin.result.now c.requires.within c.index-origin.ensures
           (attached c.index-origin.result.now old (known_at new.seat) c.commit.result c.committed.result c.committed.ensures done.ends);
       receipt = receipt_told IsThere (Insert (entry_for c.index-origin.result.now)) (λ es. IsAttached es c.index-origin.result.now) c.args.self.now.origins.items c.args.pass.now c.requires.pass c.write-write.result.locked.now.working c.insert.new.self.locked.now.working c.write-write.ensures.begins (known_at new.seat) c.commit.result c.committed.result
           (inserts_as IsThere c.write-write.result.locked.now.working c.insert.new.self.locked.now.working (Ok tt) c.of.result (key_of c.index-origin.result.now) c.wire.result.now (wire c.index-origin.result.now) c.of.ensures c.wire.ensures.wire c.in-Ok.ensures.inserts) ended.receipt c.committed.ensures;
@@ -56,7 +56,7 @@ returns-in-Err-Exists g c =
     record {
       pass = done.pass;
       others = refl {a = c.args.pass.now.zones};
-      attaches = if_read (λ x. Attaches x old (known_at new.seat) (Err (Exists number))) c.args.self.now.origins.items c.args.zone c.index-origin.result.now c.requires.zone c.index-origin.ensures
+      attaches = if_read (λ x. Attaches x old (known_at new.seat) (Err (Exists number))) c.args.self.now.origins.items c.args.zone c.index-origin.result.now c.requires.within c.index-origin.ensures
           done.unchanged;
       receipt = tt;
     }

@@ -13,12 +13,16 @@ close-first-requires g c = record {
       (tables_here c.args.self.origins.items c.args.passes.items c.args.self.table.place c.args.self.table_place c.requires);
 }
 
-pub close_each-requires-clause-here : goal.close_each-requires-clause-here
-close_each-requires-clause-here g c =
+pub close_each-requires : goal.close_each-requires
+close_each-requires g c =
     let e = c.len.ensures in
     let many : length c.args.self.zones.items ≡ c.len.result = omega arith in
-    belong c.args.self.origins.items c.len.result c.args.passes.items c.in_ok-tables.lists.items (c.args.self.each ∙ many) c.requires c.in_ok-tables.ensures.zones
-    c.args.self.zones.items many c.args.self.places
+    record {
+      few = c.args.self.few;
+      count = c.in_ok-tables.ensures.zones.count_is ∙ sym many;
+      here = belong c.args.self.origins.items c.len.result c.args.passes.items c.in_ok-tables.lists.items (c.args.self.each ∙ many) c.requires c.in_ok-tables.ensures.zones
+          c.args.self.zones.items many c.args.self.places;
+    }
 
 pub returns-clause-table : goal.returns-clause-table
 returns-clause-table g c =

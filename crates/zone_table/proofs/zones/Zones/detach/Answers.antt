@@ -33,7 +33,7 @@ returns-in-Ok g c =
     record {
       pass = done.pass;
       others = refl {a = c.args.pass.now.zones};
-      detaches = if_read (λ x. Detaches x old (known_at new.seat) c.committed.result) c.args.self.now.origins.items c.args.zone c.index-origin.result.now c.requires.zone c.index-origin.ensures
+      detaches = if_read (λ x. Detaches x old (known_at new.seat) c.committed.result) c.args.self.now.origins.items c.args.zone c.index-origin.result.now c.requires.within c.index-origin.ensures
           (detached c.index-origin.result.now old (known_at new.seat) c.commit.result c.committed.result c.committed.ensures done.ends);
       receipt = receipt_told NotFound (Delete (key_of c.index-origin.result.now)) (Missing' (key_of c.index-origin.result.now)) c.args.self.now.origins.items c.args.pass.now c.requires.pass c.write-write.result.locked.now.working c.delete.new.self.locked.now.working c.write-write.ensures.begins (known_at new.seat) c.commit.result c.committed.result
           (deletes_as NotFound c.write-write.result.locked.now.working c.delete.new.self.locked.now.working (Ok tt) c.of.result (key_of c.index-origin.result.now) c.of.ensures c.in-Ok.ensures.deletes) ended.receipt c.committed.ensures;
@@ -52,7 +52,7 @@ returns-in-Err-NotFound g c =
     record {
       pass = done.pass;
       others = refl {a = c.args.pass.now.zones};
-      detaches = if_read (λ x. Detaches x old (known_at new.seat) (Err (Missing number))) c.args.self.now.origins.items c.args.zone c.index-origin.result.now c.requires.zone c.index-origin.ensures
+      detaches = if_read (λ x. Detaches x old (known_at new.seat) (Err (Missing number))) c.args.self.now.origins.items c.args.zone c.index-origin.result.now c.requires.within c.index-origin.ensures
           (unchanged_as (Missing' (key_of c.index-origin.result.now)) (λ es. IsAttached es c.index-origin.result.now → ⊥) old (known_at new.seat) number (isnt_there (key_of c.index-origin.result.now)) done.unchanged);
       receipt = tt;
     }
