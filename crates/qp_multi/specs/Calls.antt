@@ -1,5 +1,5 @@
 -- What a transaction's calls are given, and what they leave.
-use Rattle.std.specs.Prelude.{◌≡◌, ◌≢◌, ℕ, ◌+◌, Bool, List, Option, Result, IsSome, MatchResult, length}
+use Rattle.std.specs.Prelude.{◌≡◌, ◌≢◌, ℕ, ◌+◌, Bool, List, Option, Result, MatchResult, length}
 use Rattle.atomic_table.specs.Seated.{TableId}
 use Rattle.pin_core.specs.declared.version.TheConstants.{LAST_VERSION}
 use Rattle.pin_core.specs.declared.version.Spent.{Spent}
@@ -12,7 +12,6 @@ use Rattle.qp_multi.specs.declared.writer.WorkingVersion.{WorkingVersion}
 use Rattle.qp_multi.specs.declared.meaning.Named.{Ghosts}
 use Rattle.qp_multi.specs.declared.meaning.Operation.{Operation}
 use Rattle.qp_multi.specs.declared.meaning.Operation.TheVariants as operation
-use Rattle.qp_multi.specs.declared.pass.Pass.{Pass}
 use Rattle.qp_multi.specs.declared.refusal.OutOfSpace.{OutOfSpace}
 use Rattle.qp_multi.specs.declared.transaction.Transaction.{Transaction}
 use Rattle.qp_multi.specs.Attempts.{Does}
@@ -38,12 +37,6 @@ module _ {X : Type 0} {Y : Type 0} {N : Ghosts Y} {K : Type 0} where
   -- both have a working version, and these are so related
   abbrev pub OnWorkings : (WorkingVersion → WorkingVersion → Type 0) → Transaction X Y K N → Transaction X Y K N → Type 0
   OnWorkings related old new = Between related old.locked.now.working new.locked.now.working
-
-module _ {Y : Type 0} {N : Ghosts Y} where
-  -- the pass is back, and is of the index at this place
-  pub record IsHome (at : ℕ) (pass : Pass Y N) : Type 0 where
-    pub here : IsSome pass.seat
-    pub place : pass.place ≡ at
 
 -- ---- it begins
 

@@ -2,7 +2,7 @@
 ghost use Rattle.std.specs.Prelude.{◌≡◌, ◌≤◌, true, false, Some, Err, IsSome};
 ghost use Rattle.std.specs.Prelude.{IsNone, IfSome, IfNone, is_some, IsSomeAnd, IsOk, IfOk, IfErr, length, slice_get};
 ghost use Rattle.zone_model.specs.Keys.{most_item_octets};
-ghost use Rattle.qp_multi.specs.Passes.{known_at};
+ghost use Rattle.qp_multi.specs.Passes.{IsHere, known_at};
 ghost use Rattle.std.specs.Option.{ForSome};
 ghost use Rattle.std.proofs.Props.{props};
 ghost use Rattle.qp_multi.specs.Bounds.{HasRoom};
@@ -195,7 +195,7 @@ impl<'i, L: Law, N: Named> WriteGuard<'i, L, N> {
 
 impl<L: Law, N: Named> Index<L, N> {
     ghost use Rattle.qp_multi.specs.Bases.{CommitsAreWithin};
-    ghost use Rattle.qp_multi.specs.Calls.{BeginsAs, IsHome, Joins};
+    ghost use Rattle.qp_multi.specs.Calls.{BeginsAs, Joins};
     ghost use Rattle.qp_multi.specs.Capacity.{RestsRoomy};
     ghost use Rattle.qp_multi.specs.WorkingVersions.{Begins};
     ghost use Rattle.qp_multi.specs.Turns.{AtRest};
@@ -228,7 +228,7 @@ impl<L: Law, N: Named> Index<L, N> {
 
     // Waits for the turn, and joins the pass to it. The pass is then away.
     fn join<'i, R: Wait>(&'i self, rt: &R, pass: &mut Pass<N>) -> (HeldLock<'i, N>, WorkingVersion)
-        requires { IsHome self.now.place pass.old }
+        requires { IsHere self.now.place pass.old }
         ensures joins { Joins L.lawful self.now.shared.table.shared.table_id self.now.shared.table.shared.key (known_at pass.old.seat) result.1 }
         ensures few_operations { CommitsAreWithin L.most_operations result.1.seat.place.me.0 }
         ensures at_rest { AtRest result.1.usage }
@@ -249,7 +249,7 @@ impl<L: Law, N: Named> Index<L, N> {
         locked: &'t mut WriteGuard<'i, L, N>,
         pass: &'t mut Pass<N>,
     ) -> Transaction<'t, 'i, L, N, K>
-        requires { IsHome self.now.place pass.old }
+        requires { IsHere self.now.place pass.old }
         ensures same_reference { result.home.ghost_name ≡ pass.entry.ghost_name }
         ensures place { result.locked.now.place ≡ self.now.place }
         ensures begins { IsSomeAnd result.locked.now.working (Begins L.lawful (known_at pass.old.seat)) }
@@ -276,7 +276,7 @@ impl<L: Law, N: Named> Index<L, N> {
         locked: &'t mut WriteGuard<'i, L, N>,
         pass: &'t mut Pass<N>,
     ) -> Write<'t, 'i, L, N>
-        requires { IsHome self.now.place pass.old }
+        requires { IsHere self.now.place pass.old }
         ensures same_reference { result.home.ghost_name ≡ pass.entry.ghost_name }
         ensures place { result.locked.now.place ≡ self.now.place }
         ensures begins { IsSomeAnd result.locked.now.working (Begins L.lawful (known_at pass.old.seat)) }
@@ -292,7 +292,7 @@ impl<L: Law, N: Named> Index<L, N> {
         locked: &'t mut WriteGuard<'i, L, N>,
         pass: &'t mut Pass<N>,
     ) -> Update<'t, 'i, L, N>
-        requires { IsHome self.now.place pass.old }
+        requires { IsHere self.now.place pass.old }
         ensures same_reference { result.home.ghost_name ≡ pass.entry.ghost_name }
         ensures place { result.locked.now.place ≡ self.now.place }
         ensures begins { IsSomeAnd result.locked.now.working (Begins L.lawful (known_at pass.old.seat)) }
@@ -303,14 +303,13 @@ impl<L: Law, N: Named> Index<L, N> {
 }
 
 impl<L: Law, N: Named> Index<L, N> {
-    ghost use Rattle.qp_multi.specs.Calls.{IsHome};
     ghost use Rattle.qp_multi.specs.Compactions.{Compacts, IsLast};
 
     /// Waits for the turn, and makes the next version of the entries that the current one has. What it has in sparse chunks is moved to
     /// others first. Where there is no next version, the current one stays.
     pub fn compact<R: Wait>(&self, rt: &R, pass: &mut Pass<N>) -> Result<Receipt, Spent>
-        requires { IsHome self.now.place pass.old }
-        ensures home { IsHome pass.old.place pass.new }
+        requires { IsHere self.now.place pass.old }
+        ensures home { IsHere pass.old.place pass.new }
         ensures compacts { IfOk result (Compacts L.lawful self.now.shared.table.shared.table_id self.now.shared.table.shared.key.passes
             (known_at pass.old.seat) (known_at pass.new.seat)) }
         ensures back { IfErr result (IsLast L.lawful (known_at pass.old.seat) (known_at pass.new.seat)) }
@@ -434,7 +433,7 @@ impl<L: Law, N: Named, K> Transaction<'_, '_, L, N, K> {
 }
 
 impl<L: Law, N: Named, K: Kind> Transaction<'_, '_, L, N, K> {
-    ghost use Rattle.qp_multi.specs.Calls.{CommitsOrStays, IsHome};
+    ghost use Rattle.qp_multi.specs.Calls.{CommitsOrStays};
     ghost use Rattle.qp_multi.specs.WorkingVersions.{Works, working_set};
     ghost use Rattle.qp_multi.specs.Operations.{AreWithin};
     ghost use Rattle.qp_multi.specs.Passes.{first_version};
@@ -445,7 +444,7 @@ impl<L: Law, N: Named, K: Kind> Transaction<'_, '_, L, N, K> {
         requires works { IsSomeAnd self.locked.now.working Works }
         requires lawful { IsSomeAnd self.locked.now.working (λ d. L.lawful (first_version d.seat.place.me.0.seen) (working_set d)) }
         requires few_operations { ForSome self.locked.now.working (λ d. AreWithin L.most_operations d.log.operations) }
-        ensures home { IsHome self.entry.locked.now.place self.exit.0.now }
+        ensures home { IsHere self.entry.locked.now.place self.exit.0.now }
         ensures ends { IfSome self.entry.locked.now.working (CommitsOrStays K.MOST_SPARSE self.exit.0.now.seat result) }
     {
         let Self {
