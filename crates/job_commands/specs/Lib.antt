@@ -4,6 +4,7 @@ pub mod Commands
 pub mod Calls
 pub mod Steps
 pub mod WorkerPasses
+pub mod Alone
 pub mod Works
 pub mod Closings
 pub mod Runs

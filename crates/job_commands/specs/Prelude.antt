@@ -14,9 +14,10 @@ pub use Rattle.report_laws.specs.Prelude.{AllAsked, AllSaid}
 pub use Rattle.trie_write.specs.Entries.{entries_of_items}
 pub use Rattle.qp_multi.specs.Closings.{AreAll}
 pub use Rattle.qp_multi.specs.Passes.{Learnt}
-pub use Rattle.qp_multi.specs.Prelude.{first_version, known_at, versions_in}
+pub use Rattle.qp_multi.specs.Prelude.{IsHere, first_version, known_at, versions_in}
 pub use Rattle.zone_edit.specs.Blocks.{Edited}
 pub use Rattle.zone_edit.specs.Stores.{IsOfTheSame, WorksOnSome}
+pub use Rattle.job_commands.specs.Alone.{MayRunAlone, MayTransact, RunsBlock, RunsByWeight, RunsCompaction, StepsAlone}
 pub use Rattle.job_commands.specs.Calls.{AllHeard, AreHeard, IsHeard}
 pub use Rattle.job_commands.specs.Commands.{Asked, BlockRan, BlockWants, CompactionRan, IsIndex, IsOpenedWith, OpensAt, Seat, StoppedBy, known_in, table_size}
 pub use Rattle.job_commands.specs.Endings.{EndsRun, Measured}

@@ -1,7 +1,5 @@
 //! Commands that need no snapshot. One pass of the index is enough for them.
-ghost use Rattle.std.specs.Prelude.{◌≡◌, IsSome, IfOk, Option};
-ghost use Rattle.job_commands.specs.Prelude.{NeedsNoSnapshot, command_view, AllAsked, known_at, OpenedWith, IsOpenedWith};
-ghost use Rattle.job_commands.specs.Prelude.{OpensAt, RanByWeight, Seat, IsUnder, Step, Pinned, IsPlaced, holder_view, worker_passes};
+ghost use Rattle.job_commands.specs.Prelude.{IsHere, MayRunAlone, RunsByWeight, StepsAlone, command_view, known_at, table_size};
 
 use crate::asking::run_question;
 use crate::compactions::run_compaction;
@@ -25,19 +23,11 @@ pub fn run_alone<R: Wait, N: Named>(
     entered: Entered<'_, R, Command>,
     room: &mut WorkerScratch,
 ) -> Result<Outcome, AllocError>
-    requires here { IsSome pass.old.seat }
-    requires place { pass.old.place ≡ index.now.place }
-    requires no_snapshot { NeedsNoSnapshot (command_view entered.command.now) }
-    requires opens { OpensAt origin.now (known_at pass.old.seat) }
-    requires said { AllAsked origin.now (command_view entered.command.now) }
-    ensures here { IsSome pass.new.seat }
-    ensures place { pass.new.place ≡ pass.old.place }
-    ensures steps { (s : OpenedWith) → IsOpenedWith s origin.now index.now.shared.table.shared.key (known_at pass.old.seat)
-        → (spare : Option (Option Seat)) (held : Option Pinned) → IsPlaced spare held → IsUnder (known_at pass.old.seat) (holder_view spare held)
-        → IfOk result (λ o. Step s (command_view entered.entry.command.now) o (worker_passes pass.old.seat spare held)
-        (worker_passes pass.new.seat spare held)) }
-    ensures weight { (block : _) → entered.entry.command.now ≡ Command.Block block
-        → IfOk result (RanByWeight block.weight (known_at pass.old.seat) (known_at pass.new.seat)) }
+    requires pass { IsHere index.now.place pass.old }
+    requires may { MayRunAlone origin.now (command_view entered.command.now) (known_at pass.old.seat) }
+    ensures pass { IsHere pass.old.place pass.new }
+    ensures steps { StepsAlone origin.now (table_size index.now) (command_view entered.entry.command.now) pass.old.seat pass.new.seat result }
+    ensures weight { RunsByWeight entered.entry.command.now pass.old.seat pass.new.seat result }
 {
     match entered.command() {
         Command::Ask(question) => run_question(alloc, origin, index, pass, question, room),

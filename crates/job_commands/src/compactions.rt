@@ -1,7 +1,6 @@
 //! Compactions.
-ghost use Rattle.std.specs.Prelude.{◌≡◌, IsOk, IsSome, IfOk, IfErr};
-ghost use Rattle.job_commands.specs.Prelude.{Committed, Refused, NoNumber, ended_view, EndsCompaction};
-ghost use Rattle.job_commands.specs.Prelude.{CompactionRan, MovedAt, known_at};
+ghost use Rattle.std.specs.Prelude.{◌≡◌, IsOk, IfOk, IfErr};
+ghost use Rattle.job_commands.specs.Prelude.{Committed, EndsCompaction, IsHere, NoNumber, Refused, RunsCompaction, ended_view, table_size};
 
 use crate::law::ZoneLaw;
 use job_report::{Cause, Outcome, Told};
@@ -33,15 +32,9 @@ pub fn run_compaction<R: Wait, N: Named>(
     index: &Index<ZoneLaw, N>,
     pass: &mut Pass<N>,
 ) -> Outcome
-    requires here { IsSome pass.old.seat }
-    requires place { pass.old.place ≡ index.now.place }
-    ensures here { IsSome pass.new.seat }
-    ensures place { pass.new.place ≡ pass.old.place }
-    ensures ends { EndsCompaction result.told }
-    ensures ran { CompactionRan (known_at pass.old.seat) (known_at pass.new.seat) result }
-    // What lay in sparse chunks was moved, as a receipt of the index says.
-    ensures moves { result.told ≡ Told.Compacted
-        → MovedAt index.now.shared.table.shared.table_id index.now.shared.table.shared.key.passes (known_at pass.old.seat) (known_at pass.new.seat) }
+    requires pass { IsHere index.now.place pass.old }
+    ensures pass { IsHere pass.old.place pass.new }
+    ensures runs { RunsCompaction index.now.shared.table.shared.table_id (table_size index.now).passes pass.old.seat pass.new.seat result }
 {
     compacted(index.compact(rt, pass))
 }

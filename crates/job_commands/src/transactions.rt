@@ -1,8 +1,7 @@
 //! Transactions.
-ghost use Rattle.std.specs.Prelude.{◌≡◌, IsSome, IsSomeAnd, IfOk, IfErr, OnErr};
-ghost use Rattle.job_commands.specs.Prelude.{Committed, Refused, NoNumber, ended_view, EndsBlock, asked_view, AllSaid, known_at, versions_in};
-ghost use Rattle.job_commands.specs.Prelude.{Edited, IsOfTheSame, WorksOnSome, OpenedWith, IsOpenedWith, BlockRan, BlockWants, OpensAt, RanAs, RanByWeight};
-ghost use Rattle.job_commands.specs.Prelude.{StoppedBy};
+ghost use Rattle.std.specs.Prelude.{◌≡◌, IsSomeAnd, IfOk, IfErr};
+ghost use Rattle.job_commands.specs.Prelude.{Committed, Edited, EndsBlock, IsHere, IsOfTheSame, MayTransact, NoNumber, RanAs, RanByWeight, Refused};
+ghost use Rattle.job_commands.specs.Prelude.{RunsBlock, StoppedBy, WorksOnSome, asked_view, ended_view, known_at, table_size, versions_in};
 
 use crate::law::ZoneLaw;
 use dns_name::Name;
@@ -105,17 +104,10 @@ fn run_as<K: Kind, R: Wait, N: Named>(
     block: &Block,
     buffers: &mut ItemBuffers,
 ) -> Result<Outcome, AllocError>
-    requires here { IsSome pass.old.seat }
-    requires place { pass.old.place ≡ index.now.place }
-    requires opens { OpensAt origin.now (known_at pass.old.seat) }
-    requires said { AllSaid origin.now (asked_view block.now) }
-    ensures here { IsSome pass.new.seat }
-    ensures place { pass.new.place ≡ pass.old.place }
-    ensures ends { IfOk result (λ o. EndsBlock o.told) }
-    ensures ran { (s : OpenedWith) → IsOpenedWith s origin.now index.now.shared.table.shared.key (known_at pass.old.seat)
-        → IfOk result (BlockRan s (asked_view block.now) block.now.ending (known_at pass.old.seat) (known_at pass.new.seat)) }
-    ensures wants { (s : OpenedWith) → IsOpenedWith s origin.now index.now.shared.table.shared.key (known_at pass.old.seat)
-        → OnErr result (BlockWants s (asked_view block.now) (known_at pass.old.seat) (known_at pass.new.seat)) }
+    requires pass { IsHere index.now.place pass.old }
+    requires may { MayTransact origin.now (asked_view block.now) (known_at pass.old.seat) }
+    ensures pass { IsHere pass.old.place pass.new }
+    ensures runs { RunsBlock origin.now (table_size index.now) block.now (known_at pass.old.seat) (known_at pass.new.seat) result }
     ensures kind { IfOk result (RanAs K.OWN_CHUNK K.MOST_SPARSE (known_at pass.old.seat) (known_at pass.new.seat)) }
 {
     let mut locked = WriteGuard::of(index);
@@ -144,17 +136,10 @@ pub fn run_block<R: Wait, N: Named>(
     block: &Block,
     buffers: &mut ItemBuffers,
 ) -> Result<Outcome, AllocError>
-    requires here { IsSome pass.old.seat }
-    requires place { pass.old.place ≡ index.now.place }
-    requires opens { OpensAt origin.now (known_at pass.old.seat) }
-    requires said { AllSaid origin.now (asked_view block.now) }
-    ensures here { IsSome pass.new.seat }
-    ensures place { pass.new.place ≡ pass.old.place }
-    ensures ends { IfOk result (λ o. EndsBlock o.told) }
-    ensures ran { (s : OpenedWith) → IsOpenedWith s origin.now index.now.shared.table.shared.key (known_at pass.old.seat)
-        → IfOk result (BlockRan s (asked_view block.now) block.now.ending (known_at pass.old.seat) (known_at pass.new.seat)) }
-    ensures wants { (s : OpenedWith) → IsOpenedWith s origin.now index.now.shared.table.shared.key (known_at pass.old.seat)
-        → OnErr result (BlockWants s (asked_view block.now) (known_at pass.old.seat) (known_at pass.new.seat)) }
+    requires pass { IsHere index.now.place pass.old }
+    requires may { MayTransact origin.now (asked_view block.now) (known_at pass.old.seat) }
+    ensures pass { IsHere pass.old.place pass.new }
+    ensures runs { RunsBlock origin.now (table_size index.now) block.now (known_at pass.old.seat) (known_at pass.new.seat) result }
     ensures weight { IfOk result (RanByWeight block.now.weight (known_at pass.old.seat) (known_at pass.new.seat)) }
 {
     match block.weight {

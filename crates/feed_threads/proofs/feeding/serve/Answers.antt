@@ -48,21 +48,19 @@ enter-entered-requires-clause-free g c =
     let inside : c.in-Some.number - 1 < length c.args.turnstile.now.commands.now = search (rules, c.requires.fresh.2.count) in
     λ κs bounds. (c.loop-number.invariant.free, subst (λ l. c.in-Some.number - 1 < length l.now) (sym c.loop-number.invariant.commands) inside)
 
-pub run_alone-requires-clause-no_snapshot : goal.run_alone-requires-clause-no_snapshot
-run_alone-requires-clause-no_snapshot g c =
+pub run_alone-requires-clause-may : goal.run_alone-requires-clause-may
+run_alone-requires-clause-may g c =
     let commands = c.args.turnstile.now.commands.now in
     let place = c.in-Some.number - 1 in
     let here = c.enter-entered.result.command.now in
     let there = subst (λ l. slice_get l.now place ≡ Some here) c.loop-number.invariant.commands c.enter-entered.ensures.command in
-    plain_here commands c.in-Some.number here c.requires.fresh.2.no_snapshots (slice_get_within commands place here there) (sym (get_or_from_slice_get commands place here here there))
-
-pub run_alone-requires-clause-said : goal.run_alone-requires-clause-said
-run_alone-requires-clause-said g c =
-    let commands = c.args.turnstile.now.commands.now in
-    let place = c.in-Some.number - 1 in
-    let here = c.enter-entered.result.command.now in
-    let there = subst (λ l. slice_get l.now place ≡ Some here) c.loop-number.invariant.commands c.enter-entered.ensures.command in
-    so_here (AllAsked c.args.origin.now) commands c.in-Some.number here c.requires.fresh.2.said (slice_get_within commands place here there) (sym (get_or_from_slice_get commands place here here there))
+    let inside = slice_get_within commands place here there in
+    let is = sym (get_or_from_slice_get commands place here here there) in
+    record {
+      alone = plain_here commands c.in-Some.number here c.requires.fresh.2.no_snapshots inside is;
+      opens = c.loop-number.invariant.opens;
+      said = so_here (AllAsked c.args.origin.now) commands c.in-Some.number here c.requires.fresh.2.said inside is;
+    }
 
 pub leave-requires-clause-done : goal.leave-requires-clause-done
 leave-requires-clause-done g c =
@@ -90,8 +88,8 @@ loop-number-preserved g c =
     let told = subst (IsHeard (g.G.Gate.hears c.args.turnstile.now.gate.now) c.args.turnstile.now.worker) counted (before, after) in
     let first = c.args.pass.seat in
     record {
-      here = c.in_ok-outcome.ensures.here;
-      place = c.in_ok-outcome.ensures.place ∙ i.place;
+      here = c.in_ok-outcome.ensures.pass.here;
+      place = c.in_ok-outcome.ensures.pass.place ∙ i.place;
       feed = search rules;
       taken = search rules;
       alike = search rules;

@@ -14,7 +14,7 @@ returns-in-Ask-clause-steps g c = λ s opened_with spare held placed under.
     let question = c.in-Ask.question in
     if_ok c.run_question.result
     (λ o a. step_is s o _ _ c.args.entered.command.now _ (sym c.command.ensures ∙ c.in-Ask.is)
-    (ask_done s o old c.requires.here opened_with.opening spare held placed under new question (subst (λ n. Asked n question (known_at old) (known_at new) o) (sym opened_with.index.origin_is) a)))
+    (ask_done s o old c.requires.pass.here opened_with.opening spare held placed under new question (subst (λ n. Asked n question (known_at old) (known_at new) o) (sym opened_with.index.origin_is) a)))
     c.run_question.ensures.asked
 
 pub returns-in-Block-clause-steps : goal.returns-in-Block-clause-steps
@@ -22,12 +22,12 @@ returns-in-Block-clause-steps g c = λ s opened_with spare held placed under.
     let block = c.in-Block.block in
     if_both c.run_block.result
     (λ o ends ran. step_is s o _ _ c.args.entered.command.now _ (sym c.command.ensures ∙ c.in-Block.is)
-    (block_done s o c.args.pass.now.seat c.requires.here opened_with.opening spare held placed under c.run_block.new.pass.seat block.weight (asked_view block) block.ending ends ran))
-    c.run_block.ensures.ends (c.run_block.ensures.ran s opened_with)
+    (block_done s o c.args.pass.now.seat c.requires.pass.here opened_with.opening spare held placed under c.run_block.new.pass.seat block.weight (asked_view block) block.ending ends ran))
+    c.run_block.ensures.runs.ends (c.run_block.ensures.runs.ran s opened_with)
 
 pub returns-in-Compact-clause-steps : goal.returns-in-Compact-clause-steps
 returns-in-Compact-clause-steps g c = λ s opened_with spare held placed under.
     let table = c.args.index.now.shared.table.shared.table_id in
     step_is s c.run_compaction.result _ _ c.args.entered.command.now _ (sym c.command.ensures ∙ c.in-Compact.is)
-    (compact_done s c.run_compaction.result c.args.pass.now.seat c.requires.here opened_with.opening spare held placed under c.run_compaction.new.pass.seat c.run_compaction.ensures.ends
-    (λ is. (table, subst (λ n. MovedAt table n (known_at c.args.pass.now.seat) (known_at c.run_compaction.new.pass.seat)) (sym opened_with.index.passes) (c.run_compaction.ensures.moves is))) (c.run_compaction.ensures.ran s opened_with.opening))
+    (compact_done s c.run_compaction.result c.args.pass.now.seat c.requires.pass.here opened_with.opening spare held placed under c.run_compaction.new.pass.seat c.run_compaction.ensures.runs.ends
+    (λ is. (table, subst (λ n. MovedAt table n (known_at c.args.pass.now.seat) (known_at c.run_compaction.new.pass.seat)) (sym opened_with.index.passes) (c.run_compaction.ensures.runs.moves is))) (c.run_compaction.ensures.runs.ran s opened_with.opening))

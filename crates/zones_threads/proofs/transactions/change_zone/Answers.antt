@@ -16,14 +16,14 @@ use Rattle.zones_threads.specs.Views.{Part}
 use Rattle.zones_threads.proofs.StepLaws.{zone_pass, block_goes, chosen_steps}
 use Rattle.zones_threads.proofs.transactions.change_zone.Goals as goal
 
-pub run_block-requires-clause-opens : goal.run_block-requires-clause-opens
-run_block-requires-clause-opens g c =
+pub run_block-requires-clause-may : goal.run_block-requires-clause-may
+run_block-requires-clause-may g c =
     let site : Site = record { number = c.args.zone; origin = c.origin-origin.result.now; size = c.zone-index.result.now.shared.table.shared.key } in
-    subst (OpensAt c.origin-origin.result.now) (sym c.zone-place.ensures.known)
-    (c.requires.opens site (record { origin = c.origin-origin.ensures; index = c.zone-index.result.now; there = c.zone-index.ensures.value; size = refl }))
-
-pub run_block-requires-clause-said : goal.run_block-requires-clause-said
-run_block-requires-clause-said g c = c.requires.said.1 c.origin-origin.result.now c.origin-origin.ensures
+    record {
+      opens = subst (OpensAt c.origin-origin.result.now) (sym c.zone-place.ensures.known)
+          (c.requires.opens site (record { origin = c.origin-origin.ensures; index = c.zone-index.result.now; there = c.zone-index.ensures.value; size = refl }));
+      said = c.requires.said.1 c.origin-origin.result.now c.origin-origin.ensures;
+    }
 
 pub returns : goal.returns
 returns g c =
@@ -37,7 +37,7 @@ returns g c =
     let index = c.zone-index.result.now in
     let block = c.args.block.now in
     let outcome = c.in_ok-outcome.outcome in
-    let w : Went origins pass zone next = went origins pass zone seat next c.requires.pass c.zone-place.ensures.value c.run_block.ensures.here c.run_block.ensures.place in
+    let w : Went origins pass zone next = went origins pass zone seat next c.requires.pass c.zone-place.ensures.value c.run_block.ensures.pass.here c.run_block.ensures.pass.place in
     record {
       pass = w.pass;
       kind = refl;
@@ -57,8 +57,8 @@ returns g c =
           subst (IsOpenedWith s origin index.shared.table.shared.key) (ap (zone_known pass) (sym same) ∙ sym c.zone-place.ensures.known)
           (subst (λ (z : TableSize). IsOpenedWith s origin z old) size (subst (λ (name : Name). IsOpenedWith s name site.size old) same_origin opened_with)) in
           let ran : BlockRan s (asked_view block) block.ending (zone_known pass zone) (zone_known new zone) outcome =
-          went_as (λ v x. BlockRan s (asked_view block) block.ending v x outcome) origins pass zone seat next w c.zone-place.ensures.known (c.in_ok-outcome.ensures.ran s here) in
-          block_goes s outcome old (zone_known new n) first opened_with.opening (zone_told origins pass c.requires.pass n inside) told under block.weight (asked_view block) block.ending own.0 own.1 c.in_ok-outcome.ensures.ends
+          went_as (λ v x. BlockRan s (asked_view block) block.ending v x outcome) origins pass zone seat next w c.zone-place.ensures.known (c.in_ok-outcome.ensures.runs.ran s here) in
+          block_goes s outcome old (zone_known new n) first opened_with.opening (zone_told origins pass c.requires.pass n inside) told under block.weight (asked_view block) block.ending own.0 own.1 c.in_ok-outcome.ensures.runs.ends
           (subst (λ k. BlockRan s (asked_view block) block.ending (zone_known pass k) (zone_known new k) outcome) same ran))
           (λ differs. ap (λ (v : Known). ended v first) (w.others n differs));
     }
