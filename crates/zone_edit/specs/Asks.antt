@@ -1,5 +1,5 @@
 -- What is asked for where an entry is read or stored, and why an operation isn't done.
-use Rattle.std.specs.Prelude.{◌≡◌, ◌<◌, ◌≤◌, ℕ, [], List, Option, Result, Err, IsSomeAnd, length}
+use Rattle.std.specs.Prelude.{◌≡◌, ◌<◌, ◌≤◌, ℕ, List, Option, Result, Err, IsSomeAnd, length}
 use Rattle.zone_model.specs.Keys.{key_of, most_item_octets}
 use Rattle.zone_model.specs.Names.{Name}
 use Rattle.zone_model.specs.Records.{Entry, IsItem, item, item_limit}

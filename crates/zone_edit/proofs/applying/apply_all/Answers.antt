@@ -1,5 +1,5 @@
-use Rattle.std.proofs.Common.{◌≡◌, ◌∙◌, ℕ, ◌+◌, ◌-◌, ◌≤◌, length, List, [], ◌∷◌, map, take, drop, Ok, Err, refl, ap, sym, subst, arith, append-nil}
-use Rattle.std.proofs.lemmas.List.{length-map, length-take-le, take_all, take-map}
+use Rattle.std.proofs.Common.{◌∙◌, ℕ, ◌+◌, ◌≤◌, length, List, [], map, take, drop, Ok, Err, refl, ap, sym, subst, arith}
+use Rattle.std.proofs.lemmas.List.{length-map, length-take-le, take_all}
 use Rattle.zone_model.specs.Versions.{Version, Operation}
 use Rattle.zone_change.specs.Views.{operation_view}
 use Rattle.zone_change.specs.declared.operations.Operation.{Operation as Said}
