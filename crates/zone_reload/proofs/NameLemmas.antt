@@ -1,9 +1,9 @@
 -- The first name of a version that is laid down.
-use Rattle.std.proofs.Common.{◌≡◌, ◌∙◌, ℕ, ◌≤◌, List, [], ◌∷◌, ◌++◌, length, take, sym, ap, subst, append_assoc, Option, Some, None}
+use Rattle.std.proofs.Common.{◌≡◌, ◌∙◌, ℕ, List, [], ◌∷◌, ◌++◌, length, take, sym, ap, subst, append_assoc, Option, Some, None}
 use Rattle.std.specs.List.{flat_map}
 use Rattle.std.specs.Int.{w16, to_be_bytes}
 use Rattle.zone_model.specs.Names.{BeginsWith, IsName, Name, wire}
-use Rattle.zone_model.specs.Records.{IsItem, item, rrset_bytes}
+use Rattle.zone_model.specs.Records.{IsItem, rrset_bytes}
 use Rattle.zone_model.specs.Versions.{Version}
 use Rattle.trie_model.specs.Keys.{Entry}
 use Rattle.zone_diff.specs.declared.names.Ahead.{Ahead}

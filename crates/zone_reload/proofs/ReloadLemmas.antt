@@ -1,8 +1,7 @@
 -- What a transaction of a difference makes of a working set.
-use Rattle.std.proofs.Common.{◌≡◌, ◌∙◌, List, refl, sym, ap, subst, Option, Some, None, Result, Ok, Err, OnOk, IsSomeAnd}
+use Rattle.std.proofs.Common.{◌≡◌, ◌∙◌, List, ap, subst, Option, Some, None, Result, Ok, Err, OnOk, IsSomeAnd, inr}
 use Rattle.zone_model.specs.Names.{Name}
 use Rattle.zone_model.specs.Versions.{Version, Operation, all_applied}
-use Rattle.zone_model.specs.declared.Refusal.{Refusal}
 use Rattle.master_file.specs.Rows.{CanBeDumped}
 use Rattle.qp_multi.specs.declared.writer.WorkingVersion.{WorkingVersion}
 use Rattle.qp_multi.specs.WorkingVersions.{Between}
@@ -10,11 +9,11 @@ use Rattle.zone_diff.specs.Blocks.{changes}
 use Rattle.zone_diff.specs.Differences.{difference}
 use Rattle.zone_diff.specs.declared.Serial.TheVariants.{Keep}
 use Rattle.zone_diff.proofs.DifferenceLaws.{difference_makes, made_keep}
-use Rattle.zone_edit.specs.Blocks.{Edited, EditsInOrder, Executes, done_of}
+use Rattle.zone_edit.specs.Blocks.{Edited}
 use Rattle.zone_edit.specs.Stores.{WorksOn, WorksOnSome}
 use Rattle.zone_edit.specs.declared.refusal.EditRefusal.{EditRefusal}
 use Rattle.zone_edit.specs.declared.refusal.EditRefusal.TheVariants as refusals
-use Rattle.zone_reload.specs.Reloads.{Becomes, IsAccepted}
+use Rattle.zone_reload.specs.Reloads.{Becomes, IsAccepted, Replaces}
 
 -- the operations make the version after
 makes : (origin : Name) (before after : Version) → CanBeDumped origin before → CanBeDumped origin after → all_applied origin (difference Keep before after) before ≡ Ok after
@@ -45,6 +44,10 @@ became_as origin before after operations result old new e h k edited = became or
 pub accepted_as : (origin : Name) (before after : Version) (operations : List Operation) (result : Result (Unit {0}) EditRefusal) (old new : Option WorkingVersion) → operations ≡ difference Keep before after → CanBeDumped origin before → CanBeDumped origin after → Edited origin (changes operations) result old new
     → Between (IsAccepted before result) old new
 accepted_as origin before after operations result old new e h k edited = accepted origin before after result old new h k (subst (λ (l : List Operation). Edited origin (changes l) result old new) e edited)
+
+pub replaces_as : (origin : Name) (before after : Version) (operations : List Operation) (result : Result (Unit {0}) EditRefusal) (old new : Option WorkingVersion) → operations ≡ difference Keep before after → Edited origin (changes operations) result old new
+    → Replaces origin (difference Keep before after) result old new
+replaces_as origin before after operations result old new e edited = inr (subst (λ (l : List Operation). Edited origin (changes l) result old new) e edited)
 
 -- nothing was done for want of memory
 pub accepted_none : (before : Version) (old : Option WorkingVersion) → IsSomeAnd old WorksOnSome → Between (IsAccepted before (Err refusals.Memory)) old old

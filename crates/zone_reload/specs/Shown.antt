@@ -4,6 +4,7 @@ use Rattle.zone_model.specs.Keys.{most_item_octets}
 use Rattle.zone_model.specs.Records.{IsItem}
 use Rattle.zone_model.specs.Versions.{Version}
 use Rattle.trie_model.specs.Keys.{Entry}
+use Rattle.zone_answer.specs.Standing.{Shows}
 use Rattle.zone_diff.specs.NamesAhead.{entry_laid}
 use Rattle.zone_diff.specs.declared.names.Ahead.{Ahead}
 use Rattle.zone_dump.specs.Walks.{Faces}
@@ -23,3 +24,7 @@ ShowsLeft stands (Some ahead) octets left = ShowsAhead stands ahead octets left
 -- the same, with room for any item
 abbrev pub ShowsNames : (List Entry → List Entry → Type 0) → Option Ahead → List ℕ → Version → Type 0
 ShowsNames stands ahead octets left = (most_item_octets ≤ length octets) × ShowsLeft stands ahead octets left
+
+-- the same of all names of whichever version is shown
+abbrev pub ShowsAll : (List Entry → Type 0) → (List Entry → List Entry → Type 0) → Option Ahead → List ℕ → Type 0
+ShowsAll holds stands ahead octets = (zone : Version) → Shows holds zone → ShowsNames stands ahead octets zone

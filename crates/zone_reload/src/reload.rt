@@ -1,7 +1,6 @@
 //! A version's zone exchanged whole.
-ghost use Rattle.std.specs.Prelude.{◌≡◌, map, Err, IfOk, IsSomeAnd, OnOk};
-ghost use Rattle.zone_reload.specs.Prelude.{Becomes, Between, CanBeDumped, IsAccepted, IsOfTheSame, Keep};
-ghost use Rattle.zone_reload.specs.Prelude.{Replaces, Shows, ShowsSome, Version, WorksOnSome, difference, operation_view};
+ghost use Rattle.std.specs.Prelude.{◌≡◌, map, IfOk, IsSomeAnd};
+ghost use Rattle.zone_reload.specs.Prelude.{GoesOnHere, ReplacesAll, Shows, ShowsSome, Version, WorksOnSome, difference, operation_view};
 
 use crate::operations::OperationList;
 use crate::versions::VersionNames;
@@ -85,14 +84,8 @@ pub fn replace_all<L: Law, N: Named, K, V: Reading>(
     requires works { IsSomeAnd transaction.old.locked.now.working WorksOnSome }
     requires shown { ShowsSome (V.holds version.old) }
     ensures same { version.new ≡ version.old }
-    ensures same_reference { IsOfTheSame transaction.old transaction.new }
-    ensures place { transaction.new.locked.now.place ≡ transaction.old.locked.now.place }
-    ensures replaces { (before : Version) → Shows (V.holds version.old) before
-        → Replaces origin.now (difference Keep before zone.pairs) result transaction.old.locked.now.working transaction.new.locked.now.working }
-    ensures accepted { (before : Version) → Shows (V.holds version.old) before → CanBeDumped origin.now before → CanBeDumped origin.now zone.pairs
-        → Between (IsAccepted before result) transaction.old.locked.now.working transaction.new.locked.now.working }
-    ensures made { (before : Version) → Shows (V.holds version.old) before → CanBeDumped origin.now before → CanBeDumped origin.now zone.pairs
-        → OnOk result (Between (Becomes before zone.pairs) transaction.old.locked.now.working transaction.new.locked.now.working) }
+    ensures goes_on { GoesOnHere transaction.old transaction.new }
+    ensures replaces { ReplacesAll origin.now (V.holds version.old) zone.pairs result transaction.old.locked.now.working transaction.new.locked.now.working }
 {
     let Ok(operations) = operations_between(alloc, Serial::Keep, version, zone) else {
         return Err(EditRefusal::Memory);

@@ -1,6 +1,6 @@
 //! The names of a version that is read.
 ghost use Rattle.std.specs.Prelude.{◌≡◌, ◌≤◌, length};
-ghost use Rattle.zone_reload.specs.Prelude.{Faces, FacesSome, GivesNext, Shows, ShowsLeft, ShowsNames, ShowsSome, Version, most_item_octets};
+ghost use Rattle.zone_reload.specs.Prelude.{Faces, FacesSome, GivesNext, ShowsAll, ShowsLeft, ShowsSome, Version, most_item_octets};
 
 use dns_name::Name;
 use trie_read::{Iter, Reading};
@@ -50,8 +50,7 @@ impl<'v, V: Reading> VersionNames<'v, V> {
         requires room { most_item_octets ≤ length octets.old }
         ensures same_reference { result.version.ghost_name ≡ version.entry.ghost_name }
         ensures same { result.version.now ≡ version.entry.now }
-        ensures shows { (zone : Version) → Shows (V.holds version.entry.now) zone
-            → ShowsNames (V.stands result.version.now result.iter) result.ahead result.octets.now zone }
+        ensures shows { ShowsAll (V.holds version.entry.now) (V.stands result.version.now result.iter) result.ahead result.octets.now }
     {
         let mut iter = version.iter();
         let ahead = next_of(version, &mut iter, octets);

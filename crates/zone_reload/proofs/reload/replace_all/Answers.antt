@@ -1,21 +1,34 @@
-use Rattle.std.proofs.Common.{List, ap, map, subst}
+use Rattle.std.proofs.Common.{List, inl, map, refl, subst}
 use Rattle.zone_change.specs.Views.{operation_view}
 use Rattle.zone_change.specs.declared.operations.Operation.{Operation}
 use Rattle.zone_diff.specs.Blocks.{changes}
 use Rattle.zone_edit.specs.Blocks.{Edited}
-use Rattle.zone_reload.proofs.ReloadLemmas.{accepted_as, became_as}
+use Rattle.zone_reload.proofs.ReloadLemmas.{accepted_as, accepted_none, became_as, replaces_as}
 use Rattle.zone_reload.proofs.reload.replace_all.Goals as goal
 
-pub returns-clause-accepted : goal.returns-clause-accepted
-returns-clause-accepted g c before shown h k =
-    let old = c.args.transaction.now.locked.now.working in
-    let new = c.execute.new.transaction.locked.now.working in
-    let edited = subst (λ (l : List Operation). Edited c.args.origin.now (changes (map operation_view l)) c.execute.result old new) c.deref.ensures.value c.execute.ensures.executes in
-    accepted_as c.args.origin.now before c.args.zone.pairs (map operation_view c.in-Ok.operations.items) c.execute.result old new (c.in-Ok.ensures.list before shown) h k edited
+pub returns-in_default-clause-replaces : goal.returns-in_default-clause-replaces
+returns-in_default-clause-replaces g c = record {
+  differs = λ before shown. inl (refl, refl);
+  accepted = λ before shown h k. accepted_none before c.args.transaction.now.locked.now.working c.requires.works;
+  made = λ before shown h k. tt;
+}
 
-pub returns-clause-made : goal.returns-clause-made
-returns-clause-made g c before shown h k =
+pub returns-clause-goes_on : goal.returns-clause-goes_on
+returns-clause-goes_on g c = record {
+  same_reference = c.execute.ensures.same_reference;
+  place = c.execute.ensures.place;
+}
+
+pub returns-clause-replaces : goal.returns-clause-replaces
+returns-clause-replaces g c =
+    let origin = c.args.origin.now in
+    let zone = c.args.zone.pairs in
     let old = c.args.transaction.now.locked.now.working in
     let new = c.execute.new.transaction.locked.now.working in
-    let edited = subst (λ (l : List Operation). Edited c.args.origin.now (changes (map operation_view l)) c.execute.result old new) c.deref.ensures.value c.execute.ensures.executes in
-    became_as c.args.origin.now before c.args.zone.pairs (map operation_view c.in-Ok.operations.items) c.execute.result old new (c.in-Ok.ensures.list before shown) h k edited
+    let operations = map operation_view c.in-Ok.operations.items in
+    let edited = subst (λ (l : List Operation). Edited origin (changes (map operation_view l)) c.execute.result old new) c.deref.ensures.value c.execute.ensures.executes in
+    record {
+      differs = λ before shown. replaces_as origin before zone operations c.execute.result old new (c.in-Ok.ensures.list before shown) edited;
+      accepted = λ before shown h k. accepted_as origin before zone operations c.execute.result old new (c.in-Ok.ensures.list before shown) h k edited;
+      made = λ before shown h k. became_as origin before zone operations c.execute.result old new (c.in-Ok.ensures.list before shown) h k edited;
+    }
