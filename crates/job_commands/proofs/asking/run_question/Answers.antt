@@ -25,4 +25,4 @@ returns-clause-asked g c =
     (asked_of IsLawful c.args.origin.now c.args.question.now (known_at c.args.pass.now.seat) c.query-query.result.seat.place.me.0 (known_at c.drop-query-2.new.self.0.seat) c.query-query.result.seat.version o
     q.pinned (c.drop-query-2.ensures.left ∙ ap (λ x. with_progress x.seat.place.me.0 progress.Idle) (c.reply_text.ensures.same ∙ c.version-version.ensures.same)) c.version-version.ensures.number refl
     (λ zone stands. c.in_ok-text.ensures.reply zone
-    (subst (λ x. Shows (Holds (pinned_image x.seat.place.me.0.progress) x.seat.root) zone) (sym c.version-version.ensures.same) (shown _ _ _ zone q.holds stands))))
+    (subst (λ x. Shows (Holds (pinned_image x.seat.place.me.0.progress) x.seat.root) zone) (sym c.version-version.ensures.same) (shown _ _ _ zone q.reads.holds stands))))

@@ -18,5 +18,5 @@ returns g c = λ s zone before ws os gathers counted all opens.
     let ended = c.close-version.ensures.ends in
     job_ended c.args.passes.items c.push.new.self.items _ (λ p. known_at p.seat) c.in_ok-push.ensures.items s before ws os (known_at c.args.main.seat) pinned _ gathers (seat_told c.args.main.seat c.requires.main.0) q.pinned
     (known_at c.drop.new.self.0.seat) (search rules) (c.drop.ensures.left ∙ ap (λ x. with_progress x.seat.place.me.0 progress.Idle) (c.nodes-nodes.ensures.same ∙ c.count-names.ensures.same)) _ counted all zone opens _ _ _ ended.0 ended.1
-    (c.count-names.ensures.count (version_seen pinned.seen) q.holds)
-    (c.nodes-nodes.ensures.nodes (version_seen pinned.seen) (subst (λ x. Holds (pinned_image x.seat.place.me.0.progress) x.seat.root (version_seen pinned.seen)) (sym c.count-names.ensures.same) q.holds))
+    (c.count-names.ensures.count (version_seen pinned.seen) q.reads.holds)
+    (c.nodes-nodes.ensures.nodes (version_seen pinned.seen) (subst (λ x. Holds (pinned_image x.seat.place.me.0.progress) x.seat.root (version_seen pinned.seen)) (sym c.count-names.ensures.same) q.reads.holds))
