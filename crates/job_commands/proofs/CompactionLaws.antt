@@ -1,6 +1,6 @@
 -- A compaction ends as a block without operations does.
 use Rattle.std.proofs.Common.{◌≡◌, ◌∙◌, ℕ, ◌+◌, true, List, [], Option, Some, Result, Ok, Err, refl, sym, arith, append-nil}
-use Rattle.std.specs.Prelude.{IsSome, IfOk, IfErr}
+use Rattle.std.specs.Prelude.{IsOk, IsSome, IfOk, IfErr}
 use Rattle.atomic_table.specs.Seated.{TableId}
 use Rattle.pin_core.specs.declared.version.Spent.{Spent as NoNumber}
 use Rattle.zone_model.specs.Transactions.{no_changes}
@@ -22,6 +22,11 @@ use Rattle.zone_edit.proofs.WayLaws.{at_end}
 use Rattle.job_commands.specs.Histories.{IsLawful, OpenedWith}
 use Rattle.job_commands.specs.Commands.{BlockRan}
 use Rattle.job_commands.proofs.BlockLaws.{commit_ran, spent_ran}
+
+-- a receipt is there where one was told
+pub receipt_of : (r : Result Receipt NoNumber) (P : Receipt → Type 0) → IsOk r → IfOk r P → (receipt : Receipt) × P receipt
+receipt_of (Ok t) P ok p = (t, p)
+receipt_of (Err s) P ok p = absurd cc
 
 stays_so : (v : Known) → GoesOn v v
 stays_so v = record { pass = refl; opening = refl; history = refl; namings = ([], sym (append-nil v.seen.namings)) }
