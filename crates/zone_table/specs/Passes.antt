@@ -1,5 +1,5 @@
 -- What a pass of the zones has: a seat at the table and one at each zone.
-use Rattle.std.specs.Prelude.{◌≡◌, ℕ, ◌+◌, ◌<◌, List, length, map, All, IfSome, IsSome, None, slice_get, unwrap_or}
+use Rattle.std.specs.Prelude.{◌≡◌, ℕ, ◌<◌, List, length, map, All, IfSome, IsSome, None, slice_get, unwrap_or}
 use Rattle.std.specs.List.{range_with_len}
 use Rattle.zone_model.specs.Names.{Name}
 use Rattle.qp_multi.specs.declared.meaning.Named.{Ghosts}
@@ -28,11 +28,6 @@ pub record StandAt {X : Type 0} {N : Ghosts X} (places : List ℕ) (passes : Lis
 pub record HasZone {X : Type 0} {N : Ghosts X} (origins : List Name) (zone : ℕ) (p : ZonesPass X N) : Type 0 where
   pub pass : IsPassOf origins p
   pub within : zone < length origins
-
--- the pass of a zone's index, whose seat is there
-pub record IsZonePass {X : Type 0} {N : Ghosts X} (zone : ℕ) (p : Pass X N) : Type 0 where
-  pub here : IsSome p.seat
-  pub place : p.place ≡ zone + 1
 
 -- what it knows of the table, and of each zone
 abbrev pub table_known : {X : Type 0} {N : Ghosts X} → ZonesPass X N → Known

@@ -1,6 +1,6 @@
 //! A pass of the zones: one of the table and one of each zone.
-ghost use Rattle.std.specs.Prelude.{◌≡◌, Some, slice_get};
-ghost use Rattle.zone_table.specs.Prelude.{sem, known_at, HasZone, IsZonePass, zone_known, lends_zone};
+ghost use Rattle.std.specs.Prelude.{◌≡◌, ◌+◌, Some, slice_get};
+ghost use Rattle.zone_table.specs.Prelude.{sem, known_at, HasZone, IsHere, zone_known, lends_zone};
 
 use crate::remembered::Remembered;
 use crate::zones::Zones;
@@ -22,7 +22,7 @@ impl<N: Named> ZonesPass<N> {
         requires { HasZone zones.now.origins.items zone self.old }
         ensures* writes_back { sem 𝓛 (lends_zone N.row N.Named self.entry zone result) }
         ensures value { slice_get self.old.zones.items zone ≡ Some result.now }
-        ensures at { IsZonePass zone result.now }
+        ensures at { IsHere (zone + 1) result.now }
         ensures known { known_at result.now.seat ≡ zone_known self.old zone }
     {
         let _zones = zones; // for the proof
