@@ -4,7 +4,6 @@ use Rattle.std.specs.List.{IsDistinct}
 use Rattle.zone_model.specs.Names.{Name, same_name}
 use Rattle.atomic_table.specs.Seated.{TableId}
 use Rattle.shared_cells.specs.declared.view.TableSize.{TableSize}
-use Rattle.qp_multi.specs.declared.opening.Blank.{Blank}
 use Rattle.job_commands.specs.Histories.{IsZone}
 use Rattle.zone_table.specs.Openings.{Place, entries_in, origins_of, places_of}
 use Rattle.zone_table.specs.declared.opening.ZoneItems.{ZoneItems}
@@ -12,10 +11,6 @@ use Rattle.zone_server.specs.Homes.{Served}
 
 abbrev pub origin_in : ZoneItems → Name
 origin_in z = z.origin
-
--- the sizes of tables
-abbrev pub sizes_of : {X : Type 0} → List (Blank X) → List TableSize
-sizes_of blanks = map (λ b. b.shared.table.shared.key) blanks
 
 -- a zone, as it is served on a table of this size
 abbrev pub served_at : Place → Served

@@ -19,17 +19,7 @@ use Rattle.zone_server.specs.Servings.{IsServed, IsServing, known_of}
 -- ---- of a zone
 
 module _ {Y : Type 0} {N : Ghosts Y} where
-  -- a pass has a seat at the index of this place
-  pub record IsAt (at : ℕ) (pass : Pass Y N) : Type 0 where
-    pub here : IsSome pass.seat
-    pub place : pass.place ≡ at
-
-  -- it still has
-  pub record Stays (old new : Pass Y N) : Type 0 where
-    pub here : IsSome new.seat
-    pub place : new.place ≡ old.place
-
-  -- it has asked: it stays, and has seen no less
+  -- a pass has asked: it can still, and has seen no less
   pub record HasAsked (old new : Pass Y N) : Type 0 where
     pub here : IsSome new.seat
     pub place : new.place ≡ old.place

@@ -19,10 +19,10 @@ pub use Rattle.zone_diff.specs.NamesAhead.{Stands, pairs_ahead}
 pub use Rattle.zone_diff.specs.declared.Serial.TheVariants.{Keep}
 pub use Rattle.zone_answer.specs.Prelude.{Version, answer, respond, IsGiven, IsResponded, Shows, ShowsSome}
 pub use Rattle.qp_multi.specs.Keepings.{versions_in}
-pub use Rattle.qp_multi.specs.Passes.{Known, known_at}
+pub use Rattle.qp_multi.specs.Passes.{IsHere, Known, known_at}
 pub use Rattle.job_commands.specs.Commands.{IsOpenedWith}
 pub use Rattle.job_commands.specs.Histories.{IsZone, OpenedWith, StandsAs}
-pub use Rattle.zone_table.specs.Openings.{entries_in}
+pub use Rattle.zone_table.specs.Openings.{entries_in, sizes_of}
 pub use Rattle.zone_server.specs.Asks.{Needs, Takes, adds}
 pub use Rattle.zone_server.specs.Attachings.{Attached, Detached, attach_told}
 pub use Rattle.zone_server.specs.Builds.{AddsZone, OpensFor}
@@ -30,8 +30,8 @@ pub use Rattle.zone_server.specs.Changes.{Changes, NoneHas, Ran, RunsIn, WantsIn
 pub use Rattle.zone_server.specs.Homes.{Served}
 pub use Rattle.zone_server.specs.Loadings.{Loads}
 pub use Rattle.zone_server.specs.Notes.{HasLearnt, IsNote, Tells, told_of}
-pub use Rattle.zone_server.specs.Openings.{IsOpening, OpeningView, origin_in, served_of, sizes_of}
-pub use Rattle.zone_server.specs.Passes.{AreServing, CanExchange, CanReload, CanRunIn, HasAsked, IsAt, Stays, StaysServing}
+pub use Rattle.zone_server.specs.Openings.{IsOpening, OpeningView, origin_in, served_of}
+pub use Rattle.zone_server.specs.Passes.{AreServing, CanExchange, CanReload, CanRunIn, HasAsked, StaysServing}
 pub use Rattle.zone_server.specs.Reloads.{NoRule, RanOn, Reloading, Reloads, StopsReload, commit_told}
 pub use Rattle.zone_server.specs.Replies.{IsAfter, IsFrom, IsReply, IsShown, IsTold, reply_map}
 pub use Rattle.zone_server.specs.Servings.{IsServed, IsServing, ServerKnown, known_of, of_zone}

@@ -1,6 +1,7 @@
 //! Questions.
 ghost use Rattle.std.specs.Prelude.{◌≡◌, [], IfOk};
-ghost use Rattle.zone_server.specs.Prelude.{HasAsked, IsAt, IsGiven, IsReply, IsServed, IsServing, IsShown, answer, known_at, known_of, reply_map};
+ghost use Rattle.zone_server.specs.Prelude.{AreServing, HasAsked, IsGiven, IsHere, IsReply, IsServing, IsShown};
+ghost use Rattle.zone_server.specs.Prelude.{answer, known_at, known_of, reply_map};
 
 use crate::home::Home;
 use crate::reply::{FromZone, Reply};
@@ -38,7 +39,7 @@ fn ask_index<N: Named, S: RowSink>(
     scratch: &mut Scratch,
     rows: &mut S,
 ) -> Result<Shown<Kind>, AllocError>
-    requires pass { IsAt index.now.place pass.old }
+    requires pass { IsHere index.now.place pass.old }
     requires none { S.has rows.old [] }
     ensures asks { HasAsked pass.old pass.new }
     ensures shown { IfOk result (λ s. IsShown (λ zone. IsGiven (S.has rows.new) (answer origin.now zone name.now rtype) s.told)
@@ -69,8 +70,7 @@ fn ask_zones<H: Home, S: RowSink>(
     scratch: &mut Scratch,
     rows: &mut S,
 ) -> Result<Reply<Kind>, AllocError>
-    requires zones { IsServed H.zones zones.now }
-    requires pass { IsServing H.zones pass.old }
+    requires serves { AreServing H.zones zones.now pass.old }
     requires none { S.has rows.old [] }
     ensures pass { IsServing H.zones pass.new }
     ensures reply { IfOk result (IsReply H.zones name.now (λ origin zone. IsGiven (S.has rows.new) (answer origin zone name.now rtype))

@@ -1,7 +1,7 @@
 //! Zones that are exchanged whole, each by one transaction that changes what differs and nothing else.
-ghost use Rattle.std.specs.Prelude.{◌≡◌, map, IfOk, IsSome};
-ghost use Rattle.zone_server.specs.Prelude.{CanBeDumped, CanExchange, CanReload, IsServed, IsServing, IsOpenedWith, IsShown, Keep, NoRule, Reloading, Reloads};
-ghost use Rattle.zone_server.specs.Prelude.{RanOn, OpenedWith, Stays, StopsReload, changes, commit_told, difference, known_at, known_of};
+ghost use Rattle.std.specs.Prelude.{◌≡◌, map, IfOk};
+ghost use Rattle.zone_server.specs.Prelude.{CanBeDumped, CanExchange, CanReload, IsHere, IsServed, IsServing, IsOpenedWith, IsShown, Keep, NoRule};
+ghost use Rattle.zone_server.specs.Prelude.{RanOn, Reloading, Reloads, OpenedWith, StopsReload, changes, commit_told, difference, known_at, known_of};
 ghost use Rattle.zone_server.specs.Prelude.{operation_view, versions_in};
 
 use crate::asking::Shown;
@@ -54,10 +54,8 @@ fn difference_of<N: Named>(
     pass: &mut Pass<N>,
     zone: &Zone,
 ) -> Shown<Result<Vec<Operation>, AllocError>>
-    requires here { IsSome pass.old.seat }
-    requires place { pass.old.place ≡ index.now.place }
-    ensures here { IsSome pass.new.seat }
-    ensures place { pass.new.place ≡ pass.old.place }
+    requires { IsHere index.now.place pass.old }
+    ensures stays { IsHere pass.old.place pass.new }
     ensures shown { IsShown (λ before. IfOk result.told (λ list. map operation_view list.items ≡ difference Keep before zone.now.pairs))
         (known_at pass.old.seat) (known_at pass.new.seat) result.version }
 {
@@ -119,7 +117,7 @@ fn exchange<R: Wait, N: Named>(
     items: &mut ItemBuffers,
 ) -> Result<u64, ReloadRefusal>
     requires { CanExchange index.now.place pass.old origin.now (changes (map operation_view operations.now)) number }
-    ensures stays { Stays pass.old pass.new }
+    ensures stays { IsHere pass.old.place pass.new }
     ensures ran { (s : OpenedWith) → IsOpenedWith s origin.now index.now.shared.table.shared.key (known_at pass.old.seat)
         → RanOn s (changes (map operation_view operations.now)) (known_at pass.old.seat) (known_at pass.new.seat) result }
 {
@@ -145,7 +143,7 @@ fn reload_index<R: Wait, N: Named>(
     items: &mut ItemBuffers,
 ) -> Result<u64, ReloadRefusal>
     requires { CanReload index.now.place pass.old zone.now }
-    ensures stays { Stays pass.old pass.new }
+    ensures stays { IsHere pass.old.place pass.new }
     ensures reloading { (s : OpenedWith) → IsOpenedWith s zone.now.origin index.now.shared.table.shared.key (known_at pass.old.seat)
         → Reloading s zone.now.pairs (known_at pass.old.seat) (known_at pass.new.seat) result }
 {

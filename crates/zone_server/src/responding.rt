@@ -1,6 +1,7 @@
 //! Responses: what a message of an authoritative server says.
 ghost use Rattle.std.specs.Prelude.{◌≡◌, [], IfOk};
-ghost use Rattle.zone_server.specs.Prelude.{HasAsked, IsAt, IsReply, IsResponded, IsServed, IsServing, IsShown, known_at, known_of, reply_map, respond};
+ghost use Rattle.zone_server.specs.Prelude.{AreServing, HasAsked, IsHere, IsReply, IsResponded, IsServing, IsShown};
+ghost use Rattle.zone_server.specs.Prelude.{known_at, known_of, reply_map, respond};
 
 use crate::asking::Shown;
 use crate::home::Home;
@@ -25,7 +26,7 @@ fn respond_index<N: Named, S: RowSink + Drop>(
     scratch: &mut Scratch,
     rows: &mut Sections<S>,
 ) -> Result<Shown<Header>, AllocError>
-    requires pass { IsAt index.now.place pass.old }
+    requires pass { IsHere index.now.place pass.old }
     requires none { S.has rows.old.rows [] }
     ensures asks { HasAsked pass.old pass.new }
     ensures shown { IfOk result (λ s. IsShown (λ zone. IsResponded (S.has rows.new.rows) (respond origin.now zone name.now rtype) s.told)
@@ -47,8 +48,7 @@ fn respond_zones<H: Home, S: RowSink + Drop>(
     scratch: &mut Scratch,
     rows: &mut Sections<S>,
 ) -> Result<Reply<Header>, AllocError>
-    requires zones { IsServed H.zones zones.now }
-    requires pass { IsServing H.zones pass.old }
+    requires serves { AreServing H.zones zones.now pass.old }
     requires none { S.has rows.old.rows [] }
     ensures pass { IsServing H.zones pass.new }
     ensures reply { IfOk result (IsReply H.zones name.now (λ origin zone. IsResponded (S.has rows.new.rows) (respond origin zone name.now rtype))

@@ -1,6 +1,6 @@
 //! A zone that is written down, as of one version.
 ghost use Rattle.std.specs.Prelude.{◌≡◌};
-ghost use Rattle.zone_server.specs.Prelude.{AreServing, IsAt, IsDumpedTo, IsServing, Stays, Transfers, known_at, known_of, transfer_told, transferred};
+ghost use Rattle.zone_server.specs.Prelude.{AreServing, IsDumpedTo, IsHere, IsServing, Transfers, known_at, known_of, transfer_told, transferred};
 
 use crate::finding::zone_of;
 use crate::home::Home;
@@ -76,9 +76,9 @@ fn dump_index<N: Named, K: Sink, T, F: FnOnce() -> T>(
     sink: &mut K,
     before: F,
 ) -> (T, Result<Transferred, DumpRefusal>)
-    requires pass { IsAt index.now.place pass.old }
+    requires pass { IsHere index.now.place pass.old }
     requires before { F.pre before }
-    ensures stays { Stays pass.old pass.new }
+    ensures stays { IsHere pass.old.place pass.new }
     ensures before { F.post before result.0 }
     ensures dumped { IsDumpedTo style origin.now (K.held sink.old) (K.held sink.new) (known_at pass.old.seat) (known_at pass.new.seat) result.1 }
 {

@@ -45,4 +45,4 @@ returns-clause-shown g c =
     (c.drop-query-2.ensures.left ∙ ap (λ x. with_progress x.seat.place.me.0 progress.Idle) (c.answer_into.ensures.same ∙ c.version-version.ensures.same))
     (λ zone. IsGiven (g.S.RowSink.has c.answer_into.new.rows) (answer c.args.origin.now zone c.args.name.now c.args.rtype) c.in_ok-told.told) c.version-version.result c.version-version.ensures.number
     (λ zone stands. c.in_ok-told.ensures.answer zone
-    (subst (λ x. Shows (Holds (pinned_image x.seat.place.me.0.progress) x.seat.root) zone) (sym c.version-version.ensures.same) (shown _ _ _ zone q.holds stands))))
+    (subst (λ x. Shows (Holds (pinned_image x.seat.place.me.0.progress) x.seat.root) zone) (sym c.version-version.ensures.same) (shown _ _ _ zone q.reads.holds stands))))

@@ -31,5 +31,5 @@ returns-clause-shown g c =
     subst (λ (v : Known). IsShown tells old v c.version-version.result) {x = new} (search rules)
     (shown_by old pinned new c.query-query.result.seat.version q.pinned left tells c.version-version.result c.version-version.ensures.number
     (λ before stands.
-    let shows = subst (λ x. Shows (Holds (pinned_image x.seat.place.me.0.progress) x.seat.root) before) (sym c.version-version.ensures.same) (shown _ _ _ before q.holds stands) in
+    let shows = subst (λ x. Shows (Holds (pinned_image x.seat.place.me.0.progress) x.seat.root) before) (sym c.version-version.ensures.same) (shown _ _ _ before q.reads.holds stands) in
     IfOk-weaker c.operations_to-told.result _ _ (λ list is. is before shows) c.operations_to-told.ensures.list))

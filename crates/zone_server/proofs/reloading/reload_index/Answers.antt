@@ -17,12 +17,12 @@ returns-in_default-clause-reloading g c = λ s opened_with.
     let zone = c.args.zone.now in
     let tells : Version → Type 0 = λ v. IfOk c.difference_of-version.result.told (λ list. map operation_view list.items ≡ difference Keep v zone.pairs) in
     reloading_none zone.origin zone.pairs c.requires.zone (known_at c.args.pass.now.seat) (known_at c.difference_of-version.new.pass.seat) (seat_told c.args.pass.now.seat c.requires.here) c.requires.opens tells c.difference_of-version.result.version c.difference_of-version.ensures.shown
-    s opened_with.index.origin_is opened_with.opening (seat_told c.difference_of-version.new.pass.seat c.difference_of-version.ensures.here)
+    s opened_with.index.origin_is opened_with.opening (seat_told c.difference_of-version.new.pass.seat c.difference_of-version.ensures.stays.here)
 
 pub exchange-requires : goal.exchange-requires
 exchange-requires g c = record {
-  here = c.difference_of-version.ensures.here;
-  place = c.difference_of-version.ensures.place ∙ c.requires.place;
+  here = c.difference_of-version.ensures.stays.here;
+  place = c.difference_of-version.ensures.stays.place ∙ c.requires.place;
   opens =
       let zone = c.args.zone.now in
       let tells : Version → Type 0 = λ v. IfOk c.difference_of-version.result.told (λ list. map operation_view list.items ≡ difference Keep v zone.pairs) in

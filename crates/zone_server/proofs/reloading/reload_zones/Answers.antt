@@ -25,7 +25,7 @@ zone-place-requires g c = record {
 
 pub reload_index-requires : goal.reload_index-requires
 reload_index-requires g c = record {
-  here = c.zone-place.ensures.here;
+  here = c.zone-place.ensures.at.here;
   place = search rules;
   opens =
       opens_at g.H.Home.zones c.args.zones.now c.requires.zones c.args.pass.now c.requires.pass c.in-Some.zone c.args.loaded.now.origin (c.in-Some.ensures.found ∙ ap Some c.origin.ensures) c.zone-place.result.now c.zone-place.ensures.known;
@@ -45,7 +45,7 @@ returns-clause-pass g c =
     let opened_with = opened_as_at served zones is pass c.requires.pass c.in-Some.zone origin at place c.zone-place.ensures.known c.zone-index.result.now c.zone-index.ensures.value in
     asked_serving served zones is pass pass c.requires.pass refl (pass_in served zones is pass c.requires.pass.pass)
     c.in-Some.zone place c.reload_index.new.pass c.zone-place.ensures.value c.reload_index.ensures.stays.here c.reload_index.ensures.stays.place c.zone-place.ensures.known
-    (reloading_grows (opened_as s.0) c.args.loaded.now.pairs (known_at place.seat) (known_at c.reload_index.new.pass.seat) c.reload_index.result (seat_told place.seat c.zone-place.ensures.here) (c.reload_index.ensures.reloading (opened_as s.0) opened_with))
+    (reloading_grows (opened_as s.0) c.args.loaded.now.pairs (known_at place.seat) (known_at c.reload_index.new.pass.seat) c.reload_index.result (seat_told place.seat c.zone-place.ensures.at.here) (c.reload_index.ensures.reloading (opened_as s.0) opened_with))
 
 pub returns-clause-reloads : goal.returns-clause-reloads
 returns-clause-reloads g c =

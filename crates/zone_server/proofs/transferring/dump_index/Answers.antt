@@ -29,7 +29,7 @@ returns-clause-dumped g c =
     let facts : IsDumped dumps old new r = record {
       shown = shown_by old pinned new number q.pinned left dumps (length new.seen.history) (last_seen old pinned new number q.pinned left)
           (λ zone stands.
-          let shows = subst (λ x. Shows (Holds (pinned_image x.seat.place.me.0.progress) x.seat.root) zone) (sym c.version-version.ensures.same) (shown _ _ _ zone q.holds stands) in
+          let shows = subst (λ x. Shows (Holds (pinned_image x.seat.place.me.0.progress) x.seat.root) zone) (sym c.version-version.ensures.same) (shown _ _ _ zone q.reads.holds stands) in
           dumps_by c.args.style c.args.origin.now zone (g.K.Sink.held c.args.sink.now) (g.K.Sink.held c.dump_to-dumped.new.sink) c.version-version.result c.dump_to-dumped.result
           (c.dump_to-dumped.ensures.count zone shows) (c.dump_to-dumped.ensures.written.ok zone shows) (c.dump_to-dumped.ensures.written.err zone shows));
       version = version_told c.version-version.result (length new.seen.history) c.dump_to-dumped.result (c.version-version.ensures.number ∙ sym (last_seen old pinned new number q.pinned left));
