@@ -21,8 +21,11 @@ zone-place-requires g c = record {
   within = slice_get_within c.args.zones.now.origins.items c.args.zone c.args.origin.now c.requires.zone;
 }
 
-pub run_block-requires-clause-opens : goal.run_block-requires-clause-opens
-run_block-requires-clause-opens g c = opens_at g.H.Home.zones c.args.zones.now c.requires.zones c.args.pass.now c.requires.pass c.args.zone c.args.origin.now c.requires.zone c.zone-place.result.now c.zone-place.ensures.known
+pub run_block-requires-clause-may : goal.run_block-requires-clause-may
+run_block-requires-clause-may g c = record {
+  opens = opens_at g.H.Home.zones c.args.zones.now c.requires.zones c.args.pass.now c.requires.pass c.args.zone c.args.origin.now c.requires.zone c.zone-place.result.now c.zone-place.ensures.known;
+  said = c.requires.said;
+}
 
 pub returns-clause-pass : goal.returns-clause-pass
 returns-clause-pass g c =
@@ -30,9 +33,9 @@ returns-clause-pass g c =
     let s = served_at served c.args.zones.now c.requires.zones c.args.zone c.args.origin.now c.requires.zone in
     let opened_with = opened_as_at served c.args.zones.now c.requires.zones c.args.pass.now c.requires.pass c.args.zone c.args.origin.now c.requires.zone c.zone-place.result.now c.zone-place.ensures.known c.zone-index.result.now c.zone-index.ensures.value in
     asked_serving served c.args.zones.now c.requires.zones c.args.pass.now c.args.pass.now c.requires.pass refl (pass_in served c.args.zones.now c.requires.zones c.args.pass.now c.requires.pass.pass)
-    c.args.zone c.zone-place.result.now c.run_block.new.pass c.zone-place.ensures.value c.run_block.ensures.here c.run_block.ensures.place c.zone-place.ensures.known
+    c.args.zone c.zone-place.result.now c.run_block.new.pass c.zone-place.ensures.value c.run_block.ensures.pass.here c.run_block.ensures.pass.place c.zone-place.ensures.known
     (ran_grows (opened_as s.0) (asked_view c.args.block.now) c.args.block.now.ending (known_at c.zone-place.result.now.seat) (known_at c.run_block.new.pass.seat) c.run_block.result
-    (c.run_block.ensures.ran (opened_as s.0) opened_with) (c.run_block.ensures.wants (opened_as s.0) opened_with))
+    (c.run_block.ensures.runs.ran (opened_as s.0) opened_with) (c.run_block.ensures.runs.wants (opened_as s.0) opened_with))
 
 pub returns-clause-ran : goal.returns-clause-ran
 returns-clause-ran g c =
@@ -46,8 +49,8 @@ returns-clause-ran g c =
     if_ok (BlockRan (opened_as s.0) asked ends (known_at seat.seat) (known_at next.seat))
     (λ o. HappensIn served c.args.origin.now (λ x v w. BlockRan (opened_as x) asked ends v w o) (known_of c.args.pass.now) (known_of (with_zone c.args.pass.now c.args.zone next))) c.run_block.result
     (λ o b. happened_there served c.args.zones.now c.requires.zones c.args.pass.now c.args.pass.now c.requires.pass refl (pass_in served c.args.zones.now c.requires.zones c.args.pass.now c.requires.pass.pass)
-    c.args.zone seat next c.zone-place.ensures.value c.run_block.ensures.here c.run_block.ensures.place c.zone-place.ensures.known (λ x v w. BlockRan (opened_as x) asked ends v w o) c.args.origin.now c.requires.zone b)
-    (c.run_block.ensures.ran (opened_as s.0) opened_with)
+    c.args.zone seat next c.zone-place.ensures.value c.run_block.ensures.pass.here c.run_block.ensures.pass.place c.zone-place.ensures.known (λ x v w. BlockRan (opened_as x) asked ends v w o) c.args.origin.now c.requires.zone b)
+    (c.run_block.ensures.runs.ran (opened_as s.0) opened_with)
 
 pub returns-clause-wants : goal.returns-clause-wants
 returns-clause-wants g c =
@@ -60,5 +63,5 @@ returns-clause-wants g c =
     on_err (BlockWants (opened_as s.0) asked (known_at seat.seat) (known_at next.seat))
     (HappensIn served c.args.origin.now (λ x v w. BlockWants (opened_as x) asked v w) (known_of c.args.pass.now) (known_of (with_zone c.args.pass.now c.args.zone next))) c.run_block.result
     (λ b. happened_there served c.args.zones.now c.requires.zones c.args.pass.now c.args.pass.now c.requires.pass refl (pass_in served c.args.zones.now c.requires.zones c.args.pass.now c.requires.pass.pass)
-    c.args.zone seat next c.zone-place.ensures.value c.run_block.ensures.here c.run_block.ensures.place c.zone-place.ensures.known (λ x v w. BlockWants (opened_as x) asked v w) c.args.origin.now c.requires.zone b)
-    (c.run_block.ensures.wants (opened_as s.0) opened_with)
+    c.args.zone seat next c.zone-place.ensures.value c.run_block.ensures.pass.here c.run_block.ensures.pass.place c.zone-place.ensures.known (λ x v w. BlockWants (opened_as x) asked v w) c.args.origin.now c.requires.zone b)
+    (c.run_block.ensures.runs.wants (opened_as s.0) opened_with)
