@@ -7,20 +7,22 @@ use Rattle.zones_threads.specs.Works.{AreApart}
 use Rattle.zones_threads.proofs.BeginLaws.{all_rise, all_lawful, all_open, pass_of_all, table_begins, zone_begins_there}
 use Rattle.zones_threads.proofs.opening.run_named.Goals as goal
 
-pub open-requires-clause-rising : goal.open-requires-clause-rising
-open-requires-clause-rising g c = all_rise c.args.zones.now c.requires.can.zones
-
-pub open-requires-clause-lawful : goal.open-requires-clause-lawful
-open-requires-clause-lawful g c = all_lawful c.args.zones.now c.requires.can.zones
+pub open-requires-clause-zones : goal.open-requires-clause-zones
+open-requires-clause-zones g c =
+    let can = c.requires.can in
+    record {
+      differ = record { some = can.some; few = can.few; different = can.different };
+      begin = record { rising = all_rise c.args.zones.now can.zones; lawful = all_lawful c.args.zones.now can.zones };
+    }
 
 pub run_zones-requires-clause-can : goal.run_zones-requires-clause-can
 run_zones-requires-clause-can g c = λ κs bounds. (
     let count = c.args.table.shared.table.shared.key.passes in
-    let origins = c.in-Ok.ensures.origins in
-    let made = c.in-Ok.ensures.passes in
+    let origins = c.in-Ok.ensures.opened.origins in
+    let made = c.in-Ok.ensures.opened.passes in
     record {
       count = made.count_is ∙ c.requires.can.table_passes;
-      size = ap (λ k. k.passes) c.in-Ok.ensures.table ∙ sym made.count_is;
+      size = ap (λ k. k.passes) c.in-Ok.ensures.opened.table ∙ sym made.count_is;
       passes = pass_of_all c.args.zones.now c.requires.can.zones c.in-Ok.opened count c.in-Ok.passes.items origins made;
       opens = all_open c.args.zones.now c.requires.can.zones c.in-Ok.opened count c.in-Ok.passes.items origins made;
       said = subst (λ (o : List Name). AllByRecursion (AllByRecursion (IsSaid o)) (workers_view c.args.workers.now)) (sym origins) c.requires.can.said;
@@ -33,9 +35,9 @@ returns-in_ok-finished-in-Ok-clause-ran g c = λ chunks list all_chunks stand.
     let opened = c.in-Ok.opened in
     let count = c.args.table.shared.table.shared.key.passes in
     let passes = c.in-Ok.passes.items in
-    let origins = c.in-Ok.ensures.origins in
-    let made = c.in-Ok.ensures.passes in
+    let origins = c.in-Ok.ensures.opened.origins in
+    let made = c.in-Ok.ensures.opened.passes in
     let apart : AreApart opened.origins.items = record { names = opened.names; different = subst (IsDistinct same_name) (sym origins) c.requires.can.different } in
     let ran = c.in_ok-finished-in-Ok.ensures.ran chunks list (stand.origins ∙ sym origins) apart (table_begins items c.requires.can.zones opened count passes origins made)
-    (zone_begins_there items c.requires.can.zones opened count passes origins made chunks (map (λ b. b.shared.table.shared.key) c.args.blanks.items) c.in-Ok.ensures.sizes c.requires.can.passes all_chunks list stand) in
-    (c.in-Ok.ensures.fits, ran)
+    (zone_begins_there items c.requires.can.zones opened count passes origins made chunks (map (λ b. b.shared.table.shared.key) c.args.blanks.items) c.in-Ok.ensures.opened.sizes c.requires.can.passes all_chunks list stand) in
+    (c.in-Ok.ensures.opened.fits, ran)
