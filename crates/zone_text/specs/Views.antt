@@ -1,7 +1,8 @@
 -- What the reader's types say in the words of the definitions.
-use Rattle.std.specs.Prelude.{◌≡◌, ◌≢◌, ℕ, ◌≤◌, ◌<◌, ◌^◌, List, length, map, drop, Result, Ok, Err}
+use Rattle.std.specs.Prelude.{◌≡◌, ◌≢◌, Bool, true, ℕ, ◌≤◌, ◌<◌, ◌^◌, List, length, map, drop, slice_index, Result, Ok, Err}
 use Rattle.std.specs.List.{slice_range, All}
 use Rattle.zone_model.specs.Refusals.{Refused}
+use Rattle.zone_model.specs.Grammar.{stops_word}
 use Rattle.zone_model.specs.Lines.{lines_of}
 use Rattle.zone_model.specs.declared.ZoneKind.{ZoneKind}
 use Rattle.zone_model.specs.declared.ZoneKind.TheVariants.{Memory}
@@ -44,6 +45,36 @@ pub record IsInside (bytes : List ℕ) (from at : ℕ) (s : Scan) : Type 0 where
   pub short : length bytes ≤ 2 ^ 24
   pub shallow : s.depth ≤ at
   pub placed : All (IsPlaced bytes) s.tokens.items
+
+-- A token that began at a place may end before another one.
+pub record MayEnd (bytes : List ℕ) (from at : ℕ) (s : Scan) : Type 0 where
+  -- It does not end before it began.
+  pub began : from ≤ at
+  -- It ends in the text.
+  pub inside : at ≤ length bytes
+  -- The text is no longer than a file may be.
+  pub short : length bytes ≤ 2 ^ 24
+  -- No more parentheses are open than bytes were met.
+  pub shallow : s.depth ≤ at
+  -- The tokens before it lie in the text.
+  pub placed : All (IsPlaced bytes) s.tokens.items
+
+-- what the end of a token, which began at a place, before another one is to make of a scan
+abbrev pub ended : List ℕ → ℕ → ℕ → Bool → ℕ → Scan → Result says.Scan (Refused ZoneKind)
+ended bytes from at quoted n s = Ok (says.with_token (slice_range bytes from at) quoted n (scan_view bytes at s))
+
+-- The byte that a scan has to take next, of a stretch of the text; before it, there is at most what just joins a word.
+pub record IsNextStep (bytes : List ℕ) (at upto : ℕ) (s : Scan) (to : ℕ) : Type 0 where
+  -- It does not lie before the stretch.
+  pub order : at ≤ to
+  -- It does not lie behind it.
+  pub inside : to ≤ upto
+  -- The steps from there on, with the scan as it is seen there, give what those of the whole stretch do.
+  pub same : (line : ℕ) → says.steps line (slice_range bytes at upto) (scan_view bytes at s) ≡ says.steps line (slice_range bytes to upto) (scan_view bytes to s)
+  -- The scan has come so far.
+  pub scanned : HasScanned bytes to s
+  -- In a word, it is a byte that stops words, unless the stretch ends there.
+  pub stops : (from : ℕ) → s.begun ≡ begun.Word from → to < upto → stops_word (slice_index bytes to) ≡ true
 
 -- What is wanted is refused as this call was. Want of memory says nothing.
 abbrev pub IsRefused : {A : Type 0} → ZoneRefusal → Result A (Refused ZoneKind) → Type 0

@@ -1,8 +1,7 @@
 //! The tokens of an entry.
-ghost use Rattle.std.specs.Prelude.{◌≡◌, ◌≤◌, ◌<◌, ◌+◌, ◌^◌, ℕ, List, length, drop, IfOk, [], Result};
-ghost use Rattle.zone_model.specs.Refusals.{Refused};
-ghost use Rattle.zone_text.specs.Prelude.{SpellsEntry, ZoneKind, EntrySpelled, All, EntryTokens, entry_from, fresh, begins_blank};
-ghost use Rattle.zone_text.specs.Prelude.{lines_of, HasScanned, ReadsLine, Reads, lexed_view, scan_view, IsPlaced, Begun};
+ghost use Rattle.std.specs.Prelude.{◌≡◌, ◌≤◌, ◌<◌, ◌+◌, ◌^◌, ℕ, List, length, drop, IfOk};
+ghost use Rattle.zone_text.specs.Prelude.{EntrySays, IsEntry, entry_from, fresh, begins_blank};
+ghost use Rattle.zone_text.specs.Prelude.{lines_of, HasScanned, ReadsLine, Reads, lexed_view, scan_view, Begun};
 
 use crate::lexer::{Begun, Scan, scan_tokens};
 use crate::lines::line_at;
@@ -76,9 +75,7 @@ pub fn scan_entry(
     requires short { length bytes.now ≤ 2 ^ 24 }
     requires lines { line + length bytes.now < 2 ^ 32 }
     ensures reads { Reads result (lexed_view bytes.now) (entry_from line (lines_of (drop from bytes.now)) fresh) }
-    ensures blank { IfOk result (λ l. l.blank ≡ begins_blank (drop from bytes.now)) }
-    ensures placed { IfOk result (λ l. All (IsPlaced bytes.now) l.tokens.items) }
-    ensures next { IfOk result (λ l. (l.next ≤ length bytes.now) × (l.next_line + from ≤ line + l.next) × (from < length bytes.now → from < l.next)) }
+    ensures lexed { IfOk result (IsEntry bytes.now from line) }
 {
     let blank = is_blank(bytes, from);
     let mut scan = new_scan(lent);
@@ -120,13 +117,8 @@ pub fn tokens(alloc: Global, bytes: &[u8], from: u32, line: u32) -> Result<Lexed
     requires inside { from ≤ length bytes.now }
     requires short { length bytes.now ≤ 2 ^ 24 }
     requires lines { line + length bytes.now < 2 ^ 32 }
-    ensures spelled { EntrySpelled bytes.now line (lines_of (drop from bytes.now)) result }
-    ensures only { (out : Result EntryTokens (Refused ZoneKind)) → SpellsEntry line [] (lines_of (drop from bytes.now)) out
-        → Reads result (lexed_view bytes.now) out }
-    ensures reads { Reads result (lexed_view bytes.now) (entry_from line (lines_of (drop from bytes.now)) fresh) }
-    ensures blank { IfOk result (λ l. l.blank ≡ begins_blank (drop from bytes.now)) }
-    ensures placed { IfOk result (λ l. All (IsPlaced bytes.now) l.tokens.items) }
-    ensures next { IfOk result (λ l. (l.next ≤ length bytes.now) × (l.next_line + from ≤ line + l.next) × (from < length bytes.now → from < l.next)) }
+    ensures says { EntrySays bytes.now line (lines_of (drop from bytes.now)) result }
+    ensures lexed { IfOk result (IsEntry bytes.now from line) }
 {
     scan_entry(Vec::new(alloc), bytes, from, line)
 }

@@ -1,7 +1,7 @@
 //! The tokens of a line.
-ghost use Rattle.std.specs.Prelude.{◌≡◌, ◌<◌, ◌≤◌, ◌+◌, ◌^◌, ◌++◌, ◌∷◌, [], ℕ, length, slice_index, OnOk, Result, Ok, Err, true, false, if◌then◌else◌};
-ghost use Rattle.zone_text.specs.Prelude.{slice_range, position, All, stops_word, apart, in_word, in_quote, step, steps, line_end, line_tokens};
-ghost use Rattle.zone_text.specs.Prelude.{with_token, parts_words, Word, Quote, scan_view, Gives, HasScanned, IsInside, IsPlaced, Begun};
+ghost use Rattle.std.specs.Prelude.{◌≡◌, ◌<◌, ◌≤◌, ◌+◌, ◌^◌, ◌++◌, ◌∷◌, [], length, slice_index, OnOk, Result, Ok, Err, true, false, if◌then◌else◌};
+ghost use Rattle.zone_text.specs.Prelude.{slice_range, position, All, stops_word, apart, in_word, in_quote, step, steps, line_end, line_tokens, parts_words};
+ghost use Rattle.zone_text.specs.Prelude.{Word, Quote, scan_view, ended, Gives, HasScanned, IsInside, IsNextStep, IsStretch, MayEnd, Begun};
 
 use crate::refusal::{ZoneRefusal, refuse};
 use crate::token::Token;
@@ -70,15 +70,9 @@ fn end_token(
     quoted: bool,
     line: u32,
 ) -> Result<(), ZoneRefusal>
-    requires began { from ≤ at }
-    requires inside { at ≤ length bytes.now }
-    requires short { length bytes.now ≤ 2 ^ 24 }
-    requires shallow { scan.old.depth ≤ at }
-    requires placed { All (IsPlaced bytes.now) scan.old.tokens.items }
-    ensures gives { Gives result (scan_view bytes.now at scan.new)
-        (Ok (with_token (slice_range bytes.now from at) quoted line (scan_view bytes.now at scan.old))) }
-    ensures behind { Gives result (scan_view bytes.now (at + 1) scan.new)
-        (Ok (with_token (slice_range bytes.now from at) quoted line (scan_view bytes.now at scan.old))) }
+    requires { MayEnd bytes.now from at scan.old }
+    ensures gives { Gives result (scan_view bytes.now at scan.new) (ended bytes.now from at quoted line scan.old) }
+    ensures behind { Gives result (scan_view bytes.now (at + 1) scan.new) (ended bytes.now from at quoted line scan.old) }
     ensures scanned { OnOk result (HasScanned bytes.now at scan.new) }
     ensures scanned_behind { OnOk result (HasScanned bytes.now (at + 1) scan.new) }
 {
@@ -175,8 +169,7 @@ fn step(scan: &mut Scan, bytes: &[u8], at: u32, line: u32) -> Result<(), ZoneRef
 // The end of a line.
 #[tactic(auto, unfolding(zone_model::specs::Tokens::line_end))]
 fn line_end(scan: &mut Scan, bytes: &[u8], at: u32, line: u32) -> Result<(), ZoneRefusal>
-    requires inside { at ≤ length bytes.now }
-    requires short { length bytes.now ≤ 2 ^ 24 }
+    requires inside { (at ≤ length bytes.now) × (length bytes.now ≤ 2 ^ 24) }
     requires scanned { HasScanned bytes.now at scan.old }
     ensures gives { Gives result (scan_view bytes.now at scan.new) (line_end line (scan_view bytes.now at scan.old)) }
     ensures scanned { OnOk result (HasScanned bytes.now at scan.new) }
@@ -214,9 +207,7 @@ fn first_stop(text: &[u8]) -> Option<usize>
 
 // The byte up to which each joins a word: the first that doesn't, or `upto`.
 fn word_end(bytes: &[u8], at: u32, upto: u32) -> u32
-    requires order { at ≤ upto }
-    requires inside { upto ≤ length bytes.now }
-    requires short { length bytes.now ≤ 2 ^ 24 }
+    requires { IsStretch bytes.now at upto }
     ensures order { at ≤ result }
     ensures inside { result ≤ upto }
     ensures joins { All (λ c. stops_word c ≡ false) (slice_range bytes.now at result) }
@@ -230,16 +221,9 @@ fn word_end(bytes: &[u8], at: u32, upto: u32) -> u32
 
 // The index of the next byte that `step` has to take: in a word, that of the first byte that doesn't just join it.
 fn next_step(scan: &Scan, bytes: &[u8], at: u32, upto: u32) -> u32
-    requires order { at ≤ upto }
-    requires inside { upto ≤ length bytes.now }
-    requires short { length bytes.now ≤ 2 ^ 24 }
+    requires stretch { IsStretch bytes.now at upto }
     requires scanned { HasScanned bytes.now at scan.now }
-    ensures order { at ≤ result }
-    ensures inside { result ≤ upto }
-    ensures same { (line : ℕ) → steps line (slice_range bytes.now at upto) (scan_view bytes.now at scan.now)
-        ≡ steps line (slice_range bytes.now result upto) (scan_view bytes.now result scan.now) }
-    ensures scanned { HasScanned bytes.now result scan.now }
-    ensures stops { (from : ℕ) → scan.now.begun ≡ Begun.Word from → result < upto → stops_word (slice_index bytes.now result) ≡ true }
+    ensures { IsNextStep bytes.now at upto scan.now result }
 {
     match scan.begun {
         Begun::Word(_) => word_end(bytes, at, upto),
@@ -250,9 +234,7 @@ fn next_step(scan: &Scan, bytes: &[u8], at: u32, upto: u32) -> u32
 // The bytes of a line up to its end.
 #[tactic(auto, using(crate::proofs::ScanLemmas::steps_more), unfolding(zone_model::specs::Tokens::steps))]
 fn steps(scan: &mut Scan, bytes: &[u8], from: u32, upto: u32, line: u32) -> Result<(), ZoneRefusal>
-    requires order { from ≤ upto }
-    requires inside { upto ≤ length bytes.now }
-    requires short { length bytes.now ≤ 2 ^ 24 }
+    requires stretch { IsStretch bytes.now from upto }
     requires scanned { HasScanned bytes.now from scan.old }
     ensures gives { Gives result (scan_view bytes.now upto scan.new) (steps line (slice_range bytes.now from upto) (scan_view bytes.now from scan.old)) }
     ensures scanned { OnOk result (HasScanned bytes.now upto scan.new) }
@@ -274,9 +256,7 @@ pub fn scan_tokens(
     upto: u32,
     line: u32,
 ) -> Result<(), ZoneRefusal>
-    requires order { from ≤ upto }
-    requires inside { upto ≤ length bytes.now }
-    requires short { length bytes.now ≤ 2 ^ 24 }
+    requires stretch { IsStretch bytes.now from upto }
     requires scanned { HasScanned bytes.now from scan.old }
     ensures gives { Gives result (scan_view bytes.now upto scan.new) (line_tokens line (slice_range bytes.now from upto) (scan_view bytes.now from scan.old)) }
     ensures scanned { OnOk result (HasScanned bytes.now upto scan.new) }

@@ -1,7 +1,6 @@
 //! The tokens of one line by itself.
-ghost use Rattle.std.specs.Prelude.{◌≡◌, ◌≤◌, ◌<◌, ◌∷◌, ◌^◌, length, drop, IfOk, [], Result};
-ghost use Rattle.zone_text.specs.Prelude.{Spelled, Spells, line_says, ZoneKind, LineSpelled, All};
-ghost use Rattle.zone_text.specs.Prelude.{single_line, lines_of, IsPlaced, Reads, line_view, first_line};
+ghost use Rattle.std.specs.Prelude.{◌≡◌, ◌≤◌, ◌<◌, ◌^◌, length, drop, IfOk};
+ghost use Rattle.zone_text.specs.Prelude.{IsLine, LineSays, first_line};
 
 use crate::entry_tokens::new_scan;
 use crate::lexer::{Scan, scan_tokens};
@@ -41,13 +40,8 @@ pub fn line_tokens(
 ) -> Result<LexedLine, ZoneRefusal>
     requires inside { from < length bytes.now }
     requires short { length bytes.now ≤ 2 ^ 24 }
-    ensures spelled { LineSpelled bytes.now line (first_line (drop from bytes.now)) result }
-    ensures only { (out : Result Spelled ZoneKind) → Spells line [] (first_line (drop from bytes.now)) out
-        → Reads result (line_view bytes.now) (line_says line out) }
-    ensures reads { Reads result (line_view bytes.now) (single_line line (first_line (drop from bytes.now))) }
-    ensures placed { IfOk result (λ l. All (IsPlaced bytes.now) l.tokens.items) }
-    ensures next { IfOk result (λ l. (from < l.next) × (l.next ≤ length bytes.now)) }
-    ensures rest { IfOk result (λ l. lines_of (drop from bytes.now) ≡ first_line (drop from bytes.now) ∷ lines_of (drop l.next bytes.now)) }
+    ensures says { LineSays bytes.now line (first_line (drop from bytes.now)) result }
+    ensures lexed { IfOk result (IsLine bytes.now from) }
 {
     let (upto, next) = line_at(bytes, from);
     let mut scan = new_scan(lent);
