@@ -1,5 +1,5 @@
 -- What contracts see of a feed and of its seats.
-use Rattle.std.specs.Prelude.{◌≡◌, ◌≢◌, ℕ, ◌-◌, ◌<◌, ◌≤◌, List, [], ◌∷◌, ◌++◌, length, map, sum_by, Bool, false, if◌then◌else◌, All, Contains, slice_index_or}
+use Rattle.std.specs.Prelude.{◌≡◌, ◌≢◌, ℕ, ◌+◌, ◌-◌, ◌<◌, ◌≤◌, List, [], ◌∷◌, ◌++◌, length, map, sum_by, Bool, false, if◌then◌else◌, All, Contains, slice_index_or}
 use Rattle.std.specs.List.Sorted.{IsStrictlyIncreasing}
 use Rattle.atomic_table.specs.Seated.{TableId}
 use Rattle.crossbeam_queue.specs.Passes.{Pass, view}
@@ -48,6 +48,17 @@ pub record StandsOnce (lists : List (List ℕ)) (number : ℕ) : Type 0 where
   pub there : list < length lists
   pub once : times number (list_at lists list) ≡ 1
   pub nowhere_else : (other : ℕ) → other < length lists → other ≢ list → ¬ Contains (list_at lists other) number
+
+-- What the seats of a feed took, up to the first number that none of them did.
+pub record AreTaken (count : ℕ) (lists : List (List ℕ)) (next : ℕ) : Type 0 where
+  -- That is one of the feed's, or comes behind all of them.
+  pub within : (0 < next) × (next ≤ count + 1)
+  -- Each number before it was taken, by one seat, once.
+  pub once : (number : ℕ) → 0 < number → number < next → StandsOnce lists number
+  -- No other number was.
+  pub below : All (All (λ number. (0 < number) × (number < next))) lists
+  -- Each seat took its own in order.
+  pub rising : All IsStrictlyIncreasing lists
 
 -- inside
 

@@ -1,5 +1,5 @@
--- What each step on the queue tells its seat.
-use Rattle.std.specs.Prelude.{◌≡◌, ℕ, ◌+◌, ◌<◌, ◌≤◌, ◌==◌, ◌⊎◌, List, length, All, MatchBool}
+-- What each step on the queue needs of its seat, and what it tells it.
+use Rattle.std.specs.Prelude.{◌≡◌, ℕ, ◌+◌, ◌<◌, ◌≤◌, ◌==◌, ◌⊎◌, List, [], length, false, All, MatchBool}
 use Rattle.feed_core.specs.declared.knowledge.TheConstants.{END}
 use Rattle.feed_core.specs.declared.knowledge.Knowledge.{Knowledge}
 use Rattle.feed_core.specs.Knowledge.{with_put, with_mark, with_taken, ended}
@@ -8,6 +8,28 @@ use Rattle.feed_core.specs.Rule.{times, once_below}
 -- who has all parts has taken each number below the next one, once, and no other
 abbrev pub KnowsAll : Knowledge → ℕ → Type 0
 KnowsAll v next = v.parts ≡ v.whole → (number : ℕ) → times number v.taken ≡ once_below next number
+
+-- A part can go to a new seat.
+pub record CanDeal (v : Knowledge) : Type 0 where
+  -- There is one to give.
+  pub part : 0 < v.parts
+  -- No number was taken.
+  pub nothing : v.taken ≡ []
+  -- No end mark was taken.
+  pub not_done : v.ends ≡ 0
+  -- There was an end mark for each part.
+  pub marked : v.marks ≡ v.whole
+
+-- A number or an end mark can be taken.
+pub record CanTake (v : Knowledge) : Type 0 where
+  -- The seat has a part.
+  pub part : 0 < v.parts
+  -- It puts nothing any more.
+  pub filled : v.fills ≡ false
+  -- There was an end mark for each part.
+  pub marked : v.marks ≡ v.whole
+  -- One of its parts has had no end mark yet, or it has all parts.
+  pub mark : (v.ends < v.parts) ⊎ (v.parts ≡ v.whole)
 
 -- The seat took a number.
 pub record TakesNumber (v : Knowledge) (number : ℕ) (w : Knowledge) : Type 0 where

@@ -1,7 +1,7 @@
 //! A feed: how it is made, and how it is closed.
-ghost use Rattle.std.specs.Prelude.{◌≡◌, ℕ, ◌+◌, ◌<◌, ◌≤◌, IfOk, All, Any, replicate, true, vec_len};
-ghost use Rattle.feed_core.specs.Prelude.{IsStrictlyIncreasing, view, IsPassOf, IsSamePass, ruled_capacity};
-ghost use Rattle.feed_core.specs.Prelude.{alone, feed_of, new_seat, lists_of, StandsOnce, IsGathered};
+ghost use Rattle.std.specs.Prelude.{◌≡◌, ◌+◌, ◌<◌, ◌≤◌, IfOk, All, Any, replicate, true, vec_len};
+ghost use Rattle.feed_core.specs.Prelude.{view, IsPassOf, IsSamePass, ruled_capacity};
+ghost use Rattle.feed_core.specs.Prelude.{alone, feed_of, new_seat, lists_of, AreTaken, IsGathered};
 
 use crate::knowledge::{END, Gather, Grow, NumberPass, NumberQueue, PutMark, PutNumber};
 use crate::seat::{FeedSeat, next_number};
@@ -60,10 +60,7 @@ impl Feed {
     pub fn close<R: Wait>(self, rt: &R, seats: Vec<FeedSeat>) -> u32
         requires all { vec_len seats ≡ self.seats }
         requires seats { All (λ seat. seat.feed ≡ self) seats.items }
-        ensures within { (0 < result) × (result ≤ self.count + 1) }
-        ensures taken { (number : ℕ) → 0 < number → number < result → StandsOnce (lists_of seats.items) number }
-        ensures below { All (All (λ number. (0 < number) × (number < result))) (lists_of seats.items) }
-        ensures rising { All IsStrictlyIncreasing (lists_of seats.items) }
+        ensures taken { AreTaken self.count (lists_of seats.items) result }
         ensures done { Any (λ seat. seat.done ≡ true) seats.items → result ≡ self.count + 1 }
     {
         let mut whole = self.gathered(seats);

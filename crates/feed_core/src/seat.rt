@@ -1,6 +1,6 @@
 //! A seat of a feed: how it takes numbers.
-ghost use Rattle.std.specs.Prelude.{◌≡◌, ◌<◌, ◌⊎◌, [], ◌∷◌, IfSome, IfNone, MatchOption, true, false};
-ghost use Rattle.feed_core.specs.Prelude.{view, IsPassOf, IsSamePass, giver_of, TakesNumber, FindsNone};
+ghost use Rattle.std.specs.Prelude.{◌≡◌, ◌<◌, [], ◌∷◌, IfSome, IfNone, MatchOption, true};
+ghost use Rattle.feed_core.specs.Prelude.{view, IsPassOf, IsSamePass, giver_of, CanDeal, CanTake, TakesNumber, FindsNone};
 ghost use Rattle.feed_core.specs.Prelude.{feed_of, new_seat, TakesNext, remaining, IsGathered};
 
 use crate::feed::Feed;
@@ -32,8 +32,7 @@ impl FeedSeat {
     /// A new seat, by one of the parts that this pass has.
     pub(crate) fn dealt(queue: &NumberQueue, pass: &mut NumberPass) -> FeedSeat
         requires queue { IsPassOf queue.now pass.old }
-        requires part { (0 < (view pass.old).parts) × ((view pass.old).taken ≡ []) × ((view pass.old).ends ≡ 0) }
-        requires marked { (view pass.old).marks ≡ (view pass.old).whole }
+        requires part { CanDeal (view pass.old) }
         ensures queue { IsSamePass pass.old pass.new }
         ensures rest { view pass.new ≡ giver_of (view pass.old) }
         ensures seat { result ≡ new_seat (feed_of pass.old) }
@@ -78,9 +77,7 @@ pub(crate) fn next_number<R: Wait>(
     pass: &mut NumberPass,
 ) -> Option<u32>
     requires queue { IsPassOf queue.now pass.old }
-    requires part { (0 < (view pass.old).parts) × ((view pass.old).fills ≡ false) }
-    requires marked { (view pass.old).marks ≡ (view pass.old).whole }
-    requires mark { ((view pass.old).ends < (view pass.old).parts) ⊎ ((view pass.old).parts ≡ (view pass.old).whole) }
+    requires part { CanTake (view pass.old) }
     ensures queue { IsSamePass pass.old pass.new }
     ensures taken { MatchOption result (FindsNone (view pass.old) (view pass.new)) (λ number. TakesNumber (view pass.old) number (view pass.new)) }
 {

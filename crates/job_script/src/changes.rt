@@ -93,14 +93,11 @@ fn addition_of(
     rtype: Token,
     tokens: &[Token],
 ) -> Result<Operation, JobRefusal>
-    requires owner { IsPlaced line.bytes.now owner }
-    requires ttl { IsPlaced line.bytes.now ttl }
-    requires rtype { IsPlaced line.bytes.now rtype }
+    requires words { IsPlaced line.bytes.now owner × IsPlaced line.bytes.now ttl × IsPlaced line.bytes.now rtype }
     requires tokens { All (IsPlaced line.bytes.now) tokens.now }
     ensures { Says result operation_view
         (jobs.addition_of line.entry.origin.now line.entry.number (token_view line.entry.bytes.now owner) (token_view line.entry.bytes.now ttl)
-        (token_view line.entry.bytes.now rtype)
-        (map (token_view line.entry.bytes.now) tokens.now)) }
+        (token_view line.entry.bytes.now rtype) (map (token_view line.entry.bytes.now) tokens.now)) }
 {
     let owner = inner_name(line, owner)?;
     let Some(ttl) = time_word(line.bytes, ttl) else {

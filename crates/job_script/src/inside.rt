@@ -56,11 +56,9 @@ fn need(
     rtype: Option<Token>,
 ) -> Result<(), JobRefusal>
     requires none { script.old.block ≡ None }
-    requires owner { IsPlaced line.bytes.now owner }
-    requires rtype { IfSome rtype (IsPlaced line.bytes.now) }
-    ensures reads { ScriptReads result (script_view script.new) (jobs.needed_first line.entry.number (unfinished_view block) (script_view script.old)
-        (prerequisite_of line.entry.origin.now line.entry.number wanted (token_view line.entry.bytes.now owner)
-        (option_map (token_view line.entry.bytes.now) rtype))) }
+    requires placed { IsPlaced line.bytes.now owner × IfSome rtype (IsPlaced line.bytes.now) }
+    ensures reads { let l = line.entry in ScriptReads result (script_view script.new) (jobs.needed_first l.number (unfinished_view block)
+        (script_view script.old) (prerequisite_of l.origin.now l.number wanted (token_view l.bytes.now owner) (option_map (token_view l.bytes.now) rtype))) }
     ensures told { jobs.need_limit ≤ length block.needs.items → IsTold result }
 {
     if !block.operations.is_empty() {

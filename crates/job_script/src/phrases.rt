@@ -129,8 +129,7 @@ fn asks_held<'a>(bytes: &[u8], word: Token, operands: &[Token]) -> Option<Phrase
 // What another word says with an argument and what stands behind that.
 fn argued<'a>(bytes: &[u8], word: Token, first: Token, rest: &'a [Token]) -> Option<Phrase<'a>>
     requires word { IsPlaced bytes.now word }
-    requires first { IsPlaced bytes.now first }
-    requires rest { All (IsPlaced bytes.now) rest.now }
+    requires operands { IsPlaced bytes.now first × All (IsPlaced bytes.now) rest.now }
     ensures said { (origin : Labels) → option_map (phrase_view origin bytes.now) result
         ≡ phrases.argued origin (token_view bytes.now word) (token_view bytes.now first) (map (token_view bytes.now) rest.now) }
     ensures placed { IfSome result (PhrasePlaced bytes.now) }

@@ -35,6 +35,17 @@ abbrev pub behind_first : Version → Version
 behind_first [] = []
 behind_first (first ∷ rest) = rest
 
+-- This name stands first of what is left.
+pub record StandsFirst (owner : Name) (shows : Version → Type 0) : Type 0 where
+  -- Something is shown to be left.
+  pub some : (left : Version) × shows left
+  -- Whatever is has the name first.
+  pub first : (left : Version) → shows left → owner_ahead left ≡ Some owner
+
+-- the first name was passed
+abbrev pub Passes : (Version → Type 0) → (Version → Type 0) → Type 0
+Passes old new = (left : Version) → old left → new (behind_first left)
+
 -- the octets are the first name's item, or there are none
 abbrev pub SaysFirst : Version → List ℕ → Type 0
 SaysFirst [] octets = octets ≡ []

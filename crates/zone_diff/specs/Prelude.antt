@@ -14,7 +14,7 @@ pub use Rattle.zone_model.specs.Records.{Entry, IsEntry}
 pub use Rattle.zone_diff.specs.Walks.{deletions_walked, additions_walked, sets_ahead, sets_reached, set_ahead}
 pub use Rattle.zone_diff.specs.Differences.{unless_soa, soa_exchange, soa_additions, stays, entry_difference}
 pub use Rattle.zone_diff.specs.Serials.{without_serial, renumbered, counts_as}
-pub use Rattle.zone_diff.specs.NamesAhead.{Comes, Meets, Stands, Went, behind_first, owner_ahead, pairs_ahead}
+pub use Rattle.zone_diff.specs.NamesAhead.{Comes, Meets, Passes, Stands, StandsFirst, Went, pairs_ahead}
 pub use Rattle.rr_data.specs.ItemViews.{SaysEntry}
 pub use Rattle.zone_model.specs.Records.{item_limit}
 pub use Rattle.zone_diff.specs.declared.DiffStyle.{DiffStyle}

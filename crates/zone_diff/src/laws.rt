@@ -27,13 +27,11 @@ pub fn differences_may_be_cut()
 /// In transactions of at most 10,000 operations each, which are taken one after another, a difference makes what is due, and behind each
 /// of them stands a zone.
 pub fn differences_in_transactions()
-    ensures sizes { (operations : List Operation)
-        → AllByRecursion (λ (block : List Operation). (0 < length block) × (length block ≤ block_limit)) (blocks operations) }
+    ensures sizes { (all : List Operation) → AllByRecursion (λ (block : List Operation). (0 < length block) × (length block ≤ block_limit)) (blocks all) }
     ensures every { (mode : Serial) (origin : Name) (before after : Version) → CanBeDumped origin before → CanBeDumped origin after
         → in_turn origin (blocks (difference mode before after)) before ≡ Ok (made mode origin before after) }
-    ensures zones { (mode : Serial) (origin : Name) (before after : Version) (front back : List (List Operation))
-        → CanBeDumped origin before → CanBeDumped origin after
-        → blocks (difference mode before after) ≡ front ++ back → (middle : Version) × StopsAt origin front back before (made mode origin before after) middle }
+    ensures zones { (mode : Serial) (o : Name) (before after : Version) (front back : List (List Operation)) → CanBeDumped o before → CanBeDumped o after
+        → blocks (difference mode before after) ≡ front ++ back → (middle : Version) × StopsAt o front back before (made mode o before after) middle }
 {}
 
 /// What goes and what comes of an entry is found by going through its RRsets and the other's side by side, each looked at once.
@@ -47,13 +45,11 @@ pub fn differences_side_by_side()
 /// The text of a difference as a script says its transactions, as blocks `update` that are committed: where it is one list of commands,
 /// and wherever else commands may come, as behind a `worker` or in a live session. A list has at most 10,000 commands.
 pub fn differences_read_back()
-    ensures list { (mode : Serial) (origin : Name) (before after : Version) → CanBeDumped origin before → CanBeDumped origin after
-        → (line : ℕ) → length (blocks (difference mode before after)) ≤ 10000
-        → list_of origin line (lines_of (text_in AsScript origin (difference mode before after))) ≡ Ok (map committed (blocks (difference mode before after))) }
-    ensures anywhere { (mode : Serial) (origin : Name) (before after : Version) → CanBeDumped origin before → CanBeDumped origin after
-        → (line : ℕ) (s : Script) → TakesCommands s → length s.commands + length (blocks (difference mode before after)) ≤ 10000
-        → script_from origin line (lines_of (text_in AsScript origin (difference mode before after))) s
-        ≡ Ok (record s { commands = s.commands ++ map committed (blocks (difference mode before after)) }) }
+    ensures list { (mode : Serial) (o : Name) (b a : Version) → CanBeDumped o b → CanBeDumped o a → (line : ℕ) → length (blocks (difference mode b a)) ≤ 10000
+        → list_of o line (lines_of (text_in AsScript o (difference mode b a))) ≡ Ok (map committed (blocks (difference mode b a))) }
+    ensures anywhere { (mode : Serial) (o : Name) (b a : Version) → CanBeDumped o b → CanBeDumped o a → (line : ℕ) (s : Script) → TakesCommands s
+        → length s.commands + length (blocks (difference mode b a)) ≤ 10000 → script_from o line (lines_of (text_in AsScript o (difference mode b a))) s
+        ≡ Ok (record s { commands = s.commands ++ map committed (blocks (difference mode b a)) }) }
 {}
 
 /// A difference of two zones that lines say has at most one operation for each line of the one before, and two for each of the one after.

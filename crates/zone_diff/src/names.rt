@@ -1,7 +1,7 @@
 //! The names of two zones, gone through side by side in canonical order.
-ghost use Rattle.std.specs.Prelude.{◌≡◌, ◌≤◌, ◌∷◌, [], length, IfOk, OnOk, Some};
+ghost use Rattle.std.specs.Prelude.{◌≡◌, ◌≤◌, ◌∷◌, [], length, IfOk, OnOk};
 ghost use Rattle.zone_diff.specs.Prelude.{Adds, Comes, DeleteName, Meets, Stands, Version};
-ghost use Rattle.zone_diff.specs.Prelude.{Went, behind_first, difference, item_limit, owner_ahead, pairs_ahead};
+ghost use Rattle.zone_diff.specs.Prelude.{Passes, StandsFirst, Went, difference, item_limit, pairs_ahead};
 
 use crate::Serial;
 use crate::changes::{Change, OperationSink};
@@ -151,7 +151,7 @@ fn push_old<B: Names, K: OperationSink>(
 ) -> Result<(), AllocError>
     requires { (left : Version) × B.shows before.old left }
     ensures added { OnOk result (Adds (K.has sink.old) (K.has sink.new) (DeleteName owner.now ∷ [])) }
-    ensures left { OnOk result ((left : Version) → B.shows before.old left → B.shows before.new (behind_first left)) }
+    ensures left { OnOk result (Passes (B.shows before.old) (B.shows before.new)) }
     ensures source { B.stays before.old before.new }
 {
     sink.push(owner, &Change::Goes)?;
@@ -167,10 +167,9 @@ fn push_new<A: Names, K: OperationSink>(
     after: &mut A,
     sink: &mut K,
 ) -> Result<(), AllocError>
-    requires some { (left : Version) × A.shows after.old left }
-    requires first { (left : Version) → A.shows after.old left → owner_ahead left ≡ Some owner.now }
+    requires { StandsFirst owner.now (A.shows after.old) }
     ensures added { OnOk result ((left : Version) → A.shows after.old left → Comes serial owner.now left (K.has sink.old) (K.has sink.new)) }
-    ensures left { OnOk result ((left : Version) → A.shows after.old left → A.shows after.new (behind_first left)) }
+    ensures left { OnOk result (Passes (A.shows after.old) (A.shows after.new)) }
     ensures source { A.stays after.old after.new }
 {
     push_entry(alloc, serial, owner, &[], after.item(), sink)?;
@@ -187,13 +186,10 @@ fn push_both<B: Names, A: Names, K: OperationSink>(
     after: &mut A,
     sink: &mut K,
 ) -> Result<(), AllocError>
-    requires some_before { (left : Version) × B.shows before.old left }
-    requires some_after { (left : Version) × A.shows after.old left }
-    requires before { (left : Version) → B.shows before.old left → owner_ahead left ≡ Some owner.now }
-    requires after { (left : Version) → A.shows after.old left → owner_ahead left ≡ Some owner.now }
+    requires before { StandsFirst owner.now (B.shows before.old) }
+    requires after { StandsFirst owner.now (A.shows after.old) }
     ensures added { OnOk result ((b a : Version) → B.shows before.old b → A.shows after.old a → Meets serial owner.now b a (K.has sink.old) (K.has sink.new)) }
-    ensures left_before { OnOk result ((left : Version) → B.shows before.old left → B.shows before.new (behind_first left)) }
-    ensures left_after { OnOk result ((left : Version) → A.shows after.old left → A.shows after.new (behind_first left)) }
+    ensures left { OnOk result (Passes (B.shows before.old) (B.shows before.new) × Passes (A.shows after.old) (A.shows after.new)) }
     ensures sources { B.stays before.old before.new × A.stays after.old after.new }
 {
     push_entry(alloc, serial, owner, before.item(), after.item(), sink)?;

@@ -188,8 +188,7 @@ impl DiffText {
 
     // Begins a transaction, unless one is begun.
     fn begin(&mut self) -> Result<(), AllocError>
-        ensures style { self.new.style ≡ self.old.style }
-        ensures origin { self.new.origin ≡ self.old.origin }
+        ensures same { (self.new.style ≡ self.old.style) × (self.new.origin ≡ self.old.origin) }
         ensures room { OnOk result (0 < self.new.room) }
         ensures begun { OnOk result ((operations : List Operation) → Holds self.old.style self.old.origin self.old.out.items self.old.room operations
             → Opened self.old.style self.old.origin self.new.out.items self.new.room operations) }
@@ -206,10 +205,8 @@ impl DiffText {
     fn go_on(&mut self, owner: &Name, change: &Change<'_>) -> Result<(), AllocError>
         requires room { 0 < self.old.room }
         requires short { IsShort change.now }
-        ensures style { self.new.style ≡ self.old.style }
-        ensures origin { self.new.origin ≡ self.old.origin }
-        ensures more { OnOk result ((operations : List Operation)
-            → Opened self.old.style self.old.origin self.old.out.items self.old.room operations
+        ensures same { (self.new.style ≡ self.old.style) × (self.new.origin ≡ self.old.origin) }
+        ensures more { OnOk result ((operations : List Operation) → Opened self.old.style self.old.origin self.old.out.items self.old.room operations
             → Begun self.old.style self.old.origin self.new.out.items self.new.room (operations ++ change_view owner.now change.now ∷ [])) }
     {
         self.style.push_line(owner, change, &mut self.out)?;
@@ -219,10 +216,8 @@ impl DiffText {
 
     // Ends the transaction that is begun if it has no room.
     fn end_full(&mut self) -> Result<(), AllocError>
-        ensures style { self.new.style ≡ self.old.style }
-        ensures origin { self.new.origin ≡ self.old.origin }
-        ensures held { OnOk result ((operations : List Operation)
-            → Begun self.old.style self.old.origin self.old.out.items self.old.room operations
+        ensures same { (self.new.style ≡ self.old.style) × (self.new.origin ≡ self.old.origin) }
+        ensures held { OnOk result ((operations : List Operation) → Begun self.old.style self.old.origin self.old.out.items self.old.room operations
             → Holds self.old.style self.old.origin self.new.out.items self.new.room operations) }
     {
         if self.room > 0 {

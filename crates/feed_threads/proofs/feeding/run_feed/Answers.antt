@@ -21,9 +21,9 @@ close-end-requires-clause-seats g c =
 pub in_order-requires-clause-taken : goal.in_order-requires-clause-taken
 in_order-requires-clause-taken g c =
     let lists : lists_of c.in_ok-served.field-0.seats.items ≡ numbers_served c.in_ok-served.field-0.served.items = ap lists_of c.in_ok-served.ensures.back.seats ∙ lists_served c.in_ok-feed.feed c.in_ok-served.field-0.served.items in
-    let closed = c.close-end.ensures in
+    let closed = c.close-end.ensures.taken in
     record {
-      once = λ number some below. subst (λ (l : List (List ℕ)). StandsOnce l number) lists (closed.taken number some below);
+      once = λ number some below. subst (λ (l : List (List ℕ)). StandsOnce l number) lists (closed.once number some below);
       below = subst (λ (l : List (List ℕ)). All (All (λ number. (0 < number) × (number < c.close-end.result))) l) lists closed.below;
       rising = subst (λ (l : List (List ℕ)). All IsStrictlyIncreasing l) lists closed.rising;
     }

@@ -10,15 +10,15 @@ use Rattle.job_script.proofs.PhraseLemmas.{first_placed, rest_placed, lone_says}
 pub asked_of-requires-clause-operands : goal.asked_of-requires-clause-operands
 asked_of-requires-clause-operands c = rest_placed c.args.bytes.now c.args.tokens.now c.in_ok-word.word.now c.in_ok-word.arguments.now c.in_ok-word.ensures.cases.0 c.requires
 
-pub argued-requires-clause-first : goal.argued-requires-clause-first
-argued-requires-clause-first c =
-    first_placed c.args.bytes.now c.in_ok-word.arguments.now c.in-Some-split_first.first.now c.in-Some-split_first.rest.now c.in-Some-split_first.ensures.cases.0
-    (rest_placed c.args.bytes.now c.args.tokens.now c.in_ok-word.word.now c.in_ok-word.arguments.now c.in_ok-word.ensures.cases.0 c.requires)
-
-pub argued-requires-clause-rest : goal.argued-requires-clause-rest
-argued-requires-clause-rest c =
-    rest_placed c.args.bytes.now c.in_ok-word.arguments.now c.in-Some-split_first.first.now c.in-Some-split_first.rest.now c.in-Some-split_first.ensures.cases.0
-    (rest_placed c.args.bytes.now c.args.tokens.now c.in_ok-word.word.now c.in_ok-word.arguments.now c.in_ok-word.ensures.cases.0 c.requires)
+pub argued-requires-clause-operands : goal.argued-requires-clause-operands
+argued-requires-clause-operands c =
+    let bytes = c.args.bytes.now in
+    let arguments = c.in_ok-word.arguments.now in
+    let first = c.in-Some-split_first.first.now in
+    let rest = c.in-Some-split_first.rest.now in
+    let parts = c.in-Some-split_first.ensures.cases.0 in
+    let placed = rest_placed bytes c.args.tokens.now c.in_ok-word.word.now arguments c.in_ok-word.ensures.cases.0 c.requires in
+    (first_placed bytes arguments first rest parts placed, rest_placed bytes arguments first rest parts placed)
 
 pub returns-in-None-clause-said : goal.returns-in-None-clause-said
 returns-in-None-clause-said c = λ origin.

@@ -7,7 +7,10 @@ use Rattle.zone_diff.proofs.NameLemmas.{goes_both, goes_earlier, goes_later, goe
 use Rattle.zone_diff.proofs.names.push_first.Goals as goal
 
 pub push_both-requires-clause-after : goal.push_both-requires-clause-after
-push_both-requires-clause-after g c = λ left shown. same_ahead c.in-Some-Some.old c.in-Some-Some.new left (sym c.cmp.ensures ∙ c.in-Equal.is) (sym (c.owner-2.ensures left shown) ∙ c.in-Some-Some.is-1)
+push_both-requires-clause-after g c = record {
+  some = c.requires.some_after;
+  first = λ left shown. same_ahead c.in-Some-Some.old c.in-Some-Some.new left (sym c.cmp.ensures ∙ c.in-Equal.is) (sym (c.owner-2.ensures left shown) ∙ c.in-Some-Some.is-1);
+}
 
 pub returns-in-None-Some-clause-went : goal.returns-in-None-Some-clause-went
 returns-in-None-Some-clause-went g c =
@@ -113,6 +116,4 @@ returns-in-Equal-clause-went g c =
       shown' = left.1 a sa;
       goes = goes_both mode had now c.in-Some-Some.old c.in-Some-Some.new b a (behind_first b) (behind_first a) (sym (c.owner.ensures b sb) ∙ c.in-Some-Some.is-0) (sym (c.owner-2.ensures a sa) ∙ c.in-Some-Some.is-1) (sym c.cmp.ensures ∙ c.in-Equal.is) (added b a sb sa) refl refl;
     })
-    c.push_both.ensures.added
-    (ok_both c.push_both.result ((left : Version) → shows before left → shows c.push_both.new.before (behind_first left)) ((left : Version) → shows' after left → shows' c.push_both.new.after (behind_first left))
-    (((left : Version) → shows before left → shows c.push_both.new.before (behind_first left)) × ((left : Version) → shows' after left → shows' c.push_both.new.after (behind_first left))) (λ x y. (x, y)) c.push_both.ensures.left_before c.push_both.ensures.left_after)
+    c.push_both.ensures.added c.push_both.ensures.left
