@@ -22,5 +22,5 @@ returns-in_err-read_entry-clause-reads c =
     let p = err_from_is_err_and c.from_residual-in_err-read_entry.result c.from_residual-in_err-read_entry.ensures.1 in
     let old = reader_view c.args.reader.now in
     subst (λ (r : Result (ℕ × ℕ) ZoneRefusal). ReadsNext c.args.bytes.now c.args.apex.now c.args.at c.args.line old (reader_view c.read_entry.new.reader) r) (sym (p.1 ∙ ap Err p.2))
-    (λ told. entry_refused c.args.bytes.now c.args.apex.now c.args.at c.args.line refusal.line refusal.kind old lexed c.requires.inside c.in_ok-lexed.ensures.reads c.in_ok-lexed.ensures.blank
+    (λ told. entry_refused c.args.bytes.now c.args.apex.now c.args.at c.args.line refusal.line refusal.kind old lexed c.requires.inside c.in_ok-lexed.ensures.reads c.in_ok-lexed.ensures.lexed.blank
     (ap (λ ts. entry_says c.args.apex.now c.args.line lexed.blank (map (token_view c.args.bytes.now) ts) old) (sym c.deref.ensures.value) ∙ c.in_err-read_entry.ensures.gives told))
