@@ -5,7 +5,7 @@ pub use Rattle.zones_model.specs.Commands.{origins_of}
 pub use Rattle.zones_model.specs.Outcomes.{passes_for}
 pub use Rattle.zones_script.specs.Views.{command_view, worker_view}
 pub use Rattle.zones_report.specs.Telling.{last_of}
-pub use Rattle.zone_table.specs.Prelude.{AllByRecursion, IsDistinct, IsPassOf, entries_in, places_of, same_name, table_known, zone_known}
+pub use Rattle.zone_table.specs.Prelude.{AllByRecursion, IsDistinct, IsPassOf, entries_in, places_of, same_name, sizes_of, table_known, zone_known}
 pub use Rattle.job_commands.specs.Prelude.{AreHeard, IsZone, Learnt, asked_view, known_at}
 pub use Rattle.zones_threads.specs.Calls.{AllHeard}
 pub use Rattle.zones_threads.specs.Changes.{cause_told, version_told}

@@ -1,7 +1,6 @@
 //! Zones that are opened and run.
 ghost use Rattle.std.specs.Prelude.{◌≡◌, ◌+◌, ℕ, List, All, IfOk, Some, length, map, slice_get};
-ghost use Rattle.zones_threads.specs.Prelude.{Zone};
-ghost use Rattle.zones_threads.specs.Prelude.{places_of, StandFor, HeardOn, ZonesRanOn, workers_view, CanRunZones};
+ghost use Rattle.zones_threads.specs.Prelude.{CanRunZones, HeardOn, StandFor, Zone, ZonesRanOn, places_of, sizes_of, workers_view};
 
 use crate::job::run_zones;
 use job_commands::{Gate, ZoneLaw};
@@ -35,10 +34,9 @@ fn run_named<R: Threads + Wait + Sync, N: Named + Send + Sync, G: Gate>(
 ) -> Result<ZonesRan, AllocError>
     requires table_named { slice_get N.tables 0 ≡ Some table.shared.table.shared.table_id }
     requires named { (k : ℕ) (b : _) → slice_get blanks.items k ≡ Some b → slice_get N.tables (k + 1) ≡ Some b.shared.table.shared.table_id }
-    requires can { CanRunZones table.shared.table.shared.key (map (λ b. b.shared.table.shared.key) blanks.items) zones.now (length workers.now)
-        (workers_view workers.now) }
-    ensures ran { (chunks : ℕ) (list : List Zone) → All (λ s. s.chunks ≡ chunks) (map (λ b. b.shared.table.shared.key) blanks.items) → StandFor zones.now list
-        → IfOk result (ZonesRanOn (places_of zones.now (map (λ b. b.shared.table.shared.key) blanks.items)) chunks list (workers_view workers.now)) }
+    requires can { CanRunZones table.shared.table.shared.key (sizes_of blanks.items) zones.now (length workers.now) (workers_view workers.now) }
+    ensures ran { (chunks : ℕ) (list : List Zone) → All (λ s. s.chunks ≡ chunks) (sizes_of blanks.items) → StandFor zones.now list
+        → IfOk result (ZonesRanOn (places_of zones.now (sizes_of blanks.items)) chunks list (workers_view workers.now)) }
     // Each worker is told by its own number, from 1.
     ensures heard { IfOk result (HeardOn (G.hears gate.now) (workers_view workers.now)) }
 {
@@ -67,10 +65,9 @@ pub fn run_zone_items<R: Threads + Wait + Sync, G: Gate>(
     workers: &[Worker],
     gate: &G,
 ) -> Result<ZonesRan, AllocError>
-    requires can { CanRunZones table.shared.table.shared.key (map (λ b. b.shared.table.shared.key) blanks.items) zones.now (length workers.now)
-        (workers_view workers.now) }
-    ensures ran { (chunks : ℕ) (list : List Zone) → All (λ s. s.chunks ≡ chunks) (map (λ b. b.shared.table.shared.key) blanks.items) → StandFor zones.now list
-        → IfOk result (ZonesRanOn (places_of zones.now (map (λ b. b.shared.table.shared.key) blanks.items)) chunks list (workers_view workers.now)) }
+    requires can { CanRunZones table.shared.table.shared.key (sizes_of blanks.items) zones.now (length workers.now) (workers_view workers.now) }
+    ensures ran { (chunks : ℕ) (list : List Zone) → All (λ s. s.chunks ≡ chunks) (sizes_of blanks.items) → StandFor zones.now list
+        → IfOk result (ZonesRanOn (places_of zones.now (sizes_of blanks.items)) chunks list (workers_view workers.now)) }
     // Each worker is told by its own number, from 1.
     ensures heard { IfOk result (HeardOn (G.hears gate.now) (workers_view workers.now)) }
 {

@@ -41,3 +41,6 @@ returns-in_ok-finished-in-Ok-clause-ran g c = λ chunks list all_chunks stand.
     let ran = c.in_ok-finished-in-Ok.ensures.ran chunks list (stand.origins ∙ sym origins) apart (table_begins items c.requires.can.zones opened count passes origins made)
     (zone_begins_there items c.requires.can.zones opened count passes origins made chunks (map (λ b. b.shared.table.shared.key) c.args.blanks.items) c.in-Ok.ensures.opened.sizes c.requires.can.passes all_chunks list stand) in
     (c.in-Ok.ensures.opened.fits, ran)
+
+pub returns-in-Err-Full-clause-ran : goal.returns-in-Err-Full-clause-ran
+returns-in-Err-Full-clause-ran g c = λ chunks list all_chunks stand. c.in-Err-Full.ensures.refused
