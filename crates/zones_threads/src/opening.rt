@@ -1,5 +1,5 @@
 //! Zones that are opened and run.
-ghost use Rattle.std.specs.Prelude.{◌≡◌, ◌+◌, ℕ, List, All, IfOk, Some, length, map, slice_get};
+ghost use Rattle.std.specs.Prelude.{◌≡◌, ◌+◌, ℕ, List, All, IfOk, Some, length, slice_get};
 ghost use Rattle.zones_threads.specs.Prelude.{CanRunZones, HeardOn, StandFor, Zone, ZonesRanOn, places_of, sizes_of, workers_view};
 
 use crate::job::run_zones;
