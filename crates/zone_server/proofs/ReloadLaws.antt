@@ -1,6 +1,6 @@
 -- A transaction on the version that a pass had seen last, and what it makes of a zone that is exchanged.
-use Rattle.std.proofs.Common.{◌≡◌, ◌≢◌, ◌∙◌, ◌⊎◌, ℕ, ◌+◌, ◌<◌, ◌≤◌, true, List, [], ◌∷◌, ◌++◌, length, take, Option, Some, None, Result, Ok, Err, IfOk, refl, sym, ap, subst, arith, append-nil, length-append}
-use Rattle.std.specs.Prelude.{◌↔◌, IfErr, IfSome, IsErr, IsSome, IsSomeAnd, unwrap_or}
+use Rattle.std.proofs.Common.{◌≡◌, ◌≢◌, ◌∙◌, ℕ, ◌+◌, true, List, [], ◌∷◌, ◌++◌, length, take, Option, Some, None, Result, Ok, Err, IfOk, refl, sym, ap, subst, arith, append-nil, length-append}
+use Rattle.std.specs.Prelude.{◌↔◌, IfErr, IfSome, IsErr, IsSomeAnd, unwrap_or}
 use Rattle.std.proofs.lemmas.List.{take_all}
 use Rattle.zone_model.specs.Names.{Name}
 use Rattle.zone_model.specs.MasterFile.{Zone}
@@ -10,18 +10,16 @@ use Rattle.zone_model.specs.declared.Refusal.{Refusal}
 use Rattle.trie_model.specs.Keys.{Entry}
 use Rattle.master_file.specs.Rows.{CanBeDumped}
 use Rattle.job_model.specs.declared.Ending.TheVariants as ending
-use Rattle.job_model.specs.Outcomes.{Ended, Committed, Refused, Full, Spent, last_version}
+use Rattle.job_model.specs.Outcomes.{Refused, Full, last_version}
 use Rattle.job_report.specs.Outcomes.{ended_view}
 use Rattle.job_report.specs.declared.outcomes.Cause.TheVariants as cause
 use Rattle.job_report.specs.declared.outcomes.Outcome.{Outcome}
 use Rattle.job_report.specs.declared.outcomes.Told.{Told}
 use Rattle.job_report.specs.declared.outcomes.Told.TheVariants as told
 use Rattle.shared_cells.specs.declared.pass.PassSeat.{PassSeat}
-use Rattle.shared_cells.specs.declared.view.TableSize.{TableSize}
 use Rattle.shared_cells.specs.History.{IsPartOf, StartsWith, entry_of, version_after}
 use Rattle.shared_cells.specs.Views.{is_told, with_pinned}
 use Rattle.pin_core.specs.declared.version.Spent.{Spent as NoNumber}
-use Rattle.chunk_usage.specs.declared.space.Shortage.{Shortage as Request}
 use Rattle.chunk_usage.specs.Keeping.{kept_versions}
 use Rattle.qp_multi.specs.declared.commit.Receipt.{Receipt}
 use Rattle.qp_multi.specs.declared.writer.WorkingVersion.{WorkingVersion}
@@ -42,7 +40,7 @@ use Rattle.zone_edit.specs.Stores.{WorksOn}
 use Rattle.zone_edit.specs.declared.refusal.EditRefusal.{EditRefusal}
 use Rattle.zone_edit.specs.declared.refusal.EditRefusal.TheVariants as edit
 use Rattle.job_commands.specs.Histories.{BeginsAt, Commit, Entries, IsLawful, IsZone, OpenedWith, StandsAs}
-use Rattle.job_commands.specs.Commands.{BlockRan, IsOpenedWith, OpensAt}
+use Rattle.job_commands.specs.Commands.{BlockRan, OpensAt}
 use Rattle.job_commands.proofs.BlockLaws.{committed_ran, full_ran}
 use Rattle.job_commands.proofs.HistoryLaws.{begins_length, begins_same, opened_same, part_more, part_same}
 use Rattle.job_commands.proofs.TransactLaws.{back_grows, back_pass, back_version, commits_block}

@@ -1,4 +1,4 @@
-use Rattle.std.proofs.Common.{rules, ◌∙◌, ◌+◌, ◌*◌, map, Ok, Err, ap, subst, sym}
+use Rattle.std.proofs.Common.{rules, ◌∙◌, ◌+◌, ◌*◌, map, Err, ap, subst, sym}
 use Rattle.zone_change.specs.Views.{operation_view}
 use Rattle.qp_multi.specs.Passes.{Known, known_at}
 use Rattle.zone_diff.specs.Blocks.{changes}

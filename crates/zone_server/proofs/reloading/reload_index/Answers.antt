@@ -1,6 +1,6 @@
-use Rattle.std.proofs.Common.{◌≡◌, ◌∙◌, IfOk, List, ap, map, subst, sym}
+use Rattle.std.proofs.Common.{◌≡◌, ◌∙◌, IfOk, ap, map, subst, sym}
 use Rattle.zone_model.specs.Names.{Name}
-use Rattle.zone_model.specs.Versions.{Operation, Version}
+use Rattle.zone_model.specs.Versions.{Version}
 use Rattle.zone_change.specs.Views.{operation_view}
 use Rattle.zone_diff.specs.Blocks.{changes}
 use Rattle.zone_diff.specs.Differences.{difference}
