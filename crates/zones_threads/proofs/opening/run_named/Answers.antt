@@ -1,6 +1,7 @@
 use Rattle.std.proofs.Common.{◌∙◌, List, map, sym, ap, subst}
 use Rattle.std.specs.List.{AllByRecursion, IsDistinct}
 use Rattle.zone_model.specs.Names.{Name, same_name}
+use Rattle.zone_table.specs.Openings.{RefusesZones, places_of, sizes_of}
 use Rattle.zones_threads.specs.Sites.{IsSaid}
 use Rattle.zones_threads.specs.Views.{workers_view}
 use Rattle.zones_threads.specs.Works.{AreApart}
@@ -43,4 +44,7 @@ returns-in_ok-finished-in-Ok-clause-ran g c = λ chunks list all_chunks stand.
     (c.in-Ok.ensures.opened.fits, ran)
 
 pub returns-in-Err-Full-clause-ran : goal.returns-in-Err-Full-clause-ran
-returns-in-Err-Full-clause-ran g c = λ chunks list all_chunks stand. c.in-Err-Full.ensures.refused
+returns-in-Err-Full-clause-ran g c = λ chunks list all_chunks stand.
+    let full = c.in-Err-Full in
+    let refused = subst (RefusesZones (places_of c.args.zones.now (sizes_of c.args.blanks.items))) full.field-0-is full.ensures.refused in
+    rw full.zone-is (rw full.cells-is (rw full.limit-is refused))
