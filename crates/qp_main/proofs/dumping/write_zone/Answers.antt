@@ -1,4 +1,4 @@
-use Rattle.std.proofs.Common.{◌≡◌, ◌≤◌, Ok, arith, subst, true}
+use Rattle.std.proofs.Common.{rules, ◌≡◌, ◌≤◌, Ok, arith, subst, true}
 use Rattle.outer_io.specs.Bytes.{GrowsByFront}
 use Rattle.zone_model.specs.Names.{Name}
 use Rattle.zone_model.specs.Dumps.{dump}
