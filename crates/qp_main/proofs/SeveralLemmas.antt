@@ -1,5 +1,6 @@
 -- What is due for an input of several zones.
 use Rattle.std.proofs.Common.{◌≡◌, ◌∙◌, ◌≤◌, ℕ, ◌+◌, Bool, true, false, cond, List, [], ◌∷◌, arith, length, Result, Ok, Err, ap, refl, sym, subst}
+use Rattle.std.proofs.lemmas.List.{length-map}
 use Rattle.zone_model.specs.Lines.{lines_of}
 use Rattle.zone_model.specs.MasterFile.{Zone}
 use Rattle.zone_model.specs.Names.{Name, IsName}
@@ -88,6 +89,10 @@ origins_named (zone ∷ zones) h = (h.0.0, origins_named zones h.1)
 
 pub names_are : (zones : List Zone) (origins : List Name) → origins ≡ origins_of zones → AllByRecursion IsRead zones → AllByRecursion IsName origins
 names_are zones origins e h = subst (AllByRecursion IsName) (sym e) (origins_named zones h)
+
+-- there are as many origins as zones
+pub as_many : (zones : List Zone) (origins : List Name) → origins ≡ origins_of zones → length zones ≤ 16 → length origins ≤ 16
+as_many zones origins e few = subst (λ (n : ℕ). n ≤ 16) (sym (ap length e ∙ length-map zones (λ z. z.origin))) few
 
 pub said_over : (zones : List Zone) (origins : List Name) (workers : List (List Command)) → origins ≡ origins_of zones → AllByRecursion (AllByRecursion (IsSaid origins)) workers → AllByRecursion (AllByRecursion (IsSaid (origins_of zones))) workers
 said_over zones origins workers e h = subst (λ (os : List Name). AllByRecursion (AllByRecursion (IsSaid os)) workers) e h

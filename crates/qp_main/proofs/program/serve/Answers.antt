@@ -12,7 +12,7 @@ use Rattle.qp_main.proofs.SessionLemmas.{not_lines}
 use Rattle.qp_main.proofs.program.serve.Goals as goal
 
 pub serve_input-requires : goal.serve_input-requires
-serve_input-requires g c = λ κs bounds. record {
+serve_input-requires g c = record {
   short = search rules;
   whole = not_lines (verb_view c.args.invocation.now.verb) c.requires;
 }

@@ -8,7 +8,7 @@ use Rattle.qp_main.proofs.HeardLemmas.{made_heard}
 use Rattle.qp_main.proofs.program.serve_made.Goals as goal
 
 pub serve_input-requires : goal.serve_input-requires
-serve_input-requires g c = λ κs bounds. record {
+serve_input-requires g c = record {
   short = search rules;
   whole = λ (a : AnswersLines (verb_view c.args.invocation.now.verb)). subst AnswersLines c.requires.made a;
 }

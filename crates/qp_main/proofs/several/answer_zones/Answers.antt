@@ -12,15 +12,17 @@ use Rattle.qp_main.specs.Due.{ZonesAnswers}
 use Rattle.qp_main.specs.Stops.{IsStop, ScriptStops}
 use Rattle.qp_main.specs.Heard.{ZonesJobHeard}
 use Rattle.qp_main.proofs.HeardLemmas.{script_unrun, zones_unrun}
-use Rattle.qp_main.proofs.SeveralLemmas.{list_stops, names_are, said_over, script_stops, zones_answers, zones_heard}
+use Rattle.qp_main.proofs.SeveralLemmas.{as_many, list_stops, names_are, said_over, script_stops, zones_answers, zones_heard}
 use Rattle.qp_main.proofs.several.answer_zones.Goals as goal
 
 pub script_over-requires : goal.script_over-requires
-script_over-requires g c = record {
-  zones = search rules;
-  names =
-      names_are c.in_ok-zones.zones.items c.deref-2.result.now (c.deref-2.ensures.value ∙ c.in_ok-origins.ensures ∙ ap origins_of c.deref.ensures.value) c.in_ok-zones.ensures.said;
-}
+script_over-requires g c =
+    let zones = c.in_ok-zones.zones.items in
+    let are = c.deref-2.ensures.value ∙ c.in_ok-origins.ensures ∙ ap origins_of c.deref.ensures.value in
+    record {
+      zones = as_many zones c.deref-2.result.now are c.in_ok-zones.ensures.listed.few;
+      names = names_are zones c.deref-2.result.now are c.in_ok-zones.ensures.said;
+    }
 
 pub report_zones-requires-clause-script : goal.report_zones-requires-clause-script
 report_zones-requires-clause-script g c =

@@ -4,12 +4,13 @@ use Rattle.std.proofs.lemmas.List.{length-map}
 use Rattle.zone_table.specs.Openings.{origins_of}
 use Rattle.zone_table.specs.Passes.{IsPassOf}
 use Rattle.zone_table.proofs.Lists.{all_at, at_seam}
+use Rattle.zone_tests.proofs.OpeningLaws.{empty_rise}
 use Rattle.zone_tests.proofs.nested.run.Goals as goal
 
 pub open-requires-clause-zones : goal.open-requires-clause-zones
 open-requires-clause-zones g c = record {
   differ = record { some = search rules; few = search rules; different = c.requires.different };
-  begin = record { rising = search rules; lawful = search rules };
+  begin = record { rising = empty_rise c.args.items.now c.requires.empty; lawful = λ k d inside. tt };
 }
 
 pub walk-requires-clause-pass : goal.walk-requires-clause-pass
