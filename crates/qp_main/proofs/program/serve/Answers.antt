@@ -3,6 +3,7 @@ use Rattle.std.specs.Io.KnownBytes.{Consumes}
 use Rattle.command_line.specs.Views.{invocation_view, verb_view}
 use Rattle.qp_main.specs.declared.status.Status.TheVariants as status
 use Rattle.qp_main.specs.Due.{CutShort, Due, DueInput, IsWritten, Written, is_streamed}
+use Rattle.qp_main.specs.Serving.{IsInput}
 use Rattle.qp_main.specs.declared.status.Status.{Status}
 use Rattle.qp_main.proofs.DueLemmas.{IsAnswer, cut_as, given_due, nothing_yet, short_is, some_words, source_due, too_long, written_answers, written_as}
 use Rattle.qp_main.proofs.GivenLemmas.{all_due, all_too_long, given_too_long}
@@ -12,10 +13,12 @@ use Rattle.qp_main.proofs.SessionLemmas.{not_lines}
 use Rattle.qp_main.proofs.program.serve.Goals as goal
 
 pub serve_input-requires : goal.serve_input-requires
-serve_input-requires g c = record {
-  short = search rules;
-  whole = not_lines (verb_view c.args.invocation.now.verb) c.requires;
-}
+serve_input-requires g c =
+    let input : IsInput (verb_view c.args.invocation.now.verb) c.in-Ok.bytes.items = record {
+      short = search rules;
+      whole = not_lines (verb_view c.args.invocation.now.verb) c.requires;
+    } in
+    search (rules, input)
 
 -- ---- an input that is too long
 

@@ -2,16 +2,19 @@ use Rattle.std.proofs.Common.{rules, ℕ, List, Option, Some, subst, sym}
 use Rattle.job_make.specs.Views.{load_view}
 use Rattle.command_line.specs.Views.{invocation_view, verb_view}
 use Rattle.qp_main.specs.Due.{AnswersLines, Due, DueInput, MayBeShort, is_streamed}
+use Rattle.qp_main.specs.Serving.{IsInput}
 use Rattle.qp_main.specs.declared.status.Status.{Status}
 use Rattle.qp_main.proofs.DueLemmas.{cut_as, load_answer, load_ended, made_due, written_as}
 use Rattle.qp_main.proofs.HeardLemmas.{made_heard}
 use Rattle.qp_main.proofs.program.serve_made.Goals as goal
 
 pub serve_input-requires : goal.serve_input-requires
-serve_input-requires g c = record {
-  short = search rules;
-  whole = λ (a : AnswersLines (verb_view c.args.invocation.now.verb)). subst AnswersLines c.requires.made a;
-}
+serve_input-requires g c =
+    let input : IsInput (verb_view c.args.invocation.now.verb) c.in-Ok.bytes.items = record {
+      short = search rules;
+      whole = λ (a : AnswersLines (verb_view c.args.invocation.now.verb)). subst AnswersLines c.requires.made a;
+    } in
+    search (rules, input)
 
 pub returns-clause-due : goal.returns-clause-due
 returns-clause-due g c =
