@@ -1,7 +1,7 @@
 -- What a pass does on its pin keeps the rule, and tells what it has pinned.
-use Rattle.std.proofs.Common.{◌≡◌, ◌≢◌, ◌⊎◌, inl, inr, ⊎_elim, ℕ, ◌+◌, ◌-◌, ◌*◌, ◌%◌, ◌<◌, ◌≤◌, eqb, List, [], ◌∷◌, ◌++◌, length, take, drop, get_or, set, Bool, true, false, true≢false, cond, refl, sym, ap, ◌∙◌, subst, arith, Option, Some, None, length-append, get_or-set_same, get_or-set_other, ne_eqb}
+use Rattle.std.proofs.Common.{◌≡◌, ◌≢◌, ◌⊎◌, inl, inr, ⊎_elim, ℕ, ◌+◌, ◌-◌, ◌*◌, ◌%◌, ◌<◌, ◌≤◌, eqb, List, [], ◌∷◌, ◌++◌, length, take, drop, get_or, set, Bool, true, false, true≢false, cond, refl, sym, ap, ◌∙◌, subst, arith, Option, Some, None, append-nil, length-append, get_or-set_same, get_or-set_other, ne_eqb}
 use Rattle.std.specs.List.{All, Contains}
-use Rattle.std.proofs.lemmas.List.{set-get_or, take_at, take-append-drop, append_assoc, length-take}
+use Rattle.std.proofs.lemmas.List.{set-get_or, take_all, take_at, take-append-drop, append_assoc, length-take}
 use Rattle.std.proofs.lemmas.List.Elements.{All-contains, All-nil, All-take, All-weaker, Contains-push, Contains-append_left}
 use mathlib.Core.Logic.{dite}
 use mathlib.Core.Option.{some, none}
@@ -29,12 +29,12 @@ use Rattle.shared_cells.specs.declared.view.View.{View}
 use Rattle.shared_cells.specs.History.{StartsWith, OpeningFits, IsPartOf, version_after}
 use Rattle.shared_cells.specs.Views.{core_size, number_of, has_turn, is_told, is_pinned, chunks_of, pinned_image, root_of, with_progress, with_pinned, with_more, pinned_view}
 use Rattle.shared_cells.specs.Rule.{Facts, stage_of, ProgressFits, PinNames, NamingFits, IdleUnlessTold, OwnFits, PassFits, TurnFits, Knows, VersionsFit, IsSoundTable}
-use Rattle.shared_cells.specs.Steps.{exchanged_by, IsWordOf, entered, glanced, left, read, Pins, Settles, settled}
+use Rattle.shared_cells.specs.Steps.{exchanged_by, IsWordOf, entered, glanced, left, read, Pins, Settles, settled, Sights, sighted}
 use Rattle.shared_cells.proofs.Lists.{put, put_here, put_else, seats_stay}
 use Rattle.shared_cells.proofs.Holding.{held_set}
 use Rattle.shared_cells.proofs.Knowing.{knows_still, the_pass}
 use Rattle.shared_cells.proofs.Images.{root_of_kept}
-use Rattle.shared_cells.proofs.Seats.{no_turn, pass_there, told_there}
+use Rattle.shared_cells.proofs.Seats.{no_turn, pass_there, seen_rises, told_there}
 
 -- a choice, as the table's exchange and as the pin core write it
 pub either_is : (b : Bool) (x y : ℕ) → either b x y ≡ cond b x y
@@ -194,6 +194,56 @@ module _ {O E : Type 0} (applied : O → E → O) (lawful : O → O → Type 0) 
             let same : k.version ≡ version = sym p.3 ∙ sym (version_of_pin p.0 pin (omega arith) p.2) ∙ named.1 in
             inl (subst (Contains own.pinned) same (subst (λ (vs : List ℕ). Contains vs k.version) (sym last.1) (Contains-push last.0 k.version)))
 
+    versions_of : (o' : O) → v.seen.opening ≡ Some o' → VersionsFit applied lawful permitted stands size r.facts (Some o')
+    versions_of o' e = subst (VersionsFit applied lawful permitted stands size r.facts) (subst (λ (y : Option O). OpeningFits r.facts.all.opening y v.seen) e (r.seats id v at).seen.opening) r.versions
+
+    -- what it hasn't seen yet
+    unseen : StartsWith r.facts.all.history v.seen.history
+    unseen = (r.seats id v at).seen.history
+
+    -- the opening and the namings stay, however much of the history it sees
+    part_with : (more : List (Entry E)) → StartsWith r.facts.all.history (v.seen.history ++ more) → IsPartOf r.facts.all (with_more v.seen more)
+    part_with more starts = record {
+      opening = subst (λ (y : Option O). OpeningFits r.facts.all.opening y (with_more v.seen more)) (sym is_open) opened;
+      history = starts;
+      namings = (r.seats id v at).seen.namings;
+    }
+
+    -- an idle pass sees the whole history
+    module _ (idle : v.progress ≡ progress.Idle) where
+      all_of_it : length r.facts.all.history ≡ length (v.seen.history ++ unseen.0)
+      all_of_it = ap length unseen.1
+
+      same_stage : set r.facts.stages own.number stage.Idle ≡ r.facts.stages
+      same_stage = ap (set r.facts.stages own.number) (sym (at_stage progress.Idle idle)) ∙ set-get_or r.facts.stages own.number stage.Idle
+
+      rises : core s.words stage.Idle (set r.facts.seen own.number (length (v.seen.history ++ unseen.0)))
+      rises = subst (λ (gs : List Stage). Sound (core_size size) s.words gs (set r.facts.seen own.number (length (v.seen.history ++ unseen.0))) (turn_of (length r.facts.all.history) r.facts.turn.kept r.facts.turn.marks)) (sym same_stage)
+          (seen_rises applied lawful permitted stands size s r own.number (length (v.seen.history ++ unseen.0)) within (at_stage progress.Idle idle) (let a = all_of_it in omega arith)
+          (let e = mine.seen_length in omega (arith, length-append v.seen.history unseen.0)))
+
+      see_keeps : Rule record { words = s.words; homes = s.homes; views = set s.views id (record v { seen = with_more v.seen unseen.0 }) }
+      see_keeps = subst (λ (x : Option (PassView E) × Progress). Rule record { words = s.words; homes = s.homes; views = set s.views id (record v { seen = with_more v.seen unseen.0; pass = x.0; progress = x.1 }) }) (λ i. (sym is_pass i, sym idle i))
+          (moves s.words progress.Idle (with_more v.seen unseen.0) own.pinned (λ i apart. refl) (part_with unseen.0 ([], unseen.1 ∙ sym (append-nil (v.seen.history ++ unseen.0)))) is_open tt (λ version c. c) (λ version names. inr names) rises)
+
+      told_current : version_of (get_or s.words 0 0 + 2) ≡ length (v.seen.history ++ unseen.0)
+      told_current =
+          let c = r.sound.current in
+          let f = kept_root_fits (core_size size) s.words r.facts.stages r.facts.seen (turn_of (length r.facts.all.history) r.facts.turn.kept r.facts.turn.marks) r.sound c.0 c.1 in
+          version_of_pin c.0 (get_or s.words 0 0 + 2) (omega arith) (ap (λ (n : ℕ). n + 2) c.3) ∙ c.2 ∙ all_of_it
+
+      sights_so : Sights applied lawful permitted stands v (get_or s.words 0 0) (record v { seen = with_more v.seen unseen.0 })
+      sights_so = record {
+        sees = record {
+          more = unseen.0;
+          view = refl;
+          allowed = subst (All (λ (e : Entry E). permitted e.change)) unseen.1 r.allowed;
+          good = λ o' e. subst (λ (h : List (Entry E)). lawful o' (version_after applied o' h)) (take_all (length r.facts.all.history) r.facts.all.history (omega arith) ∙ unseen.1) ((versions_of o' e).0 (length r.facts.all.history) (omega arith));
+        };
+        fits = current_fits (core_size size) s.words r.facts.stages r.facts.seen (turn_of (length r.facts.all.history) r.facts.turn.kept r.facts.turn.marks) r.sound;
+        version = told_current;
+      }
+
     -- what a pass that has looked settles on, whatever the writer has done since
     module _ (w : ℕ) (is : v.progress ≡ progress.Looked w) where
       abbrev x : ℕ
@@ -224,9 +274,6 @@ module _ {O E : Type 0} (applied : O → E → O) (lawful : O → O → Type 0) 
       at_least = let e = mine.seen_length in let l = named.3 in omega arith
 
       -- what it hasn't seen yet, up to the version and from there on
-      unseen : StartsWith r.facts.all.history v.seen.history
-      unseen = (r.seats id v at).seen.history
-
       more : List (Entry E)
       more = take (named.0.version - length v.seen.history) unseen.0
 
@@ -247,11 +294,7 @@ module _ {O E : Type 0} (applied : O → E → O) (lawful : O → O → Type 0) 
       begins = ap (take named.0.version) whole ∙ take_at (v.seen.history ++ more) (drop (named.0.version - length v.seen.history) unseen.0) named.0.version long
 
       part : IsPartOf r.facts.all (with_more v.seen more)
-      part = record {
-        opening = subst (λ (y : Option O). OpeningFits r.facts.all.opening y (with_more v.seen more)) (sym is_open) opened;
-        history = (drop (named.0.version - length v.seen.history) unseen.0, whole);
-        namings = (r.seats id v at).seen.namings;
-      }
+      part = part_with more (drop (named.0.version - length v.seen.history) unseen.0, whole)
 
       -- a pin that named a version before stays
       still_named : (version : ℕ) → PinNames s.words own.number version → PinNames (set s.words (pin_at own.number) x) own.number version
@@ -265,9 +308,6 @@ module _ {O E : Type 0} (applied : O → E → O) (lawful : O → O → Type 0) 
           (λ version names. inr (still_named version names))
           (subst (λ (a : ℕ × ℕ). core (set s.words (pin_at own.number) x) (stage.Pinned a.0) (set r.facts.seen own.number a.1)) (λ i. (told_version i, (told_version ∙ sym long) i))
           (settles (core_size size) s.words r.facts.stages r.facts.seen (turn_of (length r.facts.all.history) r.facts.turn.kept r.facts.turn.marks) r.sound own.number w within (at_stage (progress.Looked w) is))))
-
-      versions_of : (o' : O) → v.seen.opening ≡ Some o' → VersionsFit applied lawful permitted stands size r.facts (Some o')
-      versions_of o' e = subst (VersionsFit applied lawful permitted stands size r.facts) (subst (λ (y : Option O). OpeningFits r.facts.all.opening y v.seen) e (r.seats id v at).seen.opening) r.versions
 
       pins : Pins applied lawful permitted stands v (pinned_view v more named.0)
       pins = record {
@@ -304,6 +344,19 @@ module _ {O E : Type 0} (applied : O → E → O) (lawful : O → O → Type 0) 
       enter_keeps s r id m.0 at own is (no_turn m.0.turn off_turn) o.0 o.1 idle,
       refl,
     ))
+
+    pub may_see : m.0.progress ≡ progress.Idle → Allows Rule slots id m 0 (λ n. n) (sighted applied lawful permitted stands (step slots 0 0 0 none) m)
+    may_see idle s r deep at small =
+        let p = pass_there m.0.pass number is_pass in
+        let o = told_there m.0.seen.opening is_open in
+        let off = no_turn m.0.turn off_turn in
+        let new = record m.0 { seen = with_more m.0.seen (unseen s r id m.0 at p.0 p.1 off o.0 o.1).0 } in (
+          new,
+          keeps,
+          tt,
+          subst (λ (ws : List ℕ). Rule record { words = ws; homes = s.homes; views = set s.views id new }) (sym (set-get_or s.words 0 0)) (see_keeps s r id m.0 at p.0 p.1 off o.0 o.1 idle),
+          (sights_so s r id m.0 at p.0 p.1 off o.0 o.1 idle, refl),
+        )
 
     pub may_glance : m.0.progress ≡ progress.Entered → Allows Rule slots id m 0 (λ n. n) (glanced (step slots 0 0 0 none) m)
     may_glance is s r deep at small = let p = pass_there m.0.pass number is_pass in let o = told_there m.0.seen.opening is_open in (

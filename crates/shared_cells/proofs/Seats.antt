@@ -99,7 +99,7 @@ module _ {O E : Type 0} (applied : O → E → O) (lawful : O → O → Type 0) 
   inside s r p l = let m = r.made in let w = r.sound.watched in (omega arith, omega arith)
 
   -- what a pass has seen rises to this, which the history has
-  seen_rises : (s : State (Unit {0}) (View O E)) (r : Rule s) (p n : ℕ) → p < size.passes → stage_at r.facts.stages p ≡ stage.Idle → n ≤ length r.facts.all.history → get_or r.facts.seen p 0 ≤ n
+  pub seen_rises : (s : State (Unit {0}) (View O E)) (r : Rule s) (p n : ℕ) → p < size.passes → stage_at r.facts.stages p ≡ stage.Idle → n ≤ length r.facts.all.history → get_or r.facts.seen p 0 ≤ n
       → Sound (core_size size) s.words r.facts.stages (set r.facts.seen p n) (turn_of (length r.facts.all.history) r.facts.turn.kept r.facts.turn.marks)
   seen_rises s r p n small idle there more = subst (λ (m : ℕ). Sound (core_size size) s.words r.facts.stages (set r.facts.seen p m) (turn_of (length r.facts.all.history) r.facts.turn.kept r.facts.turn.marks))
       (let e : max (get_or r.facts.seen p 0) n ≡ n = omega arith in e)

@@ -18,7 +18,7 @@ use Rattle.shared_cells.specs.declared.view.PassView.{PassView}
 use Rattle.shared_cells.specs.declared.view.TurnView.{TurnView}
 use Rattle.shared_cells.specs.declared.view.View.{View}
 use Rattle.shared_cells.specs.History.{IsPartOf, entries_by, entry_of, with_entry, version_after}
-use Rattle.shared_cells.specs.Views.{core_size, words_of, kept_in, chunks_of, pinned_image, root_of, stored_view, with_progress, pinned_view, marked_view, rounded_view, learnt_view, opened_view, published_view}
+use Rattle.shared_cells.specs.Views.{core_size, words_of, kept_in, chunks_of, pinned_image, root_of, stored_view, with_more, with_progress, pinned_view, marked_view, rounded_view, learnt_view, opened_view, published_view}
 
 -- a seat, by what it knows
 abbrev pub Knower : Type 0 → Type 0 → Type 0
@@ -235,6 +235,25 @@ module _ {O E : Type 0} (applied : O → E → O) (lawful : O → O → Type 0) 
     pub allowed : All (λ e. permitted e.change) w.seen.history
     pub good : (o : O) → w.seen.opening ≡ Some o → lawful o (version_after applied o w.seen.history)
     pub stood : (o : O) → w.seen.opening ≡ Some o → stands kept.image kept.root (version_after applied o w.seen.history)
+
+  -- What an idle pass sees, which pins nothing: the history up to the current version. Each entry of it is one that it may have, and the version is
+  -- lawful.
+  pub record Sees (v w : View O E) : Type 0 where
+    pub more : List (Entry E)
+    pub view : w ≡ record v { seen = with_more v.seen more }
+    pub allowed : All (λ e. permitted e.change) w.seen.history
+    pub good : (o : O) → w.seen.opening ≡ Some o → lawful o (version_after applied o w.seen.history)
+
+  -- It does so by this word of CUR.
+  pub record Sights (v : View O E) (word : ℕ) (w : View O E) : Type 0 where
+    pub sees : Sees v w
+    -- a pin can be made of the word, which tells the version
+    pub fits : word + 2 < 2 ^ 64
+    pub version : version_of (word + 2) ≡ length w.seen.history
+
+  -- an idle pass loads CUR
+  abbrev pub sighted : WordStep → Knower O E → ℕ → Knower O E → Type 0
+  sighted step m word m' = Sights m.0 word m'.0 × (m'.1 ≡ m.1)
 
   -- A settle that left this pin.
   pub record Settles (v : View O E) (pin : ℕ) (w : View O E) : Type 0 where

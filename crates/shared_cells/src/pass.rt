@@ -1,13 +1,13 @@
 //! The seats of passes, and the notes by which one tells another what it has seen.
 ghost use Rattle.std.specs.Prelude.{◌≡◌, ℕ, ◌+◌, ◌<◌, true, false, []};
 ghost use Rattle.shared_cells.specs.Prelude.{words_for, number_of, has_turn, is_told, is_idle, chunks_of, with_note, note_of};
-ghost use Rattle.shared_cells.specs.Prelude.{Learns, Accounts, LooksBeside};
+ghost use Rattle.shared_cells.specs.Prelude.{Learns, Accounts, LooksBeside, Sees, SeesUpTo};
 
 use crate::law::{Counted, HistoryLaw};
-use crate::plays::{Account, Hear, Learn, Tell};
+use crate::plays::{Account, Hear, Learn, Sight, Tell};
 use crate::shared::Shared;
 use crate::view::Place;
-use pin_core::words::CUR;
+use pin_core::words::{CUR, PIN_OFFSET, version_of_pin};
 
 /// What a seat had seen, for a pass to learn. It may go to another thread.
 #[derive(Drop)]
@@ -84,6 +84,19 @@ impl<O, E> PassSeat<O, E> {
         ensures learnt { Learns (with_note self.old.place.me.0 note.place.me.0) self.new.place.me.0 }
     {
         hear(shared, &mut self.place, note);
+    }
+
+    /// Sees which version is current at some moment of the call, and what was published before it. It pins none.
+    #[inline]
+    pub fn see<L: HistoryLaw<O, E>>(&mut self, shared: &Shared<O, E, L>) -> u64
+        requires table { self.old.place.table_id ≡ shared.now.table.shared.table_id }
+        ensures table { self.new.place.table_id ≡ self.old.place.table_id }
+        ensures number { self.new.number ≡ self.old.number }
+        ensures seen { SeesUpTo result self.old.place.me.0 self.new.place.me.0 }
+        ensures sees { Sees L.applied L.lawful L.permitted L.stands self.old.place.me.0 self.new.place.me.0 }
+    {
+        let word = shared.table.shared.load::<Sight<L>>(&mut self.place, CUR);
+        version_of_pin(word + PIN_OFFSET)
     }
 
     /// Looks at the current version's word, which tells what the rule knows of this pass.

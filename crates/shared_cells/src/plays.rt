@@ -1,6 +1,6 @@
 //! What each step tells its seat, and how seats are split and joined.
 ghost use Rattle.shared_cells.specs.Views.{with_new_pass, new_pass_of, note_of, pass_of, without_pass, with_pass, with_note, spent_view};
-ghost use Rattle.shared_cells.specs.Steps.{looked, learnt, opened, published, accounted, entered, glanced, settled, left, read, stored};
+ghost use Rattle.shared_cells.specs.Steps.{looked, learnt, opened, published, accounted, entered, glanced, settled, sighted, left, read, stored};
 ghost use Rattle.shared_cells.specs.Steps.{recalled, scanned, assigned};
 
 use crate::law::{Counted, HistoryLaw, Opening, Payload};
@@ -49,6 +49,15 @@ pub(crate) struct Account<M> {
 
 impl<O, E, M: Counted> Play<(), View<O, E>> for Account<M> {
     ghost then = { accounted M.passes };
+}
+
+/// An idle pass loads the current version's word, and sees all that was published.
+pub(crate) struct Sight<L> {
+    law: PhantomData<L>,
+}
+
+impl<O, E, L: HistoryLaw<O, E>> Play<(), View<O, E>> for Sight<L> {
+    ghost then = { sighted L.applied L.lawful L.permitted L.stands };
 }
 
 /// A pass stores that it is about to look.
