@@ -48,6 +48,13 @@ pub record Pinned (lawful : List Entry → List Entry → Type 0) (old new : Kno
   pub good : lawful (first_version new.seen) (version_seen new.seen)
   pub pass : new.pass ≡ with_pinned old.pass number
 
+-- The pass has seen this version, the last that it has seen, and had seen no more before. It has pinned and published nothing meanwhile.
+pub record Sees (lawful : List Entry → List Entry → Type 0) (old new : Known) (number : ℕ) : Type 0 where
+  pub version : number ≡ length new.seen.history
+  pub grows : IsPartOf new.seen old.seen
+  pub good : lawful (first_version new.seen) (version_seen new.seen)
+  pub pass : new.pass ≡ old.pass
+
 -- The pass has seen what it had seen and what it was told, and no more.
 pub record Learnt (old new : Known) (told : Seen (List Entry) (List Operation)) : Type 0 where
   pub grows : IsPartOf new.seen old.seen

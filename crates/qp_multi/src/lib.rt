@@ -40,6 +40,7 @@ mod pass;
 mod pinned;
 mod query;
 mod refusal;
+mod seeing;
 mod snapshot;
 mod transaction;
 mod writer;

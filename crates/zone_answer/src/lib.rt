@@ -30,7 +30,7 @@ pub use answers::Answer;
 pub use found::{Found, find};
 pub use header::{Code, Header};
 pub use kind::Kind;
-pub use question::{answer, answer_into};
+pub use question::{answer, answer_into, answer_under};
 pub use records::{entry_of, read_owned};
 pub use responses::{Response, respond, respond_into};
 pub use rows::{Row, Rows};

@@ -1,7 +1,7 @@
 //! Questions and their answers.
 
-ghost use Rattle.std.specs.Prelude.{◌≡◌, ◌≤◌, [], List, length, IfOk};
-ghost use Rattle.zone_answer.specs.Prelude.{most_item_octets, Row, Version, LeadsTo, answer, behind, followed, going_on, IsGiven, Shows, ShowsSome};
+ghost use Rattle.std.specs.Prelude.{◌≡◌, ◌≤◌, [], List, length, true, IfOk};
+ghost use Rattle.zone_answer.specs.Prelude.{most_item_octets, Row, Version, LeadsTo, answer, behind, followed, going_on, is_under, IsGiven, Shows, ShowsSome};
 
 use crate::answers::Answer;
 use crate::kind::Kind;
@@ -66,6 +66,28 @@ pub fn answer_into<V: Reading, S: RowSink>(
     if !name.is_under(origin) {
         return Ok(Kind::Outside);
     }
+    answer_under(alloc, version, origin, name, rtype, item, walker, rows)
+}
+
+/// The same for a name that is known to be the origin or to lie under it: the octets of both aren't compared again.
+#[inline(always)]
+pub fn answer_under<V: Reading, S: RowSink>(
+    alloc: Global,
+    version: &mut V,
+    origin: &Name,
+    name: &Name,
+    rtype: u16,
+    item: &mut [u8],
+    walker: &mut Walker,
+    rows: &mut S,
+) -> Result<Kind, AllocError>
+    requires shown { ShowsSome (V.holds version.old) }
+    requires under { is_under name.now origin.now ≡ true }
+    requires none { S.has rows.old [] }
+    requires room { most_item_octets ≤ length item.old }
+    ensures same { version.new ≡ version.old }
+    ensures answer { (zone : Version) → Shows (V.holds version.old) zone → IfOk result (IsGiven (S.has rows.new) (answer origin.now zone name.now rtype)) }
+{
     if let Next::Ends(kind) = step(alloc, version, origin, name, rtype, walker, item, rows)? {
         return Ok(kind);
     }

@@ -6,7 +6,7 @@ use Rattle.std.proofs.lemmas.Bool.{cases_eq}
 use Rattle.std.proofs.lemmas.List.{length-map, take_all}
 use Rattle.std.proofs.lemmas.List.FromFn.{length-range_with_len}
 use Rattle.std.proofs.lemmas.Option.{slice_get_within}
-use Rattle.zone_model.specs.Names.{Name}
+use Rattle.zone_model.specs.Names.{Name, is_under}
 use Rattle.zone_model.specs.Versions.{Version}
 use Rattle.shared_cells.specs.declared.view.TableSize.{TableSize}
 use Rattle.shared_cells.specs.History.{IsPartOf, version_after}
@@ -15,7 +15,7 @@ use Rattle.qp_multi.specs.Operations.{applied}
 use Rattle.qp_multi.specs.declared.index.Index.{Index}
 use Rattle.qp_multi.specs.declared.meaning.Named.{Ghosts}
 use Rattle.qp_multi.specs.declared.pass.Pass.{Pass}
-use Rattle.qp_multi.specs.Passes.{Known, Pinned, first_version, known_at, version_seen}
+use Rattle.qp_multi.specs.Passes.{Known, first_version, known_at, version_seen}
 use Rattle.job_commands.specs.Histories.{BeginsAt, Entries, IsLawful, IsZone, StandsAs, index_at}
 use Rattle.job_commands.specs.Commands.{IsOpenedWith, OpensAt}
 use Rattle.job_commands.proofs.HistoryLaws.{opened_same}
@@ -24,9 +24,8 @@ use Rattle.zone_table.specs.declared.pass.ZonesPass.{ZonesPass}
 use Rattle.zone_table.specs.declared.zones.Zones.{Zones}
 use Rattle.zone_table.specs.Locations.{IsZoneOf}
 use Rattle.zone_table.specs.Notes.{HasLearnt, IsNoteOf, KnowsSame, zones_told}
-use Rattle.zone_table.specs.Passes.{IsPassOf, table_known, zone_known, zones_known}
+use Rattle.zone_table.specs.Passes.{HasLooked, IsPassOf, table_known, zone_known, zones_known}
 use Rattle.zone_table.specs.declared.note.ZonesNote.{ZonesNote}
-use Rattle.zone_table.specs.Tables.{IsAmong}
 use Rattle.zone_table.proofs.Lists.{get_in, mapped_at, some_is}
 use Rattle.zone_table.proofs.PassLaws.{Went, went, went_as, with_zone, zone_seat, zone_told}
 use Rattle.zone_server.specs.Changes.{HappensIn, NoneHas}
@@ -123,7 +122,7 @@ told_of_zone origin opening tells old new version told opened begins shown =
 
 module _ {Y : Type 0} {N : Ghosts Y} {T : Type 0} (served : List Served) (name : Name) (tells : Name → Version → T → Type 0) where
   -- no zone has the name
-  pub no_reply : (old new : ZonesPass Y N) (table : ℕ) → new.zones ≡ old.zones → Pinned IsAmong (table_known old) (table_known new) table → IsZoneOf (origins_of served) (version_seen (table_known new).seen) name None → IsReply served name tells (known_of old) (known_of new) (record { table = table; from = None })
+  pub no_reply : (old new : ZonesPass Y N) (table : ℕ) → new.zones ≡ old.zones → HasLooked (table_known old) (table_known new) table → IsZoneOf (origins_of served) (version_seen (table_known new).seen) name None → IsReply served name tells (known_of old) (known_of new) (record { table = table; from = None })
   no_reply old new table same pinned none = record {
     table = pinned;
     located = none;
@@ -132,7 +131,7 @@ module _ {Y : Type 0} {N : Ghosts Y} {T : Type 0} (served : List Served) (name :
   }
 
   -- a zone has it, and was asked
-  pub replied : (old located : ZonesPass Y N) (table zone : ℕ) (seat next : Pass Y N) (s : Served) (version : ℕ) (told : T) → IsServing served old → located.zones ≡ old.zones → IsPassOf (origins_of served) located → Pinned IsAmong (table_known old) (table_known located) table
+  pub replied : (old located : ZonesPass Y N) (table zone : ℕ) (seat next : Pass Y N) (s : Served) (version : ℕ) (told : T) → IsServing served old → located.zones ≡ old.zones → IsPassOf (origins_of served) located → HasLooked (table_known old) (table_known located) table
       → IsZoneOf (origins_of served) (version_seen (table_known located).seen) name (Some zone) → IsZone s.origin s.opening → slice_get served zone ≡ Some s → Went (origins_of served) located zone next → known_at seat.seat ≡ zone_known located zone
       → IsShown (λ v. tells s.origin v told) (known_at seat.seat) (known_at next.seat) version
       → IsReply served name tells (known_of old) (known_of (with_zone located zone next)) (record { table = table; from = Some (record { zone = zone; version = version; told = told }) })
@@ -150,6 +149,10 @@ module _ {Y : Type 0} {N : Ghosts Y} {T : Type 0} (served : List Served) (name :
         };
         others = λ other n. w.others other n ∙ zones_same served old located same other;
       }
+
+-- a name is at or under the origin of the zone that it is in
+pub lies_under : (origins : List Name) (es : List Entry) (name origin : Name) (zone : ℕ) → IsZoneOf origins es name (Some zone) → slice_get origins zone ≡ Some origin → is_under name origin ≡ true
+lies_under origins es name origin zone is there = ap (is_under name) (sym (some_is is.origin origin (sym is.origin_is ∙ there))) ∙ is.covers.above
 
 -- what is made of a reply
 
@@ -184,7 +187,7 @@ module _ {X Y : Type 0} {N : Ghosts Y} (served : List Served) (zones : Zones X Y
   pub looked : IsServing served located
   looked = serving_table served old located is (pass_out served zones are located pass) same
 
-  module _ {T : Type 0} (name : Name) (tells : Name → Version → T → Type 0) (table : ℕ) (pinned : Pinned IsAmong (table_known old) (table_known located) table) where
+  module _ {T : Type 0} (name : Name) (tells : Name → Version → T → Type 0) (table : ℕ) (looked : HasLooked (table_known old) (table_known located) table) where
     pub nothing_asked : IsZoneOf zones.origins.items (version_seen (table_known located).seen) name None → IsReply served name tells (known_of old) (known_of located) (record { table = table; from = None })
     nothing_asked none = no_reply served name tells old located table same pinned (subst (λ (os : List Name). IsZoneOf os (version_seen (table_known located).seen) name None) are.origins none)
 
@@ -195,7 +198,7 @@ module _ {X Y : Type 0} {N : Ghosts Y} (served : List Served) (zones : Zones X Y
     pub asked_serving : HasGrown (known_at seat.seat) (known_at next.seat) → IsServing served (with_zone located zone next)
     asked_serving grown = serving_went served located zone next looked w (subst (λ (v : Known). IsPartOf (known_at next.seat).seen v.seen) known grown.grows)
 
-    pub asked_reply : {T : Type 0} (name : Name) (tells : Name → Version → T → Type 0) (table : ℕ) → Pinned IsAmong (table_known old) (table_known located) table → (origin : Name) → slice_get zones.origins.items zone ≡ Some origin
+    pub asked_reply : {T : Type 0} (name : Name) (tells : Name → Version → T → Type 0) (table : ℕ) → HasLooked (table_known old) (table_known located) table → (origin : Name) → slice_get zones.origins.items zone ≡ Some origin
         → IsZoneOf zones.origins.items (version_seen (table_known located).seen) name (Some zone) → (version : ℕ) (told : T) → IsShown (λ v. tells origin v told) (known_at seat.seat) (known_at next.seat) version
         → IsReply served name tells (known_of old) (known_of (with_zone located zone next)) (record { table = table; from = Some (record { zone = zone; version = version; told = told }) })
     asked_reply name tells table pinned origin at deepest version told shown =

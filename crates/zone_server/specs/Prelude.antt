@@ -3,7 +3,7 @@ pub use Rattle.std.specs.List.{list_any}
 pub use Rattle.zone_model.specs.DataWords.{data_type}
 pub use Rattle.zone_model.specs.Lines.{lines_of}
 pub use Rattle.zone_model.specs.MasterFile.{zone_of}
-pub use Rattle.zone_model.specs.Names.{Name, same_name}
+pub use Rattle.zone_model.specs.Names.{Name, is_under, same_name}
 pub use Rattle.zone_model.specs.Records.{item_limit}
 pub use Rattle.master_file.specs.Rows.{CanBeDumped}
 pub use Rattle.zone_text.specs.Views.{Reads}

@@ -5,10 +5,10 @@ use Rattle.zone_model.specs.Names.{Name}
 use Rattle.zone_model.specs.Versions.{Version}
 use Rattle.shared_cells.specs.History.{IsPartOf}
 use Rattle.shared_cells.specs.Views.{with_pinned}
-use Rattle.qp_multi.specs.Passes.{Known, Pinned, first_version, version_seen}
+use Rattle.qp_multi.specs.Passes.{Known, first_version, version_seen}
 use Rattle.job_commands.specs.Histories.{Commit, Entries, IsLawful, IsZone, StandsAs, index_at}
 use Rattle.zone_table.specs.Locations.{IsZoneOf}
-use Rattle.zone_table.specs.Tables.{IsAmong}
+use Rattle.zone_table.specs.Passes.{HasLooked}
 use Rattle.zone_server.specs.Homes.{Served}
 use Rattle.zone_server.specs.Servings.{ServerKnown, of_zone, origins_of}
 use Rattle.zone_server.specs.declared.reply.FromZone.{FromZone}
@@ -44,7 +44,7 @@ reply_map f r = record { table = r.table; from = option_map (λ x. record { zone
 -- The reply to a question for a name: of the zone that the table's version has for it, and of that zone's version what is told. Of
 -- each other zone the pass knows what it knew.
 pub record IsReply {T : Type 0} (served : List Served) (name : Name) (tells : Name → Version → T → Type 0) (old new : ServerKnown) (r : Reply T) : Type 0 where
-  pub table : Pinned IsAmong old.table new.table r.table
+  pub table : HasLooked old.table new.table r.table
   pub located : IsZoneOf (origins_of served) (version_seen new.table.seen) name (option_map (λ (f : FromZone T). f.zone) r.from)
   pub from_zone : IfSome r.from (IsFrom served tells old new)
   pub others : (zone : ℕ) → IfSome r.from (λ f. zone ≢ f.zone) → of_zone new zone ≡ of_zone old zone

@@ -1,7 +1,7 @@
 //! Questions.
-ghost use Rattle.std.specs.Prelude.{◌≡◌, [], IfOk};
+ghost use Rattle.std.specs.Prelude.{◌≡◌, [], true, IfOk};
 ghost use Rattle.zone_server.specs.Prelude.{AreServing, HasAsked, IsGiven, IsHere, IsReply, IsServing, IsShown};
-ghost use Rattle.zone_server.specs.Prelude.{answer, known_at, known_of, reply_map};
+ghost use Rattle.zone_server.specs.Prelude.{answer, is_under, known_at, known_of, reply_map};
 
 use crate::home::Home;
 use crate::reply::{FromZone, Reply};
@@ -11,7 +11,7 @@ use job_commands::ZoneLaw;
 use qp_multi::{Index, Named, Pass};
 use std::alloc::{AllocError, Global};
 use trie_read::Reading;
-use zone_answer::{Kind, RowSink, Rows, Scratch, answer_into};
+use zone_answer::{Kind, RowSink, Rows, Scratch, answer_under};
 use zone_table::{Zones, ZonesPass};
 
 /// An answer: its kind, and the records that it gives.
@@ -28,7 +28,7 @@ pub(crate) struct Shown<T> {
     pub told: T,
 }
 
-// Asks the current version of a zone. It is pinned meanwhile.
+// Asks the current version of a zone for a name at or under its origin. It is pinned meanwhile.
 fn ask_index<N: Named, S: RowSink>(
     alloc: Global,
     index: &Index<ZoneLaw, N>,
@@ -40,6 +40,7 @@ fn ask_index<N: Named, S: RowSink>(
     rows: &mut S,
 ) -> Result<Shown<Kind>, AllocError>
     requires pass { IsHere index.now.place pass.old }
+    requires under { is_under name.now origin.now ≡ true }
     requires none { S.has rows.old [] }
     ensures asks { HasAsked pass.old pass.new }
     ensures shown { IfOk result (λ s. IsShown (λ zone. IsGiven (S.has rows.new) (answer origin.now zone name.now rtype) s.told)
@@ -47,7 +48,7 @@ fn ask_index<N: Named, S: RowSink>(
 {
     let mut query = pass.query(index);
     let version = query.version();
-    let told = answer_into(
+    let told = answer_under(
         alloc,
         &mut query,
         origin,

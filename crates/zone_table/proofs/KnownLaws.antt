@@ -89,15 +89,6 @@ pinned_left lawful old pinned new p number r left =
       pass = ap (λ (v : Known). v.pass) left ∙ r.pass;
     }
 
--- and knows of the same opening
-pub pinned_opening : (lawful : List Entry → List Entry → Type 0) (old new : Known) (number : ℕ) → is_told old.seen.opening ≡ true → Pinned lawful old new number → first_version new.seen ≡ first_version old.seen
-pinned_opening lawful old new number told r = opened_same new.seen old.seen told r.grows
-
 -- a version of a table has some of its origins
 pub part_of : (origins : List Name) (first later : List Entry) → IsTable origins first → IsAmong first later → IsPart origins later
 part_of origins first later table among = record { rising = among.rising; only = λ e i. table.only e (among.each e i) }
-
--- so has what was pinned
-pub pinned_part : (origins : List Name) (old new : Known) (number : ℕ) → is_told old.seen.opening ≡ true → IsTable origins (first_version old.seen) → Pinned IsAmong old new number → IsPart origins (version_seen new.seen)
-pinned_part origins old new number told table r =
-    part_of origins (first_version new.seen) (version_seen new.seen) (subst (IsTable origins) (sym (pinned_opening IsAmong old new number told r)) table) r.good

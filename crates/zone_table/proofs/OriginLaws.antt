@@ -4,6 +4,7 @@ use Rattle.std.proofs.Math.Seq.{drop-append_seam}
 use Rattle.std.specs.List.{AllByRecursion, Contains}
 use Rattle.zone_model.specs.Names.{Label, Name, IsName, IsLabel, ancestor, is_under, wire}
 use Rattle.zone_model.proofs.OrderLemmas.{ends_under, under_ends}
+use Rattle.dns_name.specs.Spelling.{IsSpelled, Spells}
 use Rattle.dns_name.proofs.WireLemmas.{spelled_once}
 use Rattle.trie_model.specs.Keys.{Entry}
 use Rattle.zone_table.specs.Locations.{Covers, IsZoneOf}
@@ -66,3 +67,8 @@ module _ (origins : List Name) (es : List Entry) (attached : List Bool) (are : A
     covers = below label name z.origin z.covers;
     deepest = λ other c covers. z.deepest other c (above label name other covers (differs (label ∷ name) none other c covers));
   }
+
+-- What is left of a name's octets on the way upwards: the zone of the name that it spells is the zone of the whole.
+pub record Passed (origins : List Name) (attached : List Bool) (octets rest : List ℕ) : Type 0 where
+  pub spelled : IsSpelled rest
+  pub zone_on : (es : List Entry) (name : Name) → Spells octets name → AreAttached origins es attached → (zone : Option ℕ) → ((left : Name) → Spells rest left → IsZoneOf origins es left zone) → IsZoneOf origins es name zone

@@ -1,13 +1,15 @@
 -- What a pass of the zones has: a seat at the table and one at each zone.
-use Rattle.std.specs.Prelude.{◌≡◌, ℕ, ◌<◌, List, length, map, All, IfSome, IsSome, None, slice_get, unwrap_or}
+use Rattle.std.specs.Prelude.{◌≡◌, ◌⊎◌, ℕ, ◌<◌, List, length, map, All, IfSome, IsSome, None, slice_get, unwrap_or}
 use Rattle.std.specs.List.{range_with_len}
 use Rattle.zone_model.specs.Names.{Name}
+use Rattle.shared_cells.specs.History.{IsPartOf}
+use Rattle.shared_cells.specs.Views.{with_pinned}
 use Rattle.qp_multi.specs.declared.meaning.Named.{Ghosts}
 use Rattle.qp_multi.specs.declared.pass.Pass.{Pass}
-use Rattle.qp_multi.specs.Passes.{Known, known_at, first_version}
+use Rattle.qp_multi.specs.Passes.{Known, known_at, first_version, version_seen}
 use Rattle.zone_table.specs.declared.pass.ZonesPass.{ZonesPass}
 use Rattle.zone_table.specs.Remembered.{Remembers}
-use Rattle.zone_table.specs.Tables.{IsTable}
+use Rattle.zone_table.specs.Tables.{IsAmong, IsTable}
 
 -- No query and no transaction of it was forgotten, so that each seat is in its place. It knows of the table's opening, and
 -- what it remembers is of a version that it has seen.
@@ -18,6 +20,14 @@ pub record IsPassOf {X : Type 0} {N : Ghosts X} (origins : List Name) (p : Zones
   pub zones_here : All (λ z. IsSome z.seat) p.zones.items
   pub zone_places : map (λ z. z.place) p.zones.items ≡ range_with_len 1 (length origins)
   pub remembers : IfSome p.remembered.version (λ number. Remembers origins (known_at p.table.seat).seen number p.remembered.attached)
+
+-- A pass of the table has seen this version, the last that it has seen, and had seen no more before. It has published nothing meanwhile, and has
+-- pinned the version or nothing.
+pub record HasLooked (old new : Known) (number : ℕ) : Type 0 where
+  pub version : number ≡ length new.seen.history
+  pub grows : IsPartOf new.seen old.seen
+  pub good : IsAmong (first_version new.seen) (version_seen new.seen)
+  pub pass : (new.pass ≡ old.pass) ⊎ (new.pass ≡ with_pinned old.pass number)
 
 -- no seat is away, and they are of the indexes at these places
 pub record StandAt {X : Type 0} {N : Ghosts X} (places : List ℕ) (passes : List (Pass X N)) : Type 0 where

@@ -18,6 +18,7 @@ impl<L: Law, N: Named> Zones<L, N> {
     }
 
     // The zone that is attached and has just this origin.
+    #[inline]
     fn zone_at(&self, attached: &[bool; 16], octets: &[u8]) -> Option<u32>
         requires { 0 < length octets.now }
         ensures found { IfSome result (IsAt self.now.origins.items attached.now octets.now) }
@@ -38,10 +39,13 @@ impl<L: Law, N: Named> Zones<L, N> {
         ensures { (es : List Entry) (name : Labels) → Spells octets.now name → AreAttached self.now.origins.items es attached.now
             → IsZoneOf self.now.origins.items es name result }
     {
-        if let Some(zone) = self.zone_at(attached, octets) {
-            return Some(zone);
+        let mut rest = octets;
+        loop {
+            if let Some(zone) = self.zone_at(attached, rest) {
+                return Some(zone);
+            }
+            let (_, above) = first_label(rest)?;
+            rest = above;
         }
-        let (_, above) = first_label(octets)?;
-        self.deepest(attached, above)
     }
 }

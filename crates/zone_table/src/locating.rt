@@ -1,6 +1,6 @@
 //! Where a name is, and how many zones are attached.
 ghost use Rattle.std.specs.Prelude.{◌≡◌, length};
-ghost use Rattle.zone_table.specs.Prelude.{known_at, version_seen, Pinned, IsAmong, IsZoneOf, IsPassOf, AreAttached};
+ghost use Rattle.zone_table.specs.Prelude.{known_at, version_seen, Pinned, IsAmong, IsZoneOf, IsPassOf, HasLooked, AreAttached};
 
 use crate::pass::ZonesPass;
 use crate::zones::Zones;
@@ -26,8 +26,9 @@ pub struct Attached {
 }
 
 impl<N: Named> ZonesPass<N> {
-    // Looks which zones are attached in the version that is current at some moment of the call, and gives its number.
-    fn look<L: Law>(&mut self, zones: &Zones<L, N>) -> u64
+    // Looks which zones are attached in the version that is current at some moment of the call, and gives its number. It pins it for that.
+    #[inline(never)]
+    fn look_anew<L: Law>(&mut self, zones: &Zones<L, N>) -> u64
         requires pass { IsPassOf zones.now.origins.items self.old }
         ensures pass { IsPassOf zones.now.origins.items self.new }
         ensures others { self.new.zones ≡ self.old.zones }
@@ -39,13 +40,29 @@ impl<N: Named> ZonesPass<N> {
         query.version()
     }
 
+    // The same, without a pin where that version is the one that is remembered.
+    #[inline]
+    fn look<L: Law>(&mut self, zones: &Zones<L, N>) -> u64
+        requires pass { IsPassOf zones.now.origins.items self.old }
+        ensures pass { IsPassOf zones.now.origins.items self.new }
+        ensures others { self.new.zones ≡ self.old.zones }
+        ensures version { HasLooked (known_at self.old.table.seat) (known_at self.new.table.seat) result }
+        ensures attached { AreAttached zones.now.origins.items (version_seen (known_at self.new.table.seat).seen) self.new.remembered.attached }
+    {
+        let version = self.table.see(&zones.table);
+        if self.remembered.version == Some(version) {
+            return version;
+        }
+        self.look_anew(zones)
+    }
+
     /// Finds the zone that a name is in: the one with the deepest origin at or above it, in the version of the table that is current at some moment of
     /// the call, and no older than what this pass had seen.
     pub fn locate<L: Law>(&mut self, zones: &Zones<L, N>, name: &Name) -> Located
         requires pass { IsPassOf zones.now.origins.items self.old }
         ensures pass { IsPassOf zones.now.origins.items self.new }
         ensures others { self.new.zones ≡ self.old.zones }
-        ensures version { Pinned IsAmong (known_at self.old.table.seat) (known_at self.new.table.seat) result.version }
+        ensures version { HasLooked (known_at self.old.table.seat) (known_at self.new.table.seat) result.version }
         ensures zone { IsZoneOf zones.now.origins.items (version_seen (known_at self.new.table.seat).seen) name.now result.zone }
     {
         let version = self.look(zones);

@@ -1,5 +1,5 @@
 -- How a worker's run goes on at the table.
-use Rattle.std.proofs.Common.{◌≡◌, ◌∙◌, inl, inr, ℕ, ◌+◌, ◌-◌, ◌<◌, ◌≤◌, Bool, true, false, cond, eqb, List, [], ◌∷◌, ◌++◌, length, Option, Some, None, refl, sym, ap, subst, arith, length-append}
+use Rattle.std.proofs.Common.{◌≡◌, ◌∙◌, ◌⊎◌, inl, inr, ⊎_elim, ℕ, ◌+◌, ◌-◌, ◌<◌, ◌≤◌, Bool, true, false, cond, eqb, List, [], ◌∷◌, ◌++◌, length, Option, Some, None, refl, sym, ap, subst, arith, length-append}
 use Rattle.std.specs.List.{AllByRecursion, slice_get}
 use Rattle.std.specs.Option.{option_map}
 use Rattle.std.proofs.lemmas.Bool.{cases_eq}
@@ -282,12 +282,18 @@ module _ (b : TableOpenedWith) (number : ℕ) (v w : Known) (done : List model.C
     zone_is b.origins apart (attached table) (version_seen w.seen) (λ zone origin there. attached_last attached are table last zone origin there) name (option_map (λ s. s.zone) shown) located,
   )
 
+-- a pass that has looked is the one that it was, but for what it has pinned
+looker : (v w : Known) (own : Own) (table : ℕ) → v.pass ≡ Some own → (w.pass ≡ v.pass) ⊎ (w.pass ≡ with_pinned v.pass table) → (now : Own) × (w.pass ≡ Some now) × (now.number ≡ own.number) × (now.entries ≡ own.entries)
+looker v w own table is = ⊎_elim (λ same. (own, same ∙ is, refl, refl))
+    (λ pinned. (record own { pinned = own.pinned ++ table ∷ [] }, pinned ∙ ap (λ (o : Option Own). with_pinned o table) is, refl, refl))
+
 pub table_next : (b : TableOpenedWith) (number : ℕ) (v w : Known) (done : List model.CommandEnd) (d : model.CommandEnd) → is_told v.seen.opening ≡ true → TableWork b number v done → TableGoes b.origins d v w → TableWork b number w (done ++ d ∷ [])
 table_next b number v w done (model.Got name rtype table shown) told work go =
     let p = go.0 in
+    let l = looker v w work.asker table work.is_asker p.pass in
     table_stays b number v w done (model.Got name rtype table shown) told work p.grows refl (let e = p.version in omega (arith, e))
     (λ apart attached are. got_ends b number v w done told work p.grows name rtype table shown p.version go.1 apart attached are)
-    (record work.asker { pinned = work.asker.pinned ++ table ∷ [] }) (p.pass ∙ ap (λ (o : Option Own). with_pinned o table) work.is_asker) refl refl
+    l.0 l.1 l.2 l.3
 table_next b number v w done (model.Ran zone x asked ending outcome) told work go =
     subst (λ (k : Known). TableWork b number k (done ++ model.Ran zone x asked ending outcome ∷ [])) (sym go)
     (table_stays b number v v done (model.Ran zone x asked ending outcome) told work (part_same v.seen told) refl tt (λ apart attached are. tt) work.asker work.is_asker refl refl)

@@ -11,7 +11,7 @@ use Rattle.qp_multi.specs.declared.meaning.Named.{Ghosts}
 use Rattle.qp_multi.specs.declared.meaning.Operation.{Operation}
 use Rattle.qp_multi.specs.declared.meaning.Operation.TheVariants.{Insert, Delete}
 use Rattle.qp_multi.specs.Operations.{applied}
-use Rattle.qp_multi.specs.Passes.{Known, Pinned, first_version, version_seen}
+use Rattle.qp_multi.specs.Passes.{Known, first_version, version_seen}
 use Rattle.job_model.specs.Outcomes.{last_version}
 use Rattle.job_commands.specs.Histories.{OpenedWith, Commit}
 use Rattle.job_commands.specs.Commands.{IsOpenedWith}
@@ -24,8 +24,8 @@ use Rattle.zones_model.specs.declared.TableCause.TheVariants.{Exists, Missing, S
 use Rattle.zone_table.specs.declared.zones.Zones.{Zones}
 use Rattle.zone_table.specs.declared.pass.ZonesPass.{ZonesPass}
 use Rattle.zone_table.specs.Locations.{IsZoneOf}
-use Rattle.zone_table.specs.Passes.{IsPassOf, table_known, zone_known}
-use Rattle.zone_table.specs.Tables.{IsAmong, IsAttached, entry_for}
+use Rattle.zone_table.specs.Passes.{HasLooked, IsPassOf, table_known, zone_known}
+use Rattle.zone_table.specs.Tables.{IsAttached, entry_for}
 use Rattle.zones_report.specs.Outcomes.{IsOf, done_view}
 use Rattle.zones_report.specs.declared.outcomes.CommandEnd.{CommandEnd}
 use Rattle.zones_threads.specs.Sites.{Site, IsSite}
@@ -96,7 +96,7 @@ pub record ChangeRan (origins : List Name) (attaches : Bool) (zone table : ℕ) 
 
 -- What a command was to the table. A question was put to a version of it, and shows the zone that this has for the name.
 abbrev pub TableGoes : List Name → model.CommandEnd → Known → Known → Type 0
-TableGoes origins (model.Got name rtype table shown) old new = Pinned IsAmong old new table × IsZoneOf origins (version_seen new.seen) name (option_map (λ s. s.zone) shown)
+TableGoes origins (model.Got name rtype table shown) old new = HasLooked old new table × IsZoneOf origins (version_seen new.seen) name (option_map (λ s. s.zone) shown)
 TableGoes origins (model.Ran zone _ asked ending outcome) old new = new ≡ old
 TableGoes origins (model.Attached zone table refused) old new = ChangeRan origins true zone table refused old new
 TableGoes origins (model.Detached zone table refused) old new = ChangeRan origins false zone table refused old new

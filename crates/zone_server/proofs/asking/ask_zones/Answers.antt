@@ -4,7 +4,7 @@ use Rattle.zone_answer.specs.Parts.{IsGiven}
 use Rattle.qp_multi.specs.Passes.{version_seen}
 use Rattle.zone_table.specs.Locations.{IsZoneOf}
 use Rattle.zone_table.specs.Passes.{table_known}
-use Rattle.zone_server.proofs.ServingLaws.{asked_reply, asked_serving, looked, nothing_asked, pass_in}
+use Rattle.zone_server.proofs.ServingLaws.{asked_reply, asked_serving, lies_under, looked, nothing_asked, pass_in}
 use Rattle.zone_server.proofs.asking.ask_zones.Goals as goal
 
 pub locate-located-requires : goal.locate-located-requires
@@ -18,6 +18,11 @@ returns-in_default-clause-reply g c =
     nothing_asked g.H.Home.zones c.args.zones.now c.requires.serves.zones c.args.pass.now c.locate-located.new.self c.requires.serves.pass c.locate-located.ensures.others c.locate-located.ensures.pass
     c.args.name.now (λ origin zone. IsGiven (g.S.RowSink.has c.args.rows.now) (answer origin zone c.args.name.now c.args.rtype)) c.locate-located.result.version c.locate-located.ensures.version
     (subst (IsZoneOf c.args.zones.now.origins.items (version_seen (table_known c.locate-located.new.self).seen) c.args.name.now) c.in_default.is c.locate-located.ensures.zone)
+
+pub ask_index-shown-requires-clause-under : goal.ask_index-shown-requires-clause-under
+ask_index-shown-requires-clause-under g c =
+    lies_under c.args.zones.now.origins.items (version_seen (table_known c.locate-located.new.self).seen) c.args.name.now c.origin-origin.result.now c.in-Some.zone
+    (subst (IsZoneOf c.args.zones.now.origins.items (version_seen (table_known c.locate-located.new.self).seen) c.args.name.now) c.in-Some.is c.locate-located.ensures.zone) c.origin-origin.ensures
 
 pub returns-in_err-shown-clause-pass : goal.returns-in_err-shown-clause-pass
 returns-in_err-shown-clause-pass g c =

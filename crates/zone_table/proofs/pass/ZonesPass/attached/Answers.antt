@@ -14,8 +14,8 @@ returns-clause-pass g c =
     let same = c.count.ensures.same ∙ c.version.ensures.same in
     let left : known_at new.seat ≡ with_progress q.seat.place.me.0 progress.Idle = c.drop-query.ensures.left ∙ ap (λ x. with_progress x.seat.place.me.0 progress.Idle) same in
     let pinned = pinned_left IsAmong (known_at c.args.self.now.table.seat) q.seat.place.me.0 (known_at new.seat) progress.Idle q.seat.version c.query-query.ensures.pinned left in
-    asked c.args.zones.now.origins.items c.args.self.now c.requires.pass new q.seat.version c.drop-query.ensures.here
-    (c.drop-query.ensures.place ∙ ap (λ x. x.place) same ∙ c.query-query.ensures.place ∙ c.requires.pass.table_place) pinned
+    asked c.args.zones.now.origins.items c.args.self.now c.requires.pass new c.drop-query.ensures.here
+    (c.drop-query.ensures.place ∙ ap (λ x. x.place) same ∙ c.query-query.ensures.place ∙ c.requires.pass.table_place) pinned.grows
 
 pub returns-clause-version : goal.returns-clause-version
 returns-clause-version g c =
