@@ -1,7 +1,7 @@
 #!/usr/bin/env bash
 # Counts the instructions of a question at an index alone, at one that the table of zones finds, and through `zone_server`, with valgrind's
 # callgrind: the difference between 20,000 and 10,000 of them, at a zone of 10,000 hosts, with the records counted. Ends with 1 where the server's is
-# over 100 dearer than the table's. The program is built by tools/native.py, which proves nothing, in a copy of the crates: that takes some minutes.
+# over 100 dearer than at the index alone. The program is built by tools/native.py, which proves nothing, in a copy of the crates: that takes some minutes.
 # Usage: bench/asked.sh [PROGRAM], where PROGRAM is one that was built before. Changes nothing but files in a temporary folder.
 set -eu
 here=$(cd "$(dirname "$0")" && pwd)
@@ -43,4 +43,4 @@ alone=$(counted 0)
 table=$(counted 1)
 server=$(counted 2)
 printf 'a question at an index: %s instructions, by the table of zones: %s, through a server: %s\n' "$alone" "$table" "$server"
-[ $((server - table)) -le 100 ]
+[ $((server - alone)) -le 100 ]
