@@ -151,7 +151,7 @@ module _ {Y : Type 0} {N : Ghosts Y} {T : Type 0} (served : List Served) (name :
       }
 
 -- a name is at or under the origin of the zone that it is in
-pub lies_under : (origins : List Name) (es : List Entry) (name origin : Name) (zone : ℕ) → IsZoneOf origins es name (Some zone) → slice_get origins zone ≡ Some origin → is_under name origin ≡ true
+pub lies_under : (origins : List Name) (es : Entries) (name origin : Name) (zone : ℕ) → IsZoneOf origins es name (Some zone) → slice_get origins zone ≡ Some origin → is_under name origin ≡ true
 lies_under origins es name origin zone is there = ap (is_under name) (sym (some_is is.origin origin (sym is.origin_is ∙ there))) ∙ is.covers.above
 
 -- what is made of a reply
@@ -187,9 +187,9 @@ module _ {X Y : Type 0} {N : Ghosts Y} (served : List Served) (zones : Zones X Y
   pub looked : IsServing served located
   looked = serving_table served old located is (pass_out served zones are located pass) same
 
-  module _ {T : Type 0} (name : Name) (tells : Name → Version → T → Type 0) (table : ℕ) (looked : HasLooked (table_known old) (table_known located) table) where
+  module _ {T : Type 0} (name : Name) (tells : Name → Version → T → Type 0) (table : ℕ) (sees : HasLooked (table_known old) (table_known located) table) where
     pub nothing_asked : IsZoneOf zones.origins.items (version_seen (table_known located).seen) name None → IsReply served name tells (known_of old) (known_of located) (record { table = table; from = None })
-    nothing_asked none = no_reply served name tells old located table same pinned (subst (λ (os : List Name). IsZoneOf os (version_seen (table_known located).seen) name None) are.origins none)
+    nothing_asked none = no_reply served name tells old located table same sees (subst (λ (os : List Name). IsZoneOf os (version_seen (table_known located).seen) name None) are.origins none)
 
   module _ (zone : ℕ) (seat next : Pass Y N) (value : slice_get located.zones.items zone ≡ Some seat) (here : IsSome next.seat) (place : next.place ≡ seat.place) (known : known_at seat.seat ≡ zone_known located zone) where
     w : Went (origins_of served) located zone next

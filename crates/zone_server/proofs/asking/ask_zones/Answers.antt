@@ -19,8 +19,8 @@ returns-in_default-clause-reply g c =
     c.args.name.now (λ origin zone. IsGiven (g.S.RowSink.has c.args.rows.now) (answer origin zone c.args.name.now c.args.rtype)) c.locate-located.result.version c.locate-located.ensures.version
     (subst (IsZoneOf c.args.zones.now.origins.items (version_seen (table_known c.locate-located.new.self).seen) c.args.name.now) c.in_default.is c.locate-located.ensures.zone)
 
-pub ask_index-shown-requires-clause-under : goal.ask_index-shown-requires-clause-under
-ask_index-shown-requires-clause-under g c =
+pub ask_index-requires-clause-under : goal.ask_index-requires-clause-under
+ask_index-requires-clause-under g c =
     lies_under c.args.zones.now.origins.items (version_seen (table_known c.locate-located.new.self).seen) c.args.name.now c.origin-origin.result.now c.in-Some.zone
     (subst (IsZoneOf c.args.zones.now.origins.items (version_seen (table_known c.locate-located.new.self).seen) c.args.name.now) c.in-Some.is c.locate-located.ensures.zone) c.origin-origin.ensures
 
