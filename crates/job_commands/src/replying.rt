@@ -1,13 +1,13 @@
 //! Questions to one version.
 ghost use Rattle.std.specs.Prelude.{◌≡◌, ◌≤◌, ◌++◌, length, IfOk, OnOk, codes};
 ghost use Rattle.job_commands.specs.Prelude.{all_rows, most_item_octets, Version, find, Shows, ShowsSome};
-ghost use Rattle.job_commands.specs.Prelude.{found_text, reply_of, reply_text, respond, response_text, rows_text, size_text, node_count};
+ghost use Rattle.job_commands.specs.Prelude.{answer, answer_text, found_text, reply_of, reply_text, respond, response_text, rows_text, size_text, node_count};
 
 use crate::scratch::WorkerScratch;
 use dns_name::Name;
 use job_model::Question;
 use job_report::{
-    PrintedRows, push_answer, push_found, push_list, push_response, push_rows, push_size,
+    PrintedRows, ReplyText, push_answer, push_found, push_list, push_response, push_rows, push_size,
 };
 use std::alloc::{AllocError, Global};
 use trie_read::Reading;
@@ -60,6 +60,36 @@ fn push_around<V: Reading>(
     push_found(out, &found)
 }
 
+// Pushes the answer to a name and a type.
+fn push_asked<V: Reading>(
+    alloc: Global,
+    origin: &Name,
+    version: &mut V,
+    name: &Name,
+    rtype: u16,
+    scratch: &mut Scratch,
+    rows: &mut PrintedRows,
+    out: &mut Vec<u8>,
+) -> Result<(), AllocError>
+    requires { ShowsSome (V.holds version.old) }
+    ensures same { version.new ≡ version.old }
+    ensures reply { (zone : Version) → Shows (V.holds version.old) zone
+        → OnOk result (out.new.items ≡ out.old.items ++ answer_text (answer origin.now zone name.now rtype)) }
+{
+    rows.clear();
+    let kind = answer_into(
+        alloc,
+        version,
+        origin,
+        name,
+        rtype,
+        &mut scratch.item,
+        &mut scratch.walker,
+        rows,
+    )?;
+    push_answer(out, kind, rows)
+}
+
 // Pushes the response for a name and a type.
 #[inline(never)]
 fn push_whole<V: Reading>(
@@ -99,18 +129,8 @@ fn push_reply<V: Reading>(
 {
     match question {
         Question::Get(name, rtype) => {
-            rows.rows.clear();
-            let kind = answer_into(
-                alloc,
-                version,
-                origin,
-                name,
-                *rtype,
-                &mut scratch.item,
-                &mut scratch.walker,
-                &mut rows.rows,
-            )?;
-            push_answer(out, kind, &rows.rows)
+            let rows = &mut rows.rows;
+            push_asked(alloc, origin, version, name, *rtype, scratch, rows, out)
         }
         Question::Respond(name, rtype) => {
             push_whole(alloc, origin, version, name, *rtype, scratch, rows, out)
@@ -136,11 +156,11 @@ pub fn reply_text<V: Reading>(
     version: &mut V,
     question: &Question,
     room: &mut WorkerScratch,
-) -> Result<Vec<u8>, AllocError>
+) -> Result<ReplyText, AllocError>
     requires { ShowsSome (V.holds version.old) }
     ensures same { version.new ≡ version.old }
     ensures reply { (zone : Version) → Shows (V.holds version.old) zone
-        → IfOk result (λ text. text.items ≡ reply_text (reply_of origin.now zone question.now)) }
+        → IfOk result (λ text. text ≡ reply_text (reply_of origin.now zone question.now)) }
 {
     room.text.clear();
     push_reply(
@@ -152,7 +172,5 @@ pub fn reply_text<V: Reading>(
         &mut room.rows,
         &mut room.text,
     )?;
-    let mut text = Vec::with_capacity(alloc, room.text.len())?;
-    text.extend_from_slice(&room.text)?;
-    Ok(text)
+    ReplyText::of(alloc, &room.text)
 }

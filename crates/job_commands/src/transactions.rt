@@ -1,6 +1,6 @@
 //! Transactions.
 ghost use Rattle.std.specs.Prelude.{◌≡◌, IsSomeAnd, IfOk, IfErr};
-ghost use Rattle.job_commands.specs.Prelude.{Committed, Edited, EndsBlock, IsHere, IsOfTheSame, MayTransact, NoNumber, RanAs, RanByWeight, Refused};
+ghost use Rattle.job_commands.specs.Prelude.{Committed, Edited, EndsBlock, IsHere, IsOfSame, MayTransact, NoNumber, RanAs, RanByWeight, Refused};
 ghost use Rattle.job_commands.specs.Prelude.{RunsBlock, StoppedBy, WorksOnSome, asked_view, ended_view, known_at, table_size, versions_in};
 
 use crate::law::ZoneLaw;
@@ -80,8 +80,7 @@ fn edit<N: Named, K>(
     buffers: &mut ItemBuffers,
 ) -> Result<(), EditRefusal>
     requires { IsSomeAnd transaction.old.locked.now.working WorksOnSome }
-    ensures same_reference { IsOfTheSame transaction.old transaction.new }
-    ensures place { transaction.new.locked.now.place ≡ transaction.old.locked.now.place }
+    ensures of_same { IsOfSame transaction.old transaction.new }
     ensures executes { Edited origin.now (asked_view block.now) result transaction.old.locked.now.working transaction.new.locked.now.working }
 {
     execute(

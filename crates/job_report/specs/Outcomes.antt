@@ -51,7 +51,7 @@ versions_made origin zone workers os = version_at origin zone (all_pairs (job_pa
 
 -- the text of the reply that is wanted
 abbrev pub Replies : replies.Reply → Told → Type 0
-Replies wanted (told.Reply text) = text.items ≡ reply_text wanted
+Replies wanted (told.Reply text) = text ≡ reply_text wanted
 Replies wanted told.Held = ⊥
 Replies wanted told.Released = ⊥
 Replies wanted told.Committed = ⊥
@@ -102,7 +102,7 @@ AllTell origin set (w ∷ ws) (o ∷ os) = EachTells origin set w o.list.items �
 -- ---- what is printed
 
 abbrev pub told_text : Told → List ℕ
-told_text (told.Reply text) = text.items
+told_text (told.Reply text) = text
 told_text told.Held = codes "HELD\n"
 told_text told.Released = codes "RELEASED\n"
 told_text told.Committed = ended_text outcomes.Committed

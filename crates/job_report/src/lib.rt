@@ -8,6 +8,7 @@ mod outcomes;
 mod pieces;
 mod printed;
 mod replies;
+mod reply_text;
 mod report;
 mod responses;
 mod summary;
@@ -19,6 +20,7 @@ pub use outcomes::{
 pub use pieces::Pieces;
 pub use printed::{PrintedRows, push_answer, push_rows};
 pub use replies::{push_found, push_list, push_size};
+pub use reply_text::ReplyText;
 pub use report::{append_told, print_fed, print_outcomes, print_report};
 pub use responses::push_response;
 pub use summary::print_summary;

@@ -77,7 +77,7 @@ pub fn push_told(out: &mut Vec<u8>, told: &Told) -> Result<(), AllocError>
     ensures { OnOk result (out.new.items ≡ out.old.items ++ told_text told.now) }
 {
     match told {
-        Told::Reply(text) => out.extend_from_slice(text),
+        Told::Reply(text) => text.push_to(out),
         Told::Held => out.extend_from_slice(b"HELD\n"),
         Told::Released => out.extend_from_slice(b"RELEASED\n"),
         Told::Committed => out.extend_from_slice(b"COMMITTED\n"),

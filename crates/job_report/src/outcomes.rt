@@ -2,6 +2,7 @@
 ghost use Rattle.std.specs.Prelude.{◌≡◌};
 ghost use Rattle.job_report.specs.Prelude.{list_any, is_committed, is_refused, ended_view};
 
+use crate::reply_text::ReplyText;
 use zone_model::Refusal;
 
 /// Why a transaction makes no version.
@@ -19,7 +20,7 @@ pub enum Cause {
 #[derive(Drop)]
 pub enum Told {
     /// The text of a question's reply.
-    Reply(Vec<u8>),
+    Reply(ReplyText),
     /// A snapshot was taken.
     Held,
     /// It was given back.

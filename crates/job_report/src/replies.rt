@@ -3,7 +3,7 @@ ghost use Rattle.std.specs.Prelude.{◌≡◌, ◌++◌, OnOk, codes, decimal};
 ghost use Rattle.job_report.specs.Prelude.{flat_map, count_text};
 ghost use Rattle.job_model.specs.Replies as replies;
 
-use crate::marks::push_marked;
+use crate::marks::push_between;
 use dns_name::Name;
 use std::alloc::AllocError;
 use trie_read::Kind as Presence;
@@ -18,8 +18,7 @@ pub fn push_kind(out: &mut Vec<u8>, kind: &[u8], count: u64) -> Result<(), Alloc
     if count == 0 {
         return out.extend_from_slice(b"\n");
     }
-    out.extend_from_slice(b" ")?;
-    push_marked(out, count, b'\n')
+    push_between(out, b' ', count, b'\n')
 }
 
 fn push_names(out: &mut Vec<u8>, names: &[Name]) -> Result<(), AllocError>

@@ -18,7 +18,7 @@ pub fn append_told(out: &mut Pieces, told: Told) -> Result<(), AllocError>
     ensures { OnOk result (pieces_text out.new ≡ pieces_text out.old ++ told_text told) }
 {
     match told {
-        Told::Reply(text) => out.append(text),
+        Told::Reply(text) => text.append_to(out),
         other => push_told(&mut out.last, &other),
     }
 }

@@ -22,6 +22,7 @@ pub enum Asked {
 }
 
 /// The question that a word asks with its operands; None where it is no such word, or the operands are fewer or more.
+#[inline(always)]
 #[tactic(auto, unfolding(job_model::specs::Questions::asked_of))]
 pub fn asked_of(bytes: &[u8], word: Token, operands: &[Token]) -> Option<Asked>
     requires word { IsPlaced bytes.now word }
@@ -57,7 +58,7 @@ pub fn asked_of(bytes: &[u8], word: Token, operands: &[Token]) -> Option<Asked>
     None
 }
 
-/// A question for the records of a name and a type.
+/// A question for the records of a name and a type. The name is read last, so that it isn't copied over another call.
 pub fn get_of(
     bytes: &[u8],
     origin: &Name,
@@ -68,13 +69,17 @@ pub fn get_of(
     requires rtype { IsPlaced bytes.now rtype }
     ensures { result ≡ asked_view origin.now bytes.now (asked.Get name rtype) }
 {
-    let Some(name) = name_word(bytes, origin, name) else {
+    let number = type_word(bytes, rtype);
+    let Some(text) = name.plain(bytes) else {
         return Err(ScriptKind::BadName);
     };
-    let Some(number) = type_word(bytes, rtype) else {
-        return Err(ScriptKind::BadType);
+    let Ok(name) = Name::read(text, origin) else {
+        return Err(ScriptKind::BadName);
     };
-    Ok(Question::Get(name, number))
+    match number {
+        Some(number) => Ok(Question::Get(name, number)),
+        None => Err(ScriptKind::BadType),
+    }
 }
 
 /// A question for the whole response for a name and a type.

@@ -98,6 +98,7 @@ fn no_tokens(refusal: ZoneRefusal, line: u32) -> JobRefusal
 }
 
 /// The tokens of the line that begins at a place, which lie in memory that is lent, and where the next one begins.
+#[inline(always)]
 pub fn read_line(
     alloc: Global,
     bytes: &[u8],

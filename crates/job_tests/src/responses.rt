@@ -72,7 +72,10 @@ fn responded(
     let mut version = CellReading::new(cells, root, 0);
     let question = Question::Respond(Name::read(name, origin)?, rtype);
     let mut room = WorkerScratch::new(alloc)?;
-    Ok(reply_text(alloc, origin, &mut version, &question, &mut room)?)
+    let text = reply_text(alloc, origin, &mut version, &question, &mut room)?;
+    let mut out = Vec::new(alloc);
+    text.push_to(&mut out)?;
+    Ok(out)
 }
 
 /// How many questions about a zone are answered as is due.

@@ -18,11 +18,6 @@ use Rattle.job_commands.specs.Closings.{Gathers}
 use Rattle.job_commands.proofs.JobLaws.{here, there}
 use Rattle.job_commands.proofs.GatherLaws.{gathers_main, gathers_with, new_split}
 
--- what follows from what is so of a result
-pub map_ok : {A E : Type 0} {P Q : A → Type 0} (r : Result A E) → ((x : A) → P x → Q x) → IfOk r P → IfOk r Q
-map_ok (Ok x) f h = f x h
-map_ok (Err e) f h = tt
-
 -- no worker is left, and of the passes main's alone
 pub gathers_start : {A B : Type 0} (passes front : List A) (asks : A) (known : A → Known) (workers : List B) (view : B → List Command) (s : OpenedWith) (os : List Outcomes) → passes ≡ front ++ asks ∷ [] → length passes ≡ 2 * length workers + 1 → length workers ≡ 0 → os ≡ [] → AreNew s.opening (map known passes)
     → Gathers s (map known passes) (map view workers) os (map known front) (known asks)

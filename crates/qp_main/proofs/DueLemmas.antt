@@ -1,5 +1,5 @@
 -- What is due for an input.
-use Rattle.std.proofs.Common.{◌≡◌, ◌∙◌, ℕ, ◌+◌, Bool, true, false, cond, eqb, leb, List, [], length, Option, Some, None, Result, Ok, Err, IfOk, refl, sym, ap, subst, arith, codes, length-append, append-nil, ◌++◌, ◌<◌, ◌≤◌}
+use Rattle.std.proofs.Common.{◌≡◌, ◌∙◌, ℕ, ◌+◌, Bool, true, false, cond, eqb, leb, List, [], length, Option, Some, None, Result, Ok, Err, refl, sym, ap, subst, arith, codes, length-append, append-nil, ◌++◌, ◌<◌, ◌≤◌}
 use Rattle.std.proofs.lemmas.Bool.Decides.{nat_tests}
 use Rattle.std.specs.Fmt.{decimal}
 use Rattle.std.specs.Io.KnownBytes.{Consumes, IsAtEnd}
@@ -91,10 +91,6 @@ cut_as P Q before now f c = record { status = c.status; text = c.text; is_due = 
 -- nothing was written yet of what is due
 pub nothing_yet : (P : Status → List ℕ → Type 0) (held : Held) → (s : Status) × (text : List ℕ) × P s text → CutShort P held held
 nothing_yet P held due = record { status = due.0; text = due.1; is_due = due.2; grew = (0, omega arith, Grows-nil held) }
-
-pub ok_map : {A E : Type 0} (r : Result A E) {P Q : A → Type 0} → ((x : A) → P x → Q x) → IfOk r P → IfOk r Q
-ok_map (Ok x) f h = f x h
-ok_map (Err e) f h = tt
 
 -- ---- zones that fit
 

@@ -10,7 +10,7 @@ use Rattle.live_session.specs.declared.early.EarlyEnd.TheVariants as early
 use Rattle.live_session.proofs.EndLaws.{nothing_yet}
 use Rattle.job_commands.specs.Calls.{Call}
 use Rattle.command_line.specs.Invocations.{Invocation, Verb, Run, Feed, Check, Make, Dump, Size, Zones, Diff, Live}
-use Rattle.qp_main.specs.Due.{AnswersLines, CutShort, Due, DueGiven, GaveFor, IsWritten, MayBeShort, Written, input_of, is_streamed}
+use Rattle.qp_main.specs.Due.{AnswersLines, CutShort, Due, DueGiven, GaveFor, IsWritten, MakesInput, MayBeShort, Written, input_of, is_streamed}
 use Rattle.qp_main.specs.Heard.{Heard, HeardGiven}
 use Rattle.qp_main.specs.Sessions.{EndsBy, HasLast, IsWhole, LastLine, SaysOf, SaysSession, SessionHolds, SessionRan, WroteLine}
 use Rattle.qp_main.specs.declared.status.Status.{Status}
@@ -211,6 +211,18 @@ IsNoInput (Some bytes) = ⊥
 -- an invocation isn't none
 pub some_not_none : (i : Invocation) → Some i ≡ None → ⊥
 some_not_none i e = let h : Some i ≡ None = e in cc
+
+-- a load's text isn't what is left
+pub not_made : (v : Verb) → ((left : Option (List ℕ)) → input_of v left ≡ left) → MakesInput v → ⊥
+not_made (Make load) same m = subst IsNoInput (sym (same None)) tt
+not_made Run same m = absurd m
+not_made (Feed workers) same m = absurd m
+not_made Check same m = absurd m
+not_made (Live asked) same m = absurd m
+not_made (Dump style) same m = absurd m
+not_made Size same m = absurd m
+not_made Zones same m = absurd m
+not_made (Diff style serial) same m = absurd m
 
 -- all that is left is read before anything is answered
 pub not_lines : (v : Verb) → ((left : Option (List ℕ)) → input_of v left ≡ left) → AnswersLines v → ⊥

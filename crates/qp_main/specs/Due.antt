@@ -16,8 +16,8 @@ use Rattle.job_model.specs.Feeds.{Fed, FedPair, all_numbers, by_worker, fed_comm
 use Rattle.zone_model.specs.declared.ZoneKind.{ZoneKind}
 use Rattle.zone_model.specs.declared.ZoneKind.TheVariants as zone_kind
 use Rattle.job_model.specs.declared.ScriptKind.{ScriptKind}
-use Rattle.job_model.specs.declared.ScriptKind.TheVariants.{NoWorker, BadCommand, BadName, BadType, BadRdata, BadNumber, OpenBlock, NotHeld, AlreadyHeld, TooMany}
 use Rattle.job_model.specs.Loads.{made_text}
+use Rattle.job_model.specs.Sessions.{script_kind_text}
 use Rattle.need_laws.specs.Bounds.{AllFedFindRoom, AllFindRoom, IsSized, IsSizedList}
 use Rattle.zones_model.specs.Commands.{Job as ZonesJob}
 use Rattle.zones_model.specs.Outcomes.{CommandEnd, Last, ZonesLawful, command_of}
@@ -68,18 +68,6 @@ zone_kind_text zone_kind.LongEntry = codes "LongEntry"
 zone_kind_text zone_kind.Memory = codes "Memory"
 zone_kind_text zone_kind.Repeated = codes "Repeated"
 zone_kind_text zone_kind.TooManyZones = codes "TooManyZones"
-
-abbrev pub script_kind_text : ScriptKind → List ℕ
-script_kind_text NoWorker = codes "NoWorker"
-script_kind_text BadCommand = codes "BadCommand"
-script_kind_text BadName = codes "BadName"
-script_kind_text BadType = codes "BadType"
-script_kind_text BadRdata = codes "BadRdata"
-script_kind_text BadNumber = codes "BadNumber"
-script_kind_text OpenBlock = codes "OpenBlock"
-script_kind_text NotHeld = codes "NotHeld"
-script_kind_text AlreadyHeld = codes "AlreadyHeld"
-script_kind_text (TooMany limit) = codes "TooMany"
 
 abbrev pub refusal_text : List ℕ → ℕ → List ℕ → List ℕ
 refusal_text what line kind = what ++ codes " refused line " ++ decimal line ++ codes " " ++ kind ++ codes "\n"

@@ -11,6 +11,7 @@ pub use Rattle.job_model.specs.Commands.{Job as WholeJob}
 pub use Rattle.job_model.specs.Feeds.{passes_fed}
 pub use Rattle.job_model.specs.Outcomes.{passes_for}
 pub use Rattle.job_model.specs.Replies.{size_text}
+pub use Rattle.job_model.specs.Sessions.{script_kind_text}
 pub use Rattle.job_model.specs.Sizes.{trie_entries}
 pub use Rattle.job_script.specs.Prelude.{InTurn, NeedsNoSnapshot, Says, job_view, lines_of, list_view}
 pub use Rattle.job_script.specs.Prelude.{script_lines, script_start, zone_lines}
@@ -29,7 +30,7 @@ pub use Rattle.job_threads.specs.Ready.{CanRunOn}
 pub use Rattle.zones_threads.specs.Sites.{IsSaid}
 pub use Rattle.qp_main.specs.Due.{Answers, Checks, CutShort, Differs, Due, DueUnder, Dumps, EndsLoad, FedAnswers, GaveFor, IsAnswerDue, IsMade, IsUnwritten}
 pub use Rattle.qp_main.specs.Due.{IsWritten, MayBeShort, RefusesScript, Sized, Sizes, Written, ZonesAnswers, input_of}
-pub use Rattle.qp_main.specs.Due.{is_streamed, refusal_text, script_kind_text, streams, zone_kind_text}
+pub use Rattle.qp_main.specs.Due.{is_streamed, refusal_text, streams, zone_kind_text}
 pub use Rattle.qp_main.specs.Faults.{TellsSink, TellsSource}
 pub use Rattle.qp_main.specs.Heard.{FedJobHeard, HasRun, Heard, HeardInput, JobHeard, ListHeard, WhereRun, ZonesJobHeard}
 pub use Rattle.qp_main.specs.Due.{AnswersLines, IsSession}
@@ -40,7 +41,7 @@ pub use Rattle.qp_main.specs.Needs.{AreNeedsOf, chunks_text, needs_text}
 pub use Rattle.qp_main.specs.Opens.{AreAllItems, AreItemsOf, CanBeHandedOut, CanHaveTables}
 pub use Rattle.qp_main.specs.Saids.{IsRead, second_said, zone_said}
 pub use Rattle.qp_main.specs.Scripts.{AreOrigins, IsScriptOver, IsText}
-pub use Rattle.qp_main.specs.Serving.{EndsReading, EndsRun, HearsRun, IsInput, IsLoad, RunsSession, ServesDue, ServesLoad, WritesDue}
+pub use Rattle.qp_main.specs.Serving.{EndsRun, HearsRun, IsInput, IsLoad, RunsSession, ServesDue, ServesLoad, WritesDue}
 pub use Rattle.qp_main.specs.Stops.{IsStop, JobStops, ListStops, ScriptStops, ZoneStops}
 pub use Rattle.qp_main.specs.Tellings.{finished_text}
 pub use Rattle.zone_model.specs.MasterFile.{zone_at}

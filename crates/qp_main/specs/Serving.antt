@@ -65,22 +65,6 @@ pub record CutsShort {S K : Type 0} (o : Option Invocation) (left : S → Option
   pub given_short : MayBeShort (streams o) s → (held new ≡ held old → ⊥)
       → GaveFor o (gave before) (gave after) (ended after) (λ bytes. CutShort (Due o bytes) (held old) (held new))
 
--- what a status says where an input is read
-pub record EndsReading {S K : Type 0} (o : Option Invocation) (left : S → Option (List ℕ)) (gave : S → List ℕ) (ended : S → Bool) (trouble : S → ℕ)
-    (held : K → Held) (faults : K → ℕ) (before after : S) (old new : K) (s : Status) : Type 0 where
-  -- what was due may stand in part
-  pub short : CutsShort o left gave ended held before after old new s
-  -- whether a call on the sink failed
-  pub sink : TellsSink faults old new s
-  -- whether one on the source did
-  pub source : TellsSource trouble before after s
-  -- nothing was written where the source failed, nor where memory ran out, but under what is written while it is made
-  pub unwritten : IsUnwritten (streams o) s → held new ≡ held old
-  -- an input that is too long is read to one byte past the limit
-  pub taken : s ≡ status.TooLong → GivesBytes left gave before after 16777217
-  -- no words are refused
-  pub words : s ≡ status.WordsRefused → ⊥
-
 -- what a status says of a run, whose words were read so
 pub record EndsRun {S K : Type 0} (o : Option Invocation) (left : S → Option (List ℕ)) (gave : S → List ℕ) (ended : S → Bool) (trouble : S → ℕ)
     (held : K → Held) (faults : K → ℕ) (before after : S) (old new : K) (s : Status) : Type 0 where

@@ -6,7 +6,7 @@ ghost use Rattle.qp_main.specs.Prelude.{load_view, IsUnder, invocation_in, invoc
 ghost use Rattle.qp_main.specs.Prelude.{HasRun, Heard, HeardInput, JobHeard, WhereRun};
 ghost use Rattle.qp_main.specs.Prelude.{SaysSession, SessionRan};
 ghost use Rattle.qp_main.specs.Prelude.{DueUnder, EndsLoad, IsAnswerDue, IsUnwritten, IsWritten, Written, input_of, is_streamed};
-ghost use Rattle.qp_main.specs.Prelude.{EndsReading, EndsRun, HearsRun, IsInput, IsLoad, RunsSession, ServesDue, ServesLoad, TellsSink, WritesDue};
+ghost use Rattle.qp_main.specs.Prelude.{EndsRun, HearsRun, IsInput, IsLoad, RunsSession, ServesDue, ServesLoad, TellsSink, WritesDue};
 
 use crate::differing::compare_zones;
 use crate::dumping::dump_input;
@@ -143,7 +143,7 @@ fn serve<R: Threads + Wait + Sync, S: Source, K: Sink, G: Gate>(
 ) -> Status
     requires { (left : Option (List ℕ)) → input_of (verb_view invocation.now.verb) left ≡ left }
     ensures due { WritesDue (Some (invocation_view invocation.now)) S.left S.given S.ended K.held source.old source.new sink.old sink.new result }
-    ensures ends { EndsReading (Some (invocation_view invocation.now)) S.left S.given S.ended S.faults K.held K.faults
+    ensures ends { EndsRun (Some (invocation_view invocation.now)) S.left S.given S.ended S.faults K.held K.faults
         source.old source.new sink.old sink.new result }
     ensures heard { HearsRun (G.hears gate.now) (Some (invocation_view invocation.now)) S.given S.ended source.old source.new result }
 {

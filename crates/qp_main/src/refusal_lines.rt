@@ -5,6 +5,7 @@ ghost use Rattle.qp_main.specs.Prelude.{pieces_text, zone_kind_text, script_kind
 use crate::line::{Line, refusal_line};
 use job_model::ScriptKind;
 use job_report::{Pieces, push_pair};
+use session_lines::script_kind_name;
 use std::alloc::{AllocError, Global};
 use zone_model::ZoneKind;
 
@@ -31,24 +32,6 @@ fn zone_kind_name(kind: ZoneKind) -> &'static [u8]
         ZoneKind::Memory => b"Memory",
         ZoneKind::Repeated => b"Repeated",
         ZoneKind::TooManyZones => b"TooManyZones",
-    }
-}
-
-fn script_kind_name(kind: ScriptKind) -> &'static [u8]
-    ensures text { result.now ≡ script_kind_text kind }
-    ensures short { length result.now ≤ 13 }
-{
-    match kind {
-        ScriptKind::NoWorker => b"NoWorker",
-        ScriptKind::BadCommand => b"BadCommand",
-        ScriptKind::BadName => b"BadName",
-        ScriptKind::BadType => b"BadType",
-        ScriptKind::BadRdata => b"BadRdata",
-        ScriptKind::BadNumber => b"BadNumber",
-        ScriptKind::OpenBlock => b"OpenBlock",
-        ScriptKind::NotHeld => b"NotHeld",
-        ScriptKind::AlreadyHeld => b"AlreadyHeld",
-        ScriptKind::TooMany { limit: _ } => b"TooMany",
     }
 }
 

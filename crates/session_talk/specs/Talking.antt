@@ -26,7 +26,7 @@ module _ {Y : Type 0} (is_ready : Y → Type 0) (origin_of : Y → Name) (holds 
     pub may : MayGoOn has_run is_settled a given held intake.bytes
 
   -- It can go on to the end of input, or to the 2^46th read.
-  pub record CanRead (a : Answering Y) (given : List ℕ) (told : Bool) (held : Held) (intake : Pending) : Type 0 where
+  pub record CanReadAll (a : Answering Y) (given : List ℕ) (told : Bool) (held : Held) (intake : Pending) : Type 0 where
     pub sound : CanGoOn is_ready origin_of holds a
     -- the lines' numbers can be counted, whatever the reads give
     pub few : a.lines + length intake.bytes ≤ 2 ^ 26

@@ -1,7 +1,7 @@
 //! The reads of a session.
 ghost use Rattle.std.specs.Prelude.{IsErrOf, OnOk};
 ghost use Rattle.session_talk.specs.Prelude.{BlamesEach, NextIsShort};
-ghost use Rattle.session_talk.specs.Talking.{CanRead, HasRead, ServesOn};
+ghost use Rattle.session_talk.specs.Talking.{CanReadAll, HasRead, ServesOn};
 
 use crate::answering::Answering;
 use crate::serving::{Stop, turn};
@@ -20,7 +20,7 @@ pub fn serve_lines<W: Worker, K: Sink, T: Talk<K>>(
     talk: &mut T,
     sink: &mut K,
 ) -> Result<(), Stop>
-    requires { CanRead W.is_ready W.origin W.holds W.has_run T.is_settled answering.old (T.given talk.old) (T.ended talk.old) (K.held sink.old) intake.old }
+    requires { CanReadAll W.is_ready W.origin W.holds W.has_run T.is_settled answering.old (T.given talk.old) (T.ended talk.old) (K.held sink.old) intake.old }
     ensures goes_on { OnOk result (HasRead W.is_ready W.origin W.holds answering.old answering.new intake.new (T.given talk.new) (T.ended talk.new)) }
     ensures faults { BlamesEach result Stop.Sink Stop.Fault (K.faults sink.old) (K.faults sink.new) (T.faults talk.old) (T.faults talk.new) }
     ensures memory { IsErrOf result Stop.Memory → NextIsShort intake.new.bytes }

@@ -48,7 +48,7 @@ pub goes_first : (stands : List Entry → List Entry → Type 0) (a : Held) (had
 goes_first stands a had count d zone f = record { left = zone; faces = f; part = part_start a had (version_lines d zone); number = refl }
 
 -- the octets are an item
-first_item : (stands : List Entry → List Entry → Type 0) (left : Version) (octets : List ℕ) (len : ℕ) (f : GivesFirst stands left octets len) → IsItem (take len octets) f.pair.0 f.pair.1
+pub first_item : (stands : List Entry → List Entry → Type 0) (left : Version) (octets : List ℕ) (len : ℕ) (f : GivesFirst stands left octets len) → IsItem (take len octets) f.pair.0 f.pair.1
 first_item stands left octets len f = subst (λ (b : List ℕ). IsItem b f.pair.0 f.pair.1) (sym f.item_is) f.storable
 
 pub some_item : (stands : List Entry → List Entry → Type 0) (left : Version) (octets : List ℕ) (len : ℕ) → GivesFirst stands left octets len → (owner : Name) × (entry : records.Entry) × IsItem (take len octets) owner entry

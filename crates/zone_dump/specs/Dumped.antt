@@ -13,7 +13,7 @@ use Rattle.zone_dump.specs.Writing.{Passes}
 use Rattle.zone_dump.specs.declared.lines.Lines.{Lines}
 
 -- Items are read into a buffer that is lent.
-pub record CanRead (holds : List trie.Entry → Type 0) (item : List ℕ) : Type 0 where
+pub record CanReadItems (holds : List trie.Entry → Type 0) (item : List ℕ) : Type 0 where
   -- the trie shows a version
   pub shown : ShowsSome holds
   -- each of its items fits

@@ -13,5 +13,5 @@ pub use Rattle.rr_data.specs.ItemViews.{SaysEntry}
 pub use Rattle.zone_answer.specs.Standing.{Shows, ShowsSome}
 pub use Rattle.zone_dump.specs.Files.{directives_in, file_text, head_text, lines_from}
 pub use Rattle.zone_dump.specs.Walks.{Faces, FacesSome, GivesNext}
-pub use Rattle.zone_dump.specs.Dumped.{CanRead, OfItem, PassesItem, PassesVersion, WritesVersion}
+pub use Rattle.zone_dump.specs.Dumped.{CanReadItems, OfItem, PassesItem, PassesVersion, WritesVersion}
 pub use Rattle.zone_dump.specs.Writing.{Passes, PassesOn, TellsFailed, TellsFault}

@@ -1,6 +1,6 @@
 //! A version, written as a master file.
 ghost use Rattle.std.specs.Prelude.{◌≡◌, ◌+◌, ◌≤◌, ◌++◌, ◌∷◌, [], ℕ, List, length, Option, IfOk, OnOk};
-ghost use Rattle.zone_dump.specs.Prelude.{flat_map, StartsWith, most_item_octets, Version, CanRead, PassesVersion, TellsFault, WritesVersion};
+ghost use Rattle.zone_dump.specs.Prelude.{flat_map, StartsWith, most_item_octets, Version, CanReadItems, PassesVersion, TellsFault, WritesVersion};
 ghost use Rattle.zone_dump.specs.Prelude.{row_text, all_rows, record_count, soa_ttl, dump, Shows};
 ghost use Rattle.zone_dump.specs.Prelude.{ShowsSome, file_text, directives_in, Faces, FacesSome, GivesNext};
 
@@ -18,7 +18,7 @@ use zone_answer::read_owned;
 use zone_model::Style;
 
 /// Reads the item of the next name into the beginning of a buffer, and gives its length; None at the end.
-fn next_item<V: Reading>(version: &mut V, iter: &mut Iter, item: &mut [u8]) -> Option<usize>
+pub fn next_item<V: Reading>(version: &mut V, iter: &mut Iter, item: &mut [u8]) -> Option<usize>
     requires faces { FacesSome (V.stands version.old iter.old) }
     requires room { most_item_octets ≤ length item.old }
     ensures same { version.new ≡ version.old }
@@ -37,7 +37,7 @@ fn push_all<V: Reading, K: Sink>(
     lines: &mut Lines,
     sink: &mut K,
 ) -> Result<(), DumpRefusal>
-    requires can { CanRead (V.holds version.old) item.old }
+    requires can { CanReadItems (V.holds version.old) item.old }
     ensures same { version.new ≡ version.old }
     ensures count { (zone : Version) → Shows (V.holds version.old) zone → OnOk result (lines.new.count ≡ lines.old.count + record_count zone) }
     ensures passes { PassesVersion result (V.holds version.old) (K.held sink.old) (K.held sink.new) lines.old lines.new }
@@ -61,7 +61,7 @@ fn dump_lines<V: Reading, K: Sink>(
     item: &mut [u8],
     sink: &mut K,
 ) -> Result<u64, DumpRefusal>
-    requires can { CanRead (V.holds version.old) item.old }
+    requires can { CanReadItems (V.holds version.old) item.old }
     ensures same { version.new ≡ version.old }
     ensures count { (zone : Version) → Shows (V.holds version.old) zone → IfOk result (λ n. n ≡ record_count zone) }
     ensures written { WritesVersion result (V.holds version.old) (K.held sink.old) (K.held sink.new) (file_text directives) }
@@ -74,7 +74,7 @@ fn dump_lines<V: Reading, K: Sink>(
 
 /// The time to live of the SOA at the origin; 0 where there is none.
 fn soa_ttl<V: Reading>(version: &mut V, origin: &Name, item: &mut [u8]) -> u32
-    requires can { CanRead (V.holds version.old) item.old }
+    requires can { CanReadItems (V.holds version.old) item.old }
     ensures same { version.new ≡ version.old }
     ensures ttl { (zone : Version) → Shows (V.holds version.old) zone → result ≡ soa_ttl origin.now zone }
 {
@@ -93,7 +93,7 @@ fn directives_for<V: Reading>(
     style: Style,
     item: &mut [u8],
 ) -> Option<Directives>
-    requires can { CanRead (V.holds version.old) item.old }
+    requires can { CanReadItems (V.holds version.old) item.old }
     ensures same { version.new ≡ version.old }
     ensures directives { (zone : Version) → Shows (V.holds version.old) zone → result ≡ directives_in style origin.now zone }
 {
@@ -132,7 +132,7 @@ pub fn dump_text<V: Reading>(
     item: &mut [u8],
     out: &mut Vec<u8>,
 ) -> Result<u64, AllocError>
-    requires can { CanRead (V.holds version.old) item.old }
+    requires can { CanReadItems (V.holds version.old) item.old }
     ensures same { version.new ≡ version.old }
     ensures count { (zone : Version) → Shows (V.holds version.old) zone → IfOk result (λ n. n ≡ record_count zone) }
     ensures ok { (zone : Version) → Shows (V.holds version.old) zone → OnOk result (out.new.items ≡ out.old.items ++ flat_map row_text (all_rows zone)) }

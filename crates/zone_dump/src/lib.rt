@@ -11,7 +11,7 @@ mod text_sink;
 mod writing;
 mod zones;
 
-pub use dumping::{dump_text, dump_to};
+pub use dumping::{dump_text, dump_to, next_item};
 pub use lines::Lines;
 pub use refusal::DumpRefusal;
 pub use zone_model::Style;

@@ -12,7 +12,7 @@ use Rattle.zone_edit.specs.declared.refusal.EditRefusal.{EditRefusal}
 use Rattle.zone_edit.specs.declared.refusal.EditRefusal.TheVariants as refusals
 
 -- A name's item can be read into these octets.
-pub record CanRead (name : Name) (path out : List ℕ) (d : Option WorkingVersion) : Type 0 where
+pub record CanReadOwned (name : Name) (path out : List ℕ) (d : Option WorkingVersion) : Type 0 where
   pub works : IsSomeAnd d WorksOnSome
   -- the key is the name's
   pub key : path ≡ key_of name

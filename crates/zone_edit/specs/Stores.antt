@@ -14,8 +14,6 @@ use Rattle.job_model.specs.Sizes.{trie_entries, cell_count, cells_asked}
 use Rattle.shared_cells.specs.History.{StartsWith}
 use Rattle.shared_cells.specs.Steps.{IsNamed}
 use Rattle.qp_multi.specs.declared.writer.WorkingVersion.{WorkingVersion}
-use Rattle.qp_multi.specs.declared.meaning.Named.{Ghosts}
-use Rattle.qp_multi.specs.declared.transaction.Transaction.{Transaction}
 use Rattle.qp_multi.specs.Bounds.{IsCramped, WhereSmall}
 use Rattle.qp_multi.specs.Crowds.{most_met}
 use Rattle.qp_multi.specs.WorkingVersions.{Works, Between, working_set}
@@ -49,17 +47,6 @@ pub record EditsOne (most : ℕ) (told : Version → WorkingVersion → Type 0) 
 
 abbrev pub Edits : ℕ → (Version → WorkingVersion → Type 0) → Option WorkingVersion → Option WorkingVersion → Type 0
 Edits most told old new = Between (EditsOne most told) old new
-
-module _ {X : Type 0} {Y : Type 0} {N : Ghosts Y} {K : Type 0} where
-  -- it is of the same pass and the same turn as before
-  abbrev pub IsOfTheSame : Transaction X Y K N → Transaction X Y K N → Type 0
-  IsOfTheSame old new = (new.home.ghost_name ≡ old.home.ghost_name) × (new.locked.ghost_name ≡ old.locked.ghost_name)
-
-  -- It goes on.
-  pub record GoesOnHere (old new : Transaction X Y K N) : Type 0 where
-    pub same_reference : IsOfTheSame old new
-    -- it is of the same index
-    pub place : new.locked.now.place ≡ old.locked.now.place
 
 -- how many operations are done: one, or none where it is refused
 abbrev pub done_by : {E : Type 0} → Result (Unit {0}) E → ℕ

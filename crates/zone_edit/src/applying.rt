@@ -2,7 +2,7 @@
 
 ghost use Rattle.std.specs.Prelude.{◌≡◌, ◌<◌, ◌≤◌, [], length, IfOk, IsSomeAnd, map};
 ghost use Rattle.zone_edit.specs.Prelude.{Records, key_of, item_limit, IsItem, SaysEntry, operation_view, prerequisite_view};
-ghost use Rattle.zone_edit.specs.Prelude.{candidate, Edits, GoesOnHere, IsOfTheSame, Owns, Stores, done_by, WorksOnSome};
+ghost use Rattle.zone_edit.specs.Prelude.{candidate, Edits, IsOfSame, Owns, Stores, done_by, WorksOnSome};
 ghost use Rattle.zone_edit.specs.Prelude.{CanExchange, CanStore, TellsWant};
 ghost use Rattle.zone_edit.specs.Prelude.{Edited, EditedOnce, EditedInOrder};
 
@@ -30,7 +30,7 @@ fn take_out<L: Law, N: Named, K>(
     requires key { key.now ≡ key_of name.now }
     requires owns { IsSomeAnd transaction.old.locked.now.working (Owns name.now before.now) }
     requires some { 0 < length before.now }
-    ensures goes_on { GoesOnHere transaction.old transaction.new }
+    ensures of_same { IsOfSame transaction.old transaction.new }
     ensures stores { Edits (done_by result) (Stores name.now before.now [] result) transaction.old.locked.now.working transaction.new.locked.now.working }
 {
     let _wire = name.wire(); // for the proof
@@ -53,7 +53,7 @@ fn put_in<L: Law, N: Named, K>(
     requires key { key.now ≡ key_of name.now }
     requires owns { IsSomeAnd transaction.old.locked.now.working (Owns name.now []) }
     requires item { IsItem item.now name.now entry.now }
-    ensures goes_on { GoesOnHere transaction.old transaction.new }
+    ensures of_same { IsOfSame transaction.old transaction.new }
     ensures stores { Edits (done_by result) (Stores name.now [] entry.now result) transaction.old.locked.now.working transaction.new.locked.now.working }
 {
     let _wire = name.wire(); // for the proof
@@ -75,7 +75,7 @@ fn exchange<L: Law, N: Named, K>(
     item: &[u8],
 ) -> Result<(), Shortage>
     requires { CanExchange name.now key.now before.now entry.now item.now transaction.old.locked.now.working }
-    ensures goes_on { GoesOnHere transaction.old transaction.new }
+    ensures of_same { IsOfSame transaction.old transaction.new }
     ensures stores { Edits (done_by result) (Stores name.now before.now entry.now result) transaction.old.locked.now.working
         transaction.new.locked.now.working }
 {
@@ -100,7 +100,7 @@ fn store<L: Law, N: Named, K>(
     out: &mut [u8],
 ) -> Result<(), Shortage>
     requires { CanStore name.now key.now octets.now before.now entry.now out.old transaction.old.locked.now.working }
-    ensures goes_on { GoesOnHere transaction.old transaction.new }
+    ensures of_same { IsOfSame transaction.old transaction.new }
     ensures stores { Edits (done_by result) (Stores name.now before.now entry.now result) transaction.old.locked.now.working
         transaction.new.locked.now.working }
 {
@@ -148,11 +148,11 @@ fn apply<L: Law, N: Named, K>(
     number: u64,
     operation: &Operation,
     item_before: &mut [u8],
-    item_after: &mut [u8],
+    out: &mut [u8],
 ) -> Result<(), EditRefusal>
     requires works { IsSomeAnd transaction.old.locked.now.working WorksOnSome }
-    requires room { (item_limit ≤ length item_before.old) × (item_limit ≤ length item_after.old) }
-    ensures goes_on { GoesOnHere transaction.old transaction.new }
+    requires room { (item_limit ≤ length item_before.old) × (item_limit ≤ length out.old) }
+    ensures of_same { IsOfSame transaction.old transaction.new }
     ensures applies { EditedOnce origin.now (operation_view operation.now) result transaction.old.locked.now.working transaction.new.locked.now.working }
     ensures want { TellsWant result number transaction.old.locked.now.working transaction.new.locked.now.working }
 {
@@ -166,15 +166,7 @@ fn apply<L: Law, N: Named, K>(
     let Ok((before, entry)) = both_entries(alloc, owner, octets, operation) else {
         return Err(EditRefusal::Memory);
     };
-    match store(
-        transaction,
-        owner,
-        &key,
-        octets,
-        &before,
-        &entry,
-        item_after,
-    ) {
+    match store(transaction, owner, &key, octets, &before, &entry, out) {
         Ok(()) => Ok(()),
         Err(shortage) => Err(EditRefusal::Full {
             operation: number,
@@ -192,8 +184,7 @@ fn apply_all<L: Law, N: Named, K>(
     buffers: &mut ItemBuffers,
 ) -> Result<(), EditRefusal>
     requires { IsSomeAnd transaction.old.locked.now.working WorksOnSome }
-    ensures same_reference { IsOfTheSame transaction.old transaction.new }
-    ensures place { transaction.new.locked.now.place ≡ transaction.old.locked.now.place }
+    ensures of_same { IsOfSame transaction.old transaction.new }
     ensures applies { EditedInOrder origin.now (map operation_view operations.now) result transaction.old.locked.now.working
         transaction.new.locked.now.working }
 {
@@ -218,8 +209,7 @@ pub fn execute<L: Law, N: Named, K>(
     buffers: &mut ItemBuffers,
 ) -> Result<(), EditRefusal>
     requires { IsSomeAnd transaction.old.locked.now.working WorksOnSome }
-    ensures same_reference { IsOfTheSame transaction.old transaction.new }
-    ensures place { transaction.new.locked.now.place ≡ transaction.old.locked.now.place }
+    ensures of_same { IsOfSame transaction.old transaction.new }
     ensures executes { Edited origin.now (record { needs = map prerequisite_view prerequisites.now; operations = map operation_view operations.now }) result
         transaction.old.locked.now.working transaction.new.locked.now.working }
 {

@@ -1,7 +1,7 @@
 //! What a transaction wants of its working set before it changes anything.
 
 ghost use Rattle.std.specs.Prelude.{◌≡◌, ◌≤◌, length, IsSomeAnd, map};
-ghost use Rattle.zone_edit.specs.Prelude.{most_item_octets, prerequisite_view, WorksOnSome, Edits, Meets, MeetsAll, IsOfTheSame};
+ghost use Rattle.zone_edit.specs.Prelude.{most_item_octets, prerequisite_view, WorksOnSome, Edits, IsOfSame, Meets, MeetsAll};
 
 use crate::reading::read_owned;
 use qp_multi::{Law, Named, Transaction};
@@ -17,8 +17,7 @@ fn meets<L: Law, N: Named, K>(
 ) -> bool
     requires works { IsSomeAnd transaction.old.locked.now.working WorksOnSome }
     requires room { most_item_octets ≤ length item.old }
-    ensures same_reference { IsOfTheSame transaction.old transaction.new }
-    ensures place { transaction.new.locked.now.place ≡ transaction.old.locked.now.place }
+    ensures of_same { IsOfSame transaction.old transaction.new }
     ensures meets { Edits 0 (Meets (prerequisite_view prerequisite.now) result) transaction.old.locked.now.working transaction.new.locked.now.working }
 {
     let owner = &prerequisite.owner;
@@ -36,8 +35,7 @@ pub(crate) fn meets_all<L: Law, N: Named, K>(
 ) -> bool
     requires works { IsSomeAnd transaction.old.locked.now.working WorksOnSome }
     requires room { most_item_octets ≤ length item.old }
-    ensures same_reference { IsOfTheSame transaction.old transaction.new }
-    ensures place { transaction.new.locked.now.place ≡ transaction.old.locked.now.place }
+    ensures of_same { IsOfSame transaction.old transaction.new }
     ensures meets { Edits 0 (MeetsAll (map prerequisite_view prerequisites.now) result) transaction.old.locked.now.working transaction.new.locked.now.working }
 {
     for prerequisite in prerequisites {

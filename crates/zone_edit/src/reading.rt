@@ -1,7 +1,7 @@
 //! What a name owns in a transaction's working set.
 
 ghost use Rattle.std.specs.Prelude.{◌≤◌, length};
-ghost use Rattle.zone_edit.specs.Prelude.{Between, CanRead, Edits, GoesOnHere, IsSame, Reads};
+ghost use Rattle.zone_edit.specs.Prelude.{Between, CanReadOwned, Edits, IsOfSame, IsSame, Reads};
 
 use dns_name::Name;
 use qp_multi::{Law, Named, Transaction};
@@ -14,8 +14,8 @@ pub(crate) fn read_owned<L: Law, N: Named, K>(
     key: &Key,
     item: &mut [u8],
 ) -> usize
-    requires { CanRead name.now key.now item.old transaction.old.locked.now.working }
-    ensures goes_on { GoesOnHere transaction.old transaction.new }
+    requires { CanReadOwned name.now key.now item.old transaction.old.locked.now.working }
+    ensures of_same { IsOfSame transaction.old transaction.new }
     ensures same { Between IsSame transaction.old.locked.now.working transaction.new.locked.now.working }
     ensures within { result ≤ length item.new }
     ensures read { Edits 0 (Reads name.now item.new result) transaction.old.locked.now.working transaction.new.locked.now.working }

@@ -1,21 +1,18 @@
 -- The first name of a version that is laid down.
-use Rattle.std.proofs.Common.{◌≡◌, ◌∙◌, ℕ, List, [], ◌∷◌, ◌++◌, length, take, sym, ap, subst, append_assoc, Option, Some, None}
+use Rattle.std.proofs.Common.{◌≡◌, ◌∙◌, ℕ, List, [], ◌∷◌, ◌++◌, length, take, sym, ap, append_assoc, Option, Some, None}
 use Rattle.std.specs.List.{flat_map}
 use Rattle.std.specs.Int.{w16, to_be_bytes}
 use Rattle.zone_model.specs.Names.{BeginsWith, IsName, Name, wire}
-use Rattle.zone_model.specs.Records.{IsItem, rrset_bytes}
+use Rattle.zone_model.specs.Records.{rrset_bytes}
 use Rattle.zone_model.specs.Versions.{Version}
 use Rattle.trie_model.specs.Keys.{Entry}
 use Rattle.zone_diff.specs.declared.names.Ahead.{Ahead}
 use Rattle.zone_diff.proofs.NameLemmas.{laid_item, laid_pair, owner_is}
 use Rattle.zone_dump.specs.Walks.{GivesFirst}
+use Rattle.zone_dump.proofs.WalkLaws.{first_item}
 use Rattle.zone_reload.specs.Shown.{ShowsAhead, ShowsLeft}
 
--- the octets are the first name's item
-pub first_item : (stands : List Entry → List Entry → Type 0) (left : Version) (octets : List ℕ) (len : ℕ) (f : GivesFirst stands left octets len) → IsItem (take len octets) f.pair.0 f.pair.1
-first_item stands left octets len f = subst (λ (b : List ℕ). IsItem b f.pair.0 f.pair.1) (sym f.item_is) f.storable
-
--- so they begin with its owner
+-- the octets of the first name's item begin with its owner
 pub begins_with_owner : (stands : List Entry → List Entry → Type 0) (left : Version) (octets : List ℕ) (len : ℕ) (f : GivesFirst stands left octets len) → BeginsWith (take len octets) f.pair.0
 begins_with_owner stands left octets len f =
     let is = first_item stands left octets len f in

@@ -5,7 +5,7 @@ pub use Rattle.zone_answer.specs.Standing.{Shows, ShowsSome}
 pub use Rattle.zone_change.specs.Views.{operation_view}
 pub use Rattle.zone_diff.specs.Differences.{difference}
 pub use Rattle.zone_diff.specs.Sinks.{IsShort, change_view}
-pub use Rattle.zone_dump.specs.Walks.{Faces, FacesSome, GivesNext}
-pub use Rattle.zone_edit.specs.Stores.{GoesOnHere, WorksOnSome}
+pub use Rattle.zone_dump.specs.Walks.{Faces, FacesSome}
+pub use Rattle.zone_edit.specs.Prelude.{IsOfSame, WorksOnSome}
 pub use Rattle.zone_reload.specs.Reloads.{ReplacesAll}
 pub use Rattle.zone_reload.specs.Shown.{ShowsAll, ShowsLeft}

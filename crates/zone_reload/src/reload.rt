@@ -1,6 +1,6 @@
 //! A version's zone exchanged whole.
 ghost use Rattle.std.specs.Prelude.{◌≡◌, map, IfOk, IsSomeAnd};
-ghost use Rattle.zone_reload.specs.Prelude.{GoesOnHere, ReplacesAll, Shows, ShowsSome, Version, WorksOnSome, difference, operation_view};
+ghost use Rattle.zone_reload.specs.Prelude.{IsOfSame, ReplacesAll, Shows, ShowsSome, Version, WorksOnSome, difference, operation_view};
 
 use crate::operations::OperationList;
 use crate::versions::VersionNames;
@@ -84,7 +84,7 @@ pub fn replace_all<L: Law, N: Named, K, V: Reading>(
     requires works { IsSomeAnd transaction.old.locked.now.working WorksOnSome }
     requires shown { ShowsSome (V.holds version.old) }
     ensures same { version.new ≡ version.old }
-    ensures goes_on { GoesOnHere transaction.old transaction.new }
+    ensures of_same { IsOfSame transaction.old transaction.new }
     ensures replaces { ReplacesAll origin.now (V.holds version.old) zone.pairs result transaction.old.locked.now.working transaction.new.locked.now.working }
 {
     let Ok(operations) = operations_between(alloc, Serial::Keep, version, zone) else {

@@ -1,10 +1,11 @@
 //! The names of a version that is read.
 ghost use Rattle.std.specs.Prelude.{◌≡◌, ◌≤◌, length};
-ghost use Rattle.zone_reload.specs.Prelude.{Faces, FacesSome, GivesNext, ShowsAll, ShowsLeft, ShowsSome, Version, most_item_octets};
+ghost use Rattle.zone_reload.specs.Prelude.{Faces, FacesSome, ShowsAll, ShowsLeft, ShowsSome, Version, most_item_octets};
 
 use dns_name::Name;
 use trie_read::{Iter, Reading};
 use zone_diff::{Ahead, Names};
+use zone_dump::next_item;
 
 /// The names of a version from one on, which is laid down as an item in a buffer that is lent.
 #[derive(Drop)]
@@ -13,19 +14,6 @@ pub struct VersionNames<'v, V: Reading> {
     iter: Iter,
     ahead: Option<Ahead>,
     octets: &'v mut [u8],
-}
-
-// Reads the item of the next name into the beginning of a buffer, and gives its length.
-fn next_item<V: Reading>(version: &mut V, iter: &mut Iter, item: &mut [u8]) -> Option<usize>
-    requires faces { FacesSome (V.stands version.old iter.old) }
-    requires room { most_item_octets ≤ length item.old }
-    ensures same { version.new ≡ version.old }
-    ensures next { (left : Version) → Faces (V.stands version.old iter.old) left → GivesNext (V.stands version.old iter.new) left item.new result }
-{
-    match version.next_leaf(iter) {
-        Some(leaf) => Some(version.read(leaf, item)),
-        None => None,
-    }
 }
 
 // Lays down the item of the next name.

@@ -18,5 +18,5 @@ pub use Rattle.zone_table.specs.Notes.{HasLearnt, IsNoteOf, KnowsSame, LearntAt,
 pub use Rattle.zone_table.specs.Openings.{AllFit, AreBlanks, AreOpened, CanBegin, CanOpen, IsBegun, IsTableBlank, OpensZones, Place, RefusesZones, ZonesDiffer}
 pub use Rattle.zone_table.specs.Openings.{entries_in, origins_of, places_of, sizes_of}
 pub use Rattle.zone_table.specs.Passes.{HasLooked, HasZone, IsPassOf, StandAt, table_known, zone_known}
-pub use Rattle.zone_table.specs.Remembered.{AreAttached, IsAt, TellsZones}
+pub use Rattle.zone_table.specs.Remembered.{AreAttached, IsAt}
 pub use Rattle.zone_table.specs.Tables.{AreOrigins, IsAmong, IsAttached, IsTable, entry_for}

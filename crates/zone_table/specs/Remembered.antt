@@ -17,10 +17,6 @@ is_marked attached zone = get_or attached zone false
 abbrev pub AreAttached : List Name → List Entry → List Bool → Type 0
 AreAttached origins es attached = (zone : ℕ) (origin : Name) → slice_get origins zone ≡ Some origin → (is_marked attached zone ≡ true) ↔ IsAttached es origin
 
--- so it is of each list of entries that there may be, if, where nothing was looked at, it was so before
-abbrev pub TellsZones : (List Entry → Type 0) → List Name → Type 0 → List Bool → List Bool → Type 0
-TellsZones has origins same old new = (es : List Entry) → has es → (same → AreAttached origins es old) → AreAttached origins es new
-
 -- a zone that is told to be attached, and whose origin has this wire form
 pub record IsAt (origins : List Name) (attached : List Bool) (octets : List ℕ) (zone : ℕ) : Type 0 where
   pub origin : Name

@@ -3,6 +3,7 @@ ghost use Rattle.std.specs.Prelude.{◌≡◌, length};
 ghost use Rattle.zone_table.specs.Prelude.{known_at, version_seen, Pinned, IsAmong, IsZoneOf, IsPassOf, HasLooked, AreAttached};
 
 use crate::pass::ZonesPass;
+use crate::remembered::Remembered;
 use crate::zones::Zones;
 use dns_name::Name;
 use qp_multi::{Law, Named};
@@ -36,7 +37,7 @@ impl<N: Named> ZonesPass<N> {
         ensures attached { AreAttached zones.now.origins.items (version_seen (known_at self.new.table.seat).seen) self.new.remembered.attached }
     {
         let mut query = self.table.query(&zones.table);
-        self.remembered.look(&mut query, &zones.origins);
+        self.remembered = Remembered::of(&mut query, &zones.origins);
         query.version()
     }
 

@@ -1,7 +1,7 @@
 //! What a pass remembers of the table: which zones are attached in the version that it has looked at last. A version never changes, so a name is located
 //! without looking at it again.
 ghost use Rattle.std.specs.Prelude.{◌≡◌, ◌↔◌, ◌≤◌, IsTrue, List, None, Some, length};
-ghost use Rattle.zone_table.specs.Prelude.{Entry, IsHeld, AreAttached, IsAttached, TellsZones};
+ghost use Rattle.zone_table.specs.Prelude.{Entry, IsHeld, AreAttached, IsAttached};
 
 use dns_name::Name;
 use shift_key::Key;
@@ -70,19 +70,18 @@ impl Remembered {
         }
     }
 
-    /// Looks at this version, if it isn't the one that was looked at last.
-    pub fn look<V: Reading>(&mut self, version: &mut V, origins: &[Name])
+    /// What is remembered of this version.
+    pub fn of<V: Reading>(version: &mut V, origins: &[Name]) -> Remembered
         requires few { length origins.now ≤ 16 }
         requires held { IsHeld (V.holds version.old) }
         ensures same { version.new ≡ version.old }
-        ensures version { self.new.version ≡ Some (V.number version.old) }
-        ensures attached { TellsZones (V.holds version.old) origins.now (self.old.version ≡ Some (V.number version.old)) self.old.attached self.new.attached }
+        ensures version { result.version ≡ Some (V.number version.old) }
+        ensures attached { (es : List Entry) → V.holds version.old es → AreAttached origins.now es result.attached }
     {
         let number = version.version();
-        if self.version == Some(number) {
-            return;
+        Remembered {
+            version: Some(number),
+            attached: attached_in(version, origins),
         }
-        self.attached = attached_in(version, origins);
-        self.version = Some(number);
     }
 }

@@ -14,6 +14,15 @@ fn digit(number: u64, place: u64) -> u8
     b'0' + (number / place % 10) as u8
 }
 
+// Pushes a number of any length. It stands by itself, so that shorter ones need no buffer.
+#[inline(never)]
+fn push_long(out: &mut Vec<u8>, number: u64) -> Result<(), AllocError>
+    ensures ok { OnOk result (out.new.items ≡ out.old.items ++ decimal number) }
+    ensures kept { StartsWith out.new.items out.old.items }
+{
+    out.extend_from_slice(Buffer::new().format(number).as_bytes())
+}
+
 /// Pushes a number in decimal digits.
 #[tactic(auto, using(crate::proofs::DecimalLemmas::one_digit, crate::proofs::DecimalLemmas::two_digits, crate::proofs::DecimalLemmas::three_digits, crate::proofs::DecimalLemmas::four_digits))]
 pub fn push_decimal(out: &mut Vec<u8>, number: u64) -> Result<(), AllocError>
@@ -32,6 +41,6 @@ pub fn push_decimal(out: &mut Vec<u8>, number: u64) -> Result<(), AllocError>
             digit(number, 10),
             digit(number, 1),
         ]),
-        _ => out.extend_from_slice(Buffer::new().format(number).as_bytes()),
+        _ => push_long(out, number),
     }
 }

@@ -189,11 +189,6 @@ pub table_done : (b : TableOpenedWith) (before : List Known) (ds ds' : List (Lis
 table_done b before ds ds' views views' after is_done is_views gathers =
     subst (λ (l : List (List model_outcomes.CommandEnd)). TableGathers b before l views' after) (sym is_done) (subst (λ (l : List Known). TableGathers b before ds l after) (sym is_views) gathers)
 
--- what follows from what is so of a result
-pub map_ok : {A E : Type 0} {P Q : A → Type 0} (r : Result A E) → ((x : A) → P x → Q x) → IfOk r P → IfOk r Q
-map_ok (Ok x) f h = f x h
-map_ok (Err e) f h = tt
-
 -- what is so of each value, where there is one
 pub at_each : {G E : Type 0} (r : Result G E) (P : G → Type 0) → ((g : G) → r ≡ Ok g → P g) → IfOk r P
 at_each (Ok g) P f = f g refl

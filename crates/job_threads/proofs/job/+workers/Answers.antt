@@ -5,6 +5,7 @@ use Rattle.job_model.specs.Commands.{InTurn}
 use Rattle.job_script.specs.Views.{worker_view, workers_view}
 use Rattle.qp_multi.specs.Passes.{known_at}
 use Rattle.std.proofs.lemmas.List.{nil_from_length}
+use Rattle.std.proofs.lemmas.Result.{IfOk-weaker}
 use Rattle.report_laws.specs.Changes.{AllAsked}
 use Rattle.job_commands.specs.Calls.{AllHeard}
 use Rattle.job_commands.specs.Commands.{OpensAt}
@@ -12,7 +13,7 @@ use Rattle.job_commands.specs.Closings.{Gathers}
 use Rattle.job_commands.proofs.CallLaws.{any_ok}
 use Rattle.job_commands.proofs.ShowLaws.{seat_told}
 use Rattle.job_commands.proofs.GatherLaws.{popped, at_ok}
-use Rattle.job_threads.proofs.GatherLaws.{gathers_start, others_new, gathers_worker, gathers_done, map_ok}
+use Rattle.job_threads.proofs.GatherLaws.{gathers_start, others_new, gathers_worker, gathers_done}
 use Rattle.job_threads.proofs.job.+workers.Goals as goal
 
 pub returns-in_default-split_first-clause-ran : goal.returns-in_default-split_first-clause-ran
@@ -53,7 +54,7 @@ returns-clause-ran g t c = λ s index new.
     let next = c.in-Some-pop.ensures.items in
     let main = (at_ok _ others _ c.in_ok-others.was second.0).main in
     gathers_done c.with_done.result (λ g. g.outcomes.items) (λ g. map (λ p. known_at p.seat) g.passes.items) (λ g. known_at g.main.seat) s _ _ _ _ _ (known_at done.asks.seat)
-    (map_ok c.with_done.result (λ _ h. h.0) c.with_done.ensures.gathers) (map_ok c.with_done.result (λ _ h. h.1) c.with_done.ensures.gathers) c.with_done.ensures.learnt
+    (IfOk-weaker c.with_done.result _ _ (λ _ h. h.0) c.with_done.ensures.gathers) (IfOk-weaker c.with_done.result _ _ (λ _ h. h.1) c.with_done.ensures.gathers) c.with_done.ensures.learnt
     (λ after learnt. subst (λ ws. Gathers s (map (λ p. known_at p.seat) passes) ws (done.outcomes ∷ others.outcomes.items) (known_at done.asks.seat ∷ known_at done.spare.seat ∷ map (λ p. known_at p.seat) others.passes.items) after) (sym (ap workers_view c.in-Some-split_first.ensures.cases.0))
     (gathers_worker passes front rest spare asks (λ p. known_at p.seat) s last next new origin size index (workers_view c.in-Some-split_first.others.now) others.outcomes.items (map (λ p. known_at p.seat) others.passes.items) (known_at others.main.seat) after
     (known_at done.spare.seat) (known_at done.asks.seat) (worker_view c.in-Some-split_first.worker.now) done.outcomes

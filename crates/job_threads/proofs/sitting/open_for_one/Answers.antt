@@ -1,10 +1,10 @@
 use Rattle.std.proofs.Common.{◌≡◌, ◌∙◌, sym, subst}
+use Rattle.std.proofs.lemmas.Result.{IfOk-weaker}
 use Rattle.qp_multi.specs.Closings.{AreAll}
 use Rattle.trie_write.specs.Entries.{entries_of_items}
 use Rattle.job_commands.specs.Commands.{known_in}
 use Rattle.job_commands.proofs.OpenLaws.{new_passes, all_open}
 use Rattle.job_commands.proofs.ZoneLaws.{zone_rises, zone_lawful}
-use Rattle.job_threads.proofs.GatherLaws.{map_ok}
 use Rattle.job_threads.proofs.sitting.open_for_one.Goals as goal
 
 pub open-requires-clause-rising : goal.open-requires-clause-rising
@@ -17,7 +17,7 @@ pub returns-clause-opens : goal.returns-clause-opens
 returns-clause-opens g c =
     let two = c.requires.passes in
     let es = entries_of_items c.args.items.now in
-    map_ok c.open.result (λ made opens. record {
+    IfOk-weaker c.open.result _ _ (λ made opens. record {
       size = opens.size;
       passes = record {
         count = opens.passes.count ∙ two;

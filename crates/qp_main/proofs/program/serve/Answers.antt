@@ -9,7 +9,7 @@ use Rattle.qp_main.proofs.DueLemmas.{IsAnswer, cut_as, given_due, nothing_yet, s
 use Rattle.qp_main.proofs.GivenLemmas.{all_due, all_too_long, given_too_long}
 use Rattle.qp_main.specs.Heard.{HasRun}
 use Rattle.qp_main.proofs.HeardLemmas.{given_heard, run_written}
-use Rattle.qp_main.proofs.SessionLemmas.{not_lines}
+use Rattle.qp_main.proofs.SessionLemmas.{not_lines, not_made, some_not_none}
 use Rattle.qp_main.proofs.program.serve.Goals as goal
 
 pub serve_input-requires : goal.serve_input-requires
@@ -19,6 +19,21 @@ serve_input-requires g c =
       whole = not_lines (verb_view c.args.invocation.now.verb) c.requires;
     } in
     search (rules, input)
+
+-- ---- a fault
+
+pub returns-in-Err-Fault-clause-ends : goal.returns-in-Err-Fault-clause-ends
+returns-in-Err-Fault-clause-ends g c = record {
+  short = record { cut_short = search rules; given_short = search rules };
+  sink = search rules;
+  source = search rules;
+  unwritten = search rules;
+  unread = λ none. absurd (some_not_none _ none);
+  made = λ m. absurd (not_made (verb_view c.args.invocation.now.verb) c.requires m);
+  load = λ m. absurd (not_made (verb_view c.args.invocation.now.verb) c.requires m);
+  taken = search rules;
+  words = search rules;
+}
 
 -- ---- an input that is too long
 
@@ -72,6 +87,9 @@ returns-in-Err-TooLong-clause-ends g c = record {
   sink = search rules;
   source = search rules;
   unwritten = search rules;
+  unread = λ none. absurd (some_not_none _ none);
+  made = λ m. absurd (not_made (verb_view c.args.invocation.now.verb) c.requires m);
+  load = λ m. absurd (not_made (verb_view c.args.invocation.now.verb) c.requires m);
   taken = search rules;
   words = search rules;
 }
@@ -93,6 +111,9 @@ returns-in-Err-Memory-clause-ends g c = record {
   sink = search rules;
   source = search rules;
   unwritten = search rules;
+  unread = λ none. absurd (some_not_none _ none);
+  made = λ m. absurd (not_made (verb_view c.args.invocation.now.verb) c.requires m);
+  load = λ m. absurd (not_made (verb_view c.args.invocation.now.verb) c.requires m);
   taken = search rules;
   words = search rules;
 }
@@ -138,12 +159,15 @@ returns-clause-ends g c = record {
   sink = search rules;
   source = search rules;
   unwritten = search rules;
-  taken = λ e.
+  unread = λ none. absurd (some_not_none _ none);
+  made = λ m. absurd (not_made (verb_view c.args.invocation.now.verb) c.requires m);
+  load = λ m. absurd (not_made (verb_view c.args.invocation.now.verb) c.requires m);
+  taken = λ other e.
       let i = invocation_view c.args.invocation.now in
       absurd (subst IsAnswer e (written_answers i.verb i.chunks i.origin c.in-Ok.bytes.items _ _ c.serve_input.result c.serve_input.ensures.due.written (subst IsWritten (sym e) tt)));
   words = λ e.
       let i = invocation_view c.args.invocation.now in
-      subst IsAnswer e (written_answers i.verb i.chunks i.origin c.in-Ok.bytes.items _ _ c.serve_input.result c.serve_input.ensures.due.written (subst IsWritten (sym e) tt));
+      absurd (subst IsAnswer e (written_answers i.verb i.chunks i.origin c.in-Ok.bytes.items _ _ c.serve_input.result c.serve_input.ensures.due.written (subst IsWritten (sym e) tt)));
 }
 
 pub returns-clause-heard : goal.returns-clause-heard

@@ -13,8 +13,7 @@ use Rattle.zone_edit.proofs.applying.apply_all.Goals as goal
 
 pub loop-index-init : goal.loop-index-init
 loop-index-init g c = record {
-  same_reference = (refl, refl);
-  place = refl;
+  of_same = record { home = refl; locked = refl; place = refl };
   works = c.requires;
   so_far = none_in_order c.args.origin.now [] (λ version d. WorksOn d version) (AppliesAll c.args.origin.now [] (Ok tt)) c.args.transaction.now.locked.now.working c.args.transaction.now.locked.now.working (λ version d on. (on, (version, refl, on)))
       (edits_same 0 WorksOnSome (λ (version : Version) (d : WorkingVersion). WorksOn d version) c.args.transaction.now.locked.now.working c.requires (λ d version on. on));
@@ -22,8 +21,7 @@ loop-index-init g c = record {
 
 pub loop-index-preserved : goal.loop-index-preserved
 loop-index-preserved g c = record {
-  same_reference = (c.apply.ensures.goes_on.same_reference.0 ∙ c.loop-index.invariant.same_reference.0, c.apply.ensures.goes_on.same_reference.1 ∙ c.loop-index.invariant.same_reference.1);
-  place = c.apply.ensures.goes_on.place ∙ c.loop-index.invariant.place;
+  of_same = (let now = c.apply.ensures.of_same in let before = c.loop-index.invariant.of_same in record { home = now.home ∙ before.home; locked = now.locked ∙ before.locked; place = now.place ∙ before.place });
   works = edits_some 1 (Applies c.args.origin.now (operation_view c.index-operations-index.result) (Ok tt)) c.loop-index.transaction.locked.now.working c.apply.new.transaction.locked.now.working c.loop-index.invariant.works (λ version e a. record { version = a.0; on = a.2 }) c.in_default.ensures.applies;
   so_far = subst (λ (l : List Operation). EditedInOrder c.args.origin.now l (Ok tt) c.args.transaction.now.locked.now.working c.apply.new.transaction.locked.now.working)
       (sym (up_to operation_view c.args.operations.now c.loop-index.index c.index-operations-index.result c.loop-index-test.true c.index-operations-index.is))

@@ -13,12 +13,6 @@ returns-in_default-clause-replaces g c = record {
   made = λ before shown h k. tt;
 }
 
-pub returns-clause-goes_on : goal.returns-clause-goes_on
-returns-clause-goes_on g c = record {
-  same_reference = c.execute.ensures.same_reference;
-  place = c.execute.ensures.place;
-}
-
 pub returns-clause-replaces : goal.returns-clause-replaces
 returns-clause-replaces g c =
     let origin = c.args.origin.now in

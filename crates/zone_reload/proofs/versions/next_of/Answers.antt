@@ -1,5 +1,6 @@
 use Rattle.std.proofs.Common.{arith, rules, refl, length-take}
-use Rattle.zone_reload.proofs.NameLemmas.{begins_with_owner, first_item, none_shown, shows_first}
+use Rattle.zone_dump.proofs.WalkLaws.{first_item}
+use Rattle.zone_reload.proofs.NameLemmas.{begins_with_owner, none_shown, shows_first}
 use Rattle.zone_reload.proofs.versions.next_of.Goals as goal
 
 pub returns-in_err-len-clause-names : goal.returns-in_err-len-clause-names

@@ -7,7 +7,6 @@ use Rattle.zone_table.specs.Remembered.{AreAttached}
 use Rattle.zone_table.specs.Tables.{IsAmong}
 use Rattle.zone_table.proofs.KnownLaws.{pinned_left}
 use Rattle.zone_table.proofs.LookLaws.{looked}
-use Rattle.zone_table.proofs.RememberLaws.{still_attached}
 use Rattle.zone_table.proofs.pass.ZonesPass.look_anew.Goals as goal
 
 pub returns : goal.returns
@@ -18,17 +17,15 @@ returns g c =
     let own = c.query-query.ensures.pinned in
     let es = version_seen q.seat.place.me.0.seen in
     let new = c.drop-query.new.self.0 in
-    let same = c.version.ensures.same ∙ c.look.ensures.same in
+    let same = c.version.ensures.same ∙ c.of-self.ensures.same in
     let left : known_at new.seat ≡ with_progress q.seat.place.me.0 progress.Idle = c.drop-query.ensures.left ∙ ap (λ x. with_progress x.seat.place.me.0 progress.Idle) same in
     let pinned = pinned_left IsAmong (known_at p.table.seat) q.seat.place.me.0 (known_at new.seat) progress.Idle q.seat.version own left in
-    let number = c.version.ensures.number ∙ ap (λ x. x.seat.version) c.look.ensures.same in
-    let looked_at = c.look.ensures.attached es c.query-query.ensures.reads.holds (λ is. subst (λ (names : List Name). AreAttached names es p.remembered.attached) (sym c.deref.ensures.value)
-    (still_attached origins q.seat.place.me.0.seen (known_at p.table.seat).seen p.remembered.version q.seat.version p.remembered.attached c.requires.pass.remembers own.grows own.version is)) in
-    let are = subst (λ (v : Known). AreAttached origins (version_seen v.seen) c.look.new.self.attached) (sym left)
-    (subst (λ (names : List Name). AreAttached names es c.look.new.self.attached) c.deref.ensures.value looked_at) in
+    let number = c.version.ensures.number ∙ ap (λ x. x.seat.version) c.of-self.ensures.same in
+    let are = subst (λ (v : Known). AreAttached origins (version_seen v.seen) c.of-self.result.attached) (sym left)
+    (subst (λ (names : List Name). AreAttached names es c.of-self.result.attached) c.deref.ensures.value (c.of-self.ensures.attached es c.query-query.ensures.reads.holds)) in
     let place = c.drop-query.ensures.place ∙ ap (λ x. x.place) same ∙ c.query-query.ensures.place ∙ c.requires.pass.table_place in
     record {
-      pass = looked origins p c.requires.pass new c.drop-query.ensures.here place pinned.grows c.look.new.self q.seat.version pinned.version c.look.ensures.version are;
+      pass = looked origins p c.requires.pass new c.drop-query.ensures.here place pinned.grows c.of-self.result q.seat.version pinned.version c.of-self.ensures.version are;
       others = refl {a = p.zones};
       version = subst (Pinned IsAmong (known_at p.table.seat) (known_at new.seat)) (sym number) pinned;
       attached = are;

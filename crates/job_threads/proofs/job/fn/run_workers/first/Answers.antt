@@ -1,8 +1,8 @@
 use Rattle.std.proofs.Common.{rules, List, ℕ, IfOk, length, subst}
+use Rattle.std.proofs.lemmas.Result.{IfOk-weaker}
 use Rattle.job_model.specs.Commands.{Command}
 use Rattle.job_script.specs.Views.{worker_view}
 use Rattle.job_commands.specs.Calls.{AreHeard}
-use Rattle.job_threads.proofs.GatherLaws.{map_ok}
 use Rattle.job_threads.proofs.job.fn.run_workers.first.Goals as goal
 
 pub returns : goal.returns
@@ -15,5 +15,5 @@ returns g c =
       ran = search rules;
       heard = subst (λ gate. IfOk c.run_worker.result (λ _. AreHeard (hears gate) c.captures.number (length worker))) turnstile.ensures.gate
           (subst (λ (n : ℕ). IfOk c.run_worker.result (λ _. AreHeard (hears turnstile.result.gate.now) n (length worker))) turnstile.ensures.number
-          (subst (λ (l : List Command). IfOk c.run_worker.result (λ _. AreHeard (hears turnstile.result.gate.now) turnstile.result.worker (length l))) turnstile.ensures.commands (map_ok c.run_worker.result (λ _ h. h.0) c.run_worker.ensures.heard)));
+          (subst (λ (l : List Command). IfOk c.run_worker.result (λ _. AreHeard (hears turnstile.result.gate.now) turnstile.result.worker (length l))) turnstile.ensures.commands (IfOk-weaker c.run_worker.result _ _ (λ _ h. h.0) c.run_worker.ensures.heard)));
     }
