@@ -59,22 +59,22 @@ pub record BeginsAs (own_chunk : Bool) (size : TableSize) (most : Option ℕ) (d
 -- ---- an operation is done, or refused
 
 -- the key is there, or isn't
-abbrev pub HasKey : List ℕ → List Entry → Type 0
-HasKey key es = (x : Entry) × InList x es × (x.key ≡ key)
+abbrev pub HasEntryOf : List ℕ → List Entry → Type 0
+HasEntryOf key es = (x : Entry) × InList x es × (x.key ≡ key)
 
-abbrev pub LacksKey : List ℕ → List Entry → Type 0
-LacksKey key es = (x : Entry) → InList x es → x.key ≡ key → ⊥
+abbrev pub LacksEntryOf : List ℕ → List Entry → Type 0
+LacksEntryOf key es = (x : Entry) → InList x es → x.key ≡ key → ⊥
 
 -- The call was to put a name in, which is refused where its key is there.
 abbrev pub Inserts : List ℕ → List ℕ → Type 0 → Type 0 → WorkingVersion → WorkingVersion → Type 0
-Inserts key item is_done is_denied old new = Does (operation.Insert (record { key = key; item = item })) (HasKey key) old new is_done is_denied
+Inserts key item is_done is_denied old new = Does (operation.Insert (record { key = key; item = item })) (HasEntryOf key) old new is_done is_denied
 
 -- It was to exchange its item, or to take it out, which is refused where its key isn't there.
 abbrev pub Replaces : List ℕ → List ℕ → Type 0 → Type 0 → WorkingVersion → WorkingVersion → Type 0
-Replaces key item is_done is_denied old new = Does (operation.Replace (record { key = key; item = item })) (LacksKey key) old new is_done is_denied
+Replaces key item is_done is_denied old new = Does (operation.Replace (record { key = key; item = item })) (LacksEntryOf key) old new is_done is_denied
 
 abbrev pub Deletes : List ℕ → Type 0 → Type 0 → WorkingVersion → WorkingVersion → Type 0
-Deletes key is_done is_denied old new = Does (operation.Delete key) (LacksKey key) old new is_done is_denied
+Deletes key is_done is_denied old new = Does (operation.Delete key) (LacksEntryOf key) old new is_done is_denied
 
 -- ---- an operation finds no room
 

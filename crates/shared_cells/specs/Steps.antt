@@ -238,7 +238,7 @@ module _ {O E : Type 0} (applied : O → E → O) (lawful : O → O → Type 0) 
 
   -- What an idle pass sees, which pins nothing: the history up to the current version. Each entry of it is one that it may have, and the version is
   -- lawful.
-  pub record Sees (v w : View O E) : Type 0 where
+  pub record SeesCurrent (v w : View O E) : Type 0 where
     pub more : List (Entry E)
     pub view : w ≡ record v { seen = with_more v.seen more }
     pub allowed : All (λ e. permitted e.change) w.seen.history
@@ -246,7 +246,7 @@ module _ {O E : Type 0} (applied : O → E → O) (lawful : O → O → Type 0) 
 
   -- It does so by this word of CUR.
   pub record Sights (v : View O E) (word : ℕ) (w : View O E) : Type 0 where
-    pub sees : Sees v w
+    pub sees : SeesCurrent v w
     -- a pin can be made of the word, which tells the version
     pub fits : word + 2 < 2 ^ 64
     pub version : version_of (word + 2) ≡ length w.seen.history

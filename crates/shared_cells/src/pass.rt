@@ -1,7 +1,7 @@
 //! The seats of passes, and the notes by which one tells another what it has seen.
 ghost use Rattle.std.specs.Prelude.{◌≡◌, ℕ, ◌+◌, ◌<◌, true, false, []};
 ghost use Rattle.shared_cells.specs.Prelude.{words_for, number_of, has_turn, is_told, is_idle, chunks_of, with_note, note_of};
-ghost use Rattle.shared_cells.specs.Prelude.{Learns, Accounts, LooksBeside, Sees, SeesUpTo};
+ghost use Rattle.shared_cells.specs.Prelude.{Learns, Accounts, LooksBeside, SeesCurrent, SeesUpTo};
 
 use crate::law::{Counted, HistoryLaw};
 use crate::plays::{Account, Hear, Learn, Sight, Tell};
@@ -93,7 +93,7 @@ impl<O, E> PassSeat<O, E> {
         ensures table { self.new.place.table_id ≡ self.old.place.table_id }
         ensures number { self.new.number ≡ self.old.number }
         ensures seen { SeesUpTo result self.old.place.me.0 self.new.place.me.0 }
-        ensures sees { Sees L.applied L.lawful L.permitted L.stands self.old.place.me.0 self.new.place.me.0 }
+        ensures sees { SeesCurrent L.applied L.lawful L.permitted L.stands self.old.place.me.0 self.new.place.me.0 }
     {
         let word = shared.table.shared.load::<Sight<L>>(&mut self.place, CUR);
         version_of_pin(word + PIN_OFFSET)
