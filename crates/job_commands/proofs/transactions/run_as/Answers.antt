@@ -70,7 +70,7 @@ returns-in-Err-clause-runs g c = record {
       (seat_told c.args.pass.now.seat c.requires.pass.here) opened_with.opening c.begin-transaction.ensures.begins c.drop-transaction.new.self.0.seat c.version-version.result c.in-Err.refusal c.kept.result c.stopped.result c.kept.ensures c.drop-transaction.ensures.back c.version-version.ensures
       (edits_as c.args.origin.now s.origin (asked_view c.args.block.now) (asked_view c.args.block.now) (Err c.in-Err.refusal) c.begin-transaction.result.locked.now.working c.edit.new.transaction.locked.now.working opened_with.index.origin_is refl c.in-Err.ensures.executes)
       (full_chunks g.N.Named.tables c.args.index.now.place c.edit.new.transaction.locked.now.place s.chunks c.args.index.now.shared.table.shared.table_id c.edit.new.transaction.locked.now.shared.now.table.shared.table_id c.edit.new.transaction.locked.now.working
-      c.args.index.now.here c.edit.new.transaction.locked.now.named (c.edit.ensures.place ∙ c.begin-transaction.ensures.place) (ap (λ n. 4161 + 2048 * n) opened_with.index.chunks ∙ c.args.index.now.shared.wide) c.edit.new.transaction.locked.now.here)
+      c.args.index.now.here c.edit.new.transaction.locked.now.named (c.edit.ensures.of_same.place ∙ c.begin-transaction.ensures.place) (ap (λ n. 4161 + 2048 * n) opened_with.index.chunks ∙ c.args.index.now.shared.wide) c.edit.new.transaction.locked.now.here)
       (has_passes s _ _ opened_with.index.passes (begun_of _ _ _ c.begin-transaction.result.locked.now.working c.begin-transaction.ensures.kind).passes) c.stopped.ensures.stopped)
       (search rules);
   wants = λ s opened_with.
