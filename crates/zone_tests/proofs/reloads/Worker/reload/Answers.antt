@@ -30,5 +30,5 @@ invariant_of-self g c =
     let there = replaced_some (Begins IsStored (known_at c.args.self.now.pass.seat)) c.args.origin.now (difference Keep before.0 c.args.zone.pairs) (Err c.in_err-replace_all.field-0.0) c.write-write.result.locked.now.working c.replace_all.new.transaction.locked.now.working
     c.write-write.ensures.begins (c.in_err-replace_all.ensures.replaces.differs before.0 before.1) in record {
       ready = back_ready c.replace_all.new.transaction.locked.now.working _ there c.drop-write.ensures.back;
-      here = same_place c.replace_all.new.transaction.locked.now.working _ _ there c.drop-write.ensures.place ∙ c.replace_all.ensures.goes_on.place ∙ c.write-write.ensures.place;
+      here = same_place c.replace_all.new.transaction.locked.now.working _ _ there c.drop-write.ensures.place ∙ c.replace_all.ensures.of_same.place ∙ c.write-write.ensures.place;
     }
