@@ -34,12 +34,14 @@ pub fn jobs_are_said()
 
 /// So is a job of octets that is one list of commands.
 pub fn lists_are_said()
-    ensures { (origin : Name) (bytes : List ℕ) (job : FedJob) → IsName origin → AllOctets bytes → fed_job_of origin bytes ≡ Ok job → IsSaidList job }
+    ensures { (origin : Name) (bytes : List ℕ) (job : FedJob) → IsName origin → AllOctets bytes
+        → fed_job_of origin bytes ≡ Ok job → IsSaidList job }
 {}
 
 /// A job's zone has room in as many chunks as the job needs, and in more.
 pub fn zones_have_room()
-    ensures { (job : Job) (least chunks : ℕ) → IsLeast (passes_for (length job.workers)) (most_cells job) (most_operations job) (Some least) → least ≤ chunks
+    ensures { (job : Job) (least chunks : ℕ)
+        → IsLeast (passes_for (length job.workers)) (most_cells job) (most_operations job) (Some least) → least ≤ chunks
         → cell_count job.zone ≤ room_in chunks }
 {}
 
@@ -66,7 +68,8 @@ pub fn small_sets_find_room()
 
 /// So it is of one list of commands that was handed out to so many workers, by the passes that these have.
 pub fn sized_lists_find_room()
-    ensures { (job : FedJob) → IsSaidList job → (fed : List FedPair) → AreFedOutcomesOf job fed → (workers chunks last : ℕ) → IsSizedList job workers chunks
+    ensures { (job : FedJob) → IsSaidList job → (fed : List FedPair) → AreFedOutcomesOf job fed → (workers chunks last : ℕ)
+        → IsSizedList job workers chunks
         → Fed (length job.commands) (all_numbers workers fed)
         → Lawful chunks (passes_fed workers) job.origin job.zone (by_worker workers fed) last → AllFedFindRoom fed }
 {}
