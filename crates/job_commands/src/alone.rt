@@ -14,7 +14,9 @@ use qp_multi::{Index, Named, Pass};
 use std::alloc::{AllocError, Global};
 use std::sync::Wait;
 
-/// Runs a question to the current version, a transaction or a compaction. What a second pass knows stays the same, wherever that is.
+/// Runs a question to the current version, a transaction or a compaction. What a second pass knows stays the same, wherever that is. It is inlined,
+/// since what it only hands on would be copied.
+#[inline(always)]
 pub fn run_alone<R: Wait, N: Named>(
     alloc: Global,
     origin: &Name,

@@ -59,6 +59,7 @@ pub fn asked_of(bytes: &[u8], word: Token, operands: &[Token]) -> Option<Asked>
 }
 
 /// A question for the records of a name and a type. The name is read last, so that it isn't copied over another call.
+#[inline(always)]
 pub fn get_of(
     bytes: &[u8],
     origin: &Name,
