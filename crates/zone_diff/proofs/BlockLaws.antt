@@ -1,31 +1,26 @@
 -- Operations in transactions do what they do one by one.
-use Rattle.std.proofs.Common.{◌≡◌, ◌∙◌, ℕ, zero, suc, ◌-◌, ◌<◌, ◌≤◌, List, [], ◌∷◌, ◌++◌, length, refl, sym, ap, arith, append_assoc, Result, Ok, Err}
-use Rattle.std.specs.List.{AllByRecursion, flat_map}
+use Rattle.std.proofs.Common.{◌≡◌, ◌∙◌, ℕ, zero, suc, ◌-◌, ◌<◌, ◌≤◌, List, [], ◌∷◌, ◌++◌, length, refl, sym, ap, arith, Result, Ok, Err}
+use Rattle.std.proofs.lemmas.Grind.{flat_map-append}
+use Rattle.std.specs.List.{AllByRecursion}
 use Rattle.zone_model.specs.Names.{Name}
-use Rattle.zone_model.specs.Versions.{Version, Operation, apply, all_applied, and_then}
+use Rattle.zone_model.specs.Versions.{Version, Operation, all_applied, and_then}
 use Rattle.zone_model.specs.declared.Refusal.{Refusal}
 use Rattle.master_file.specs.Rows.{CanBeDumped}
 use Rattle.zone_diff.specs.declared.Serial.{Serial}
 use Rattle.zone_diff.specs.Differences.{difference, made}
 use Rattle.zone_diff.specs.Blocks.{Parted, parted, blocks_of, block_limit, blocks, in_turn, StopsAt}
+use Rattle.zone_diff.specs.Held.{joined}
 use Rattle.zone_diff.proofs.DifferenceLaws.{difference_makes}
 use Rattle.zone_diff.proofs.SaidLemmas.{cut}
-
--- the operations of blocks
-abbrev pub all_of : List (List Operation) → List Operation
-all_of = flat_map (λ (block : List Operation). block)
-
-all_of-append : (front back : List (List Operation)) → all_of (front ++ back) ≡ all_of front ++ all_of back
-all_of-append [] back = refl
-all_of-append (b ∷ front) back = ap (λ (l : List Operation). b ++ l) (all_of-append front back) ∙ sym (append_assoc b (all_of front) (all_of back))
+use Rattle.zone_diff.proofs.VersionLemmas.{both_applied}
 
 -- no operation is lost
-parted_all : (most room : ℕ) (operations : List Operation) → (parted most room operations).here ++ all_of (parted most room operations).behind ≡ operations
+parted_all : (most room : ℕ) (operations : List Operation) → (parted most room operations).here ++ joined (parted most room operations).behind ≡ operations
 parted_all most room [] = refl
 parted_all most zero (x ∷ operations) = ap (λ (l : List Operation). x ∷ l) (parted_all most (most - 1) operations)
 parted_all most (suc room) (x ∷ operations) = ap (λ (l : List Operation). x ∷ l) (parted_all most room operations)
 
-pub blocks_all : (most : ℕ) (operations : List Operation) → all_of (blocks_of most operations) ≡ operations
+pub blocks_all : (most : ℕ) (operations : List Operation) → joined (blocks_of most operations) ≡ operations
 blocks_all most [] = refl
 blocks_all most (x ∷ operations) = ap (λ (l : List Operation). x ∷ l) (parted_all most (most - 1) operations)
 
@@ -61,20 +56,11 @@ sizes operations = sizes_of block_limit operations (omega arith)
 
 -- ---- one transaction after another
 
-both_applied : (origin : Name) (front back : List Operation) (version : Version) → all_applied origin (front ++ back) version ≡ and_then (all_applied origin front version) (all_applied origin back)
-both_applied origin [] back version = refl
-both_applied origin (first ∷ front) back version = by_first (λ v. both_applied origin front back v) (apply origin first version)
-  where
-    by_first : ((v : Version) → all_applied origin (front ++ back) v ≡ and_then (all_applied origin front v) (all_applied origin back)) → (r : Result Version Refusal)
-        → and_then r (all_applied origin (front ++ back)) ≡ and_then (and_then r (all_applied origin front)) (all_applied origin back)
-    by_first more (Ok v) = more v
-    by_first more (Err refusal) = refl
-
-in_turn_is : (origin : Name) (bs : List (List Operation)) (version : Version) → in_turn origin bs version ≡ all_applied origin (all_of bs) version
+in_turn_is : (origin : Name) (bs : List (List Operation)) (version : Version) → in_turn origin bs version ≡ all_applied origin (joined bs) version
 in_turn_is origin [] version = refl
-in_turn_is origin (b ∷ bs) version = by_first (λ v. in_turn_is origin bs v) (all_applied origin b version) ∙ sym (both_applied origin b (all_of bs) version)
+in_turn_is origin (b ∷ bs) version = by_first (λ v. in_turn_is origin bs v) (all_applied origin b version) ∙ sym (both_applied origin b (joined bs) version)
   where
-    by_first : ((v : Version) → in_turn origin bs v ≡ all_applied origin (all_of bs) v) → (r : Result Version Refusal) → and_then r (in_turn origin bs) ≡ and_then r (all_applied origin (all_of bs))
+    by_first : ((v : Version) → in_turn origin bs v ≡ all_applied origin (joined bs) v) → (r : Result Version Refusal) → and_then r (in_turn origin bs) ≡ and_then r (all_applied origin (joined bs))
     by_first more (Ok v) = more v
     by_first more (Err refusal) = refl
 
@@ -87,6 +73,6 @@ all_taken mode origin before after h k =
 pub stops : (mode : Serial) (origin : Name) (before after : Version) (front back : List (List Operation)) → CanBeDumped origin before → CanBeDumped origin after → blocks (difference mode before after) ≡ front ++ back
     → (middle : Version) × StopsAt origin front back before (made mode origin before after) middle
 stops mode origin before after front back h k e =
-    let whole : difference mode before after ≡ all_of front ++ all_of back = sym (blocks_all block_limit (difference mode before after)) ∙ ap all_of e ∙ all_of-append front back in
-    let c = cut mode origin before after (all_of front) (all_of back) h k whole in
+    let whole : difference mode before after ≡ joined front ++ joined back = sym (blocks_all block_limit (difference mode before after)) ∙ ap joined e ∙ flat_map-append (λ (block : List Operation). block) front back in
+    let c = cut mode origin before after (joined front) (joined back) h k whole in
     (c.0, record { taken = in_turn_is origin front before ∙ c.1.taken; zone = c.1.zone; on = in_turn_is origin back c.0 ∙ c.1.on })

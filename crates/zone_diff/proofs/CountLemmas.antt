@@ -1,18 +1,21 @@
 -- How many operations a difference has, by the records of both versions.
-use Rattle.std.proofs.Common.{◌≡◌, ℕ, zero, suc, ◌+◌, ◌*◌, ◌<◌, ◌≤◌, Bool, true, false, cond, not, eqb, List, [], ◌∷◌, ◌++◌, length, map, arith, Option, Some, None}
+use Rattle.std.proofs.Common.{◌≡◌, refl, ℕ, zero, suc, ◌+◌, ◌*◌, ◌<◌, ◌≤◌, Bool, true, false, cond, not, eqb, List, [], ◌∷◌, ◌++◌, length, map, arith, Option, Some, None}
 use Rattle.std.specs.List.{AllByRecursion, flat_map}
 use Rattle.std.specs.declared.cmp.Ordering.{Ordering}
 use Rattle.std.specs.declared.cmp.Ordering.TheVariants.{Less, Equal, Greater}
 use Rattle.std.specs.Ordering.{match_ordering}
 use Rattle.std.proofs.lemmas.List.{length-append, length-map}
 use Rattle.zone_model.specs.Names.{Name, name_cmp}
-use Rattle.zone_model.specs.Records.{Rrset, Entry, rrset_of, has_record, RisingSets, IsItem, item}
-use Rattle.zone_model.specs.Versions.{Version, Operation, DeleteName, DeleteSet, DeleteRecord, soa_type}
+use Rattle.zone_model.specs.Records.{Rrset, Entry, rrset_of, has_record, IsRrset, IsItem, item}
+use Rattle.zone_model.specs.Versions.{Version, Operation, DeleteName, soa_type}
 use Rattle.master_file.specs.Rows.{CanBeDumped}
 use Rattle.zone_diff.specs.declared.Serial.{Serial}
-use Rattle.zone_diff.specs.Differences.{addition, lacking, set_deletions, set_additions, stays, soa_exchange, soa_additions, unless_soa, deletions, additions, entry_difference, merged, difference}
+use Rattle.zone_diff.specs.declared.sets.Side.{Side}
+use Rattle.zone_diff.specs.declared.sets.Side.TheVariants.{Before, After}
+use Rattle.zone_diff.specs.Differences.{addition, lacking, record_change, whole_change, set_changes, set_additions, entry_changes, stays, soa_exchange, soa_additions, unless_soa, deletions, additions, entry_difference, merged, difference}
 use Rattle.zone_diff.specs.Serials.{renumbered}
 use Rattle.zone_diff.specs.Blocks.{parted, blocks, block_limit}
+use Rattle.zone_diff.proofs.EachLemmas.{all_any, all_of, all_proper}
 
 -- ---- records
 
@@ -31,11 +34,6 @@ record HasRecords (pair : Name × Entry) : Type 0 where
   some : 0 < in_entry pair.1
   each : AllByRecursion HasRecord pair.1
 
-sets_have : (b : Option ℕ) (entry : Entry) → RisingSets b entry → AllByRecursion HasRecord entry
-sets_have b [] h = tt
-sets_have None (s ∷ rest) h = (h.0.some, sets_have (Some s.rtype) rest h.1)
-sets_have (Some t) (s ∷ rest) h = (h.1.some, sets_have (Some s.rtype) rest h.2)
-
 some_in : (entry : Entry) → 0 < length entry → AllByRecursion HasRecord entry → 0 < in_entry entry
 some_in [] l h = absurd (omega arith)
 some_in (s ∷ rest) l h = let some = h.0 in omega (arith, some)
@@ -43,7 +41,7 @@ some_in (s ∷ rest) l h = let some = h.0 in omega (arith, some)
 all_have : (version : Version) → AllByRecursion (λ (pair : Name × Entry). IsItem (item pair.0 pair.1) pair.0 pair.1) version → AllByRecursion HasRecords version
 all_have [] h = tt
 all_have (pair ∷ rest) h =
-    let each = sets_have None pair.1 h.0.proper in
+    let each = all_of IsRrset HasRecord (λ s is. is.some) pair.1 (all_proper None pair.1 h.0.proper) in
     (record { some = some_in pair.1 h.0.some each; each = each }, all_have rest h.1)
 
 -- ---- one RRset
@@ -56,21 +54,17 @@ lacking_few others (octets ∷ rest) = by_test (not (has_record octets others)) 
     by_test true l = omega (arith, l)
     by_test false l = omega (arith, l)
 
-gone_few : (owner : Name) (o : Option Rrset) (s : Rrset) → HasRecord s → length (set_deletions owner o s) ≤ length s.records
-gone_few owner None s h = omega (arith, h)
-gone_few owner (Some t) s h = by_test (eqb s.ttl t.ttl)
-  where
-    by_test : (b : Bool) → length (cond b (map (DeleteRecord owner s.rtype) (lacking t.records s.records)) (DeleteSet owner s.rtype ∷ [])) ≤ length s.records
-    by_test true = omega (arith, length-map (lacking t.records s.records) (DeleteRecord owner s.rtype), lacking_few t.records s.records)
-    by_test false = omega (arith, h)
+whole_few : (side : Side) (owner : Name) (s : Rrset) → (side ≡ Before → HasRecord s) → length (whole_change side owner s) ≤ length s.records
+whole_few Before owner s h = let some = h refl in omega (arith, some)
+whole_few After owner s h = omega (arith, length-map s.records (record_change After owner s))
 
-come_few : (owner : Name) (o : Option Rrset) (t : Rrset) → length (set_additions owner o t) ≤ length t.records
-come_few owner None t = omega (arith, length-map t.records (addition owner t.rtype t.ttl))
-come_few owner (Some s) t = by_test (eqb s.ttl t.ttl)
+set_few : (side : Side) (owner : Name) (o : Option Rrset) (s : Rrset) → (side ≡ Before → HasRecord s) → length (set_changes side owner o s) ≤ length s.records
+set_few side owner None s h = whole_few side owner s h
+set_few side owner (Some t) s h = by_test (eqb s.ttl t.ttl)
   where
-    by_test : (b : Bool) → length (map (addition owner t.rtype t.ttl) (cond b (lacking s.records t.records) t.records)) ≤ length t.records
-    by_test true = omega (arith, length-map (lacking s.records t.records) (addition owner t.rtype t.ttl), lacking_few s.records t.records)
-    by_test false = omega (arith, length-map t.records (addition owner t.rtype t.ttl))
+    by_test : (b : Bool) → length (cond b (map (record_change side owner s) (lacking t.records s.records)) (whole_change side owner s)) ≤ length s.records
+    by_test true = omega (arith, length-map (lacking t.records s.records) (record_change side owner s), lacking_few t.records s.records)
+    by_test false = whole_few side owner s h
 
 -- ---- the SOA
 
@@ -97,23 +91,23 @@ unless_few s operations n l = by_test (eqb s.rtype soa_type)
     by_test true = omega arith
     by_test false = l
 
-deletions_few : (owner : Name) (before after : Entry) → AllByRecursion HasRecord before → length (deletions owner before after) ≤ in_entry before
-deletions_few owner [] after h = omega arith
-deletions_few owner (s ∷ rest) after h =
-    let first = unless_few s (set_deletions owner (rrset_of s.rtype after) s) (length s.records) (gone_few owner (rrset_of s.rtype after) s h.0) in
-    omega (arith, length-append (unless_soa s (set_deletions owner (rrset_of s.rtype after) s)) (deletions owner rest after), first, deletions_few owner rest after h.1)
+sets_few : (side : Side) (owner : Name) (others sets : Entry) → AllByRecursion (λ (s : Rrset). side ≡ Before → HasRecord s) sets → length (entry_changes side owner others sets) ≤ in_entry sets
+sets_few side owner others [] h = omega arith
+sets_few side owner others (s ∷ rest) h =
+    let first = unless_few s (set_changes side owner (rrset_of s.rtype others) s) (length s.records) (set_few side owner (rrset_of s.rtype others) s h.0) in
+    omega (arith, length-append (unless_soa s (set_changes side owner (rrset_of s.rtype others) s)) (entry_changes side owner others rest), first, sets_few side owner others rest h.1)
+
+come : (side : Side) → side ≡ After → (s : Rrset) → side ≡ Before → HasRecord s
+come side e s f = absurd cc
 
 additions_few : (owner : Name) (before after : Entry) → length (additions owner before after) ≤ in_entry after
-additions_few owner before [] = omega arith
-additions_few owner before (t ∷ rest) =
-    let first = unless_few t (set_additions owner (rrset_of t.rtype before) t) (length t.records) (come_few owner (rrset_of t.rtype before) t) in
-    omega (arith, length-append (unless_soa t (set_additions owner (rrset_of t.rtype before) t)) (additions owner before rest), first, additions_few owner before rest)
+additions_few owner before after = sets_few After owner before after (all_any (λ (s : Rrset). After ≡ Before → HasRecord s) (come After refl) after)
 
 -- the SOA's, of which nothing comes otherwise, and all others
 come_all_few : (mode : Serial) (owner : Name) (o : Option Rrset) (before after : Entry) → length (soa_additions mode owner o (rrset_of soa_type after)) + length (additions owner before after) ≤ 2 * in_entry after
 come_all_few mode owner o before [] = omega arith
 come_all_few mode owner o before (t ∷ rest) =
-    by_test (eqb t.rtype 6) (length-append (unless_soa t (set_additions owner (rrset_of t.rtype before) t)) (additions owner before rest)) (come_few owner (rrset_of t.rtype before) t)
+    by_test (eqb t.rtype 6) (length-append (unless_soa t (set_additions owner (rrset_of t.rtype before) t)) (additions owner before rest)) (set_few After owner (rrset_of t.rtype before) t (come After refl t))
     (exchanges_few mode owner o t.ttl t.records) (additions_few owner before rest) (come_all_few mode owner o before rest)
   where
     by_test : (b : Bool) → length (unless_soa t (set_additions owner (rrset_of t.rtype before) t) ++ additions owner before rest) ≡ length (cond b [] (set_additions owner (rrset_of t.rtype before) t)) + length (additions owner before rest)
@@ -126,7 +120,7 @@ come_all_few mode owner o before (t ∷ rest) =
 entry_few : (mode : Serial) (owner : Name) (before after : Entry) → AllByRecursion HasRecord before → length (entry_difference mode owner before after) ≤ in_entry before + 2 * in_entry after
 entry_few mode owner before after h =
     let soa = soa_additions mode owner (rrset_of soa_type before) (rrset_of soa_type after) in
-    omega (arith, length-append (deletions owner before after) (soa ++ additions owner before after), length-append soa (additions owner before after), deletions_few owner before after h, come_all_few mode owner (rrset_of soa_type before) before after)
+    omega (arith, length-append (deletions owner before after) (soa ++ additions owner before after), length-append soa (additions owner before after), sets_few Before owner after before (all_of HasRecord (λ (s : Rrset). Before ≡ Before → HasRecord s) (λ s some e. some) before h), come_all_few mode owner (rrset_of soa_type before) before after)
 
 -- ---- all names
 

@@ -9,7 +9,7 @@ use Rattle.std.specs.declared.cmp.Ordering.TheVariants.{Less, Equal, Greater}
 use Rattle.std.specs.Ordering.{is_eq, nat_cmp, match_ordering}
 use Rattle.zone_model.specs.Names.{Name, same_name}
 use Rattle.zone_model.specs.Records.{Rrset, Entry, rrset_of, changed_at, fresh, octets_cmp}
-use Rattle.zone_model.specs.Versions.{Version, Operation, DeleteName, owned, put, has_soa, apply, all_applied, and_then}
+use Rattle.zone_model.specs.Versions.{Version, Operation, DeleteName, owned, put, has_soa, all_applied, and_then}
 use Rattle.zone_model.specs.MasterFile.{soa_count}
 use Rattle.zone_model.specs.declared.Refusal.{Refusal}
 use Rattle.zone_change.proofs.FoundLaws.{is_found, left_alone, same_set}
@@ -21,12 +21,12 @@ use Rattle.zone_diff.specs.declared.Serial.{Serial}
 use Rattle.zone_diff.specs.declared.Serial.TheVariants.{Keep}
 use Rattle.zone_diff.specs.Serials.{counts_as}
 use Rattle.zone_diff.specs.Differences.{stays, staying, entry_difference, merged, difference, with_set, made_entry, made}
-use Rattle.zone_diff.proofs.RecordLemmas.{same_octets}
+use Rattle.zone_diff.proofs.RecordLemmas.{is_same, same_octets}
 use Rattle.zone_diff.proofs.FitLemmas.{IsFit}
 use Rattle.zone_diff.proofs.SoaLemmas.{OneSoa, soa_is, SoaPair}
 use Rattle.zone_diff.proofs.SoaForms.{soa_long}
 use Rattle.zone_diff.proofs.EntryLaws.{Exchange, entry_exchanged, or_none, stays_counts}
-use Rattle.zone_diff.proofs.VersionLemmas.{self_name, turned, IsAhead, stood_is, put_stood, stood_applied, behind_applied, applied_on, entry_of_name, difference_behind, IsPlainPair, IsPlainVersion, plain_difference}
+use Rattle.zone_diff.proofs.VersionLemmas.{self_name, turned, IsAhead, stood_is, put_stood, stood_applied, behind_applied, both_applied, applied_on, entry_of_name, difference_behind, IsPlainPair, IsPlainVersion, plain_difference}
 
 -- ---- what a zone's names own
 
@@ -175,11 +175,6 @@ same_soa s t one other e =
     let time : s.ttl ≡ t.ttl = eqb-true s.ttl t.ttl (first_true (eqb s.ttl t.ttl) (list_any (counts_as Keep other.octets) s.records) a) in
     let octets : one.octets ≡ other.octets = sym (same_octets other.octets one.octets (is_same (octets_cmp other.octets one.octets) (stays_counts Keep s t one other e))) in
     soa_is s one ∙ ap (λ (n : ℕ). fresh 6 n one.octets) time ∙ ap (λ (l : List ℕ). fresh 6 t.ttl l) octets ∙ sym (soa_is t other)
-  where
-    is_same : (o : Ordering) → is_eq o ≡ true → o ≡ Equal
-    is_same Less h = cc
-    is_same Equal h = refl
-    is_same Greater h = cc
 
 kept_entry : (origin : Name) (e f : Entry) → Exchange origin origin e f → made_entry Keep e f ≡ f
 kept_entry origin e f x = by_pair (rrset_of 6 e) (rrset_of 6 f) refl x.soa
@@ -208,10 +203,8 @@ made_keep origin before after h k =
 -- ---- so each part of it is taken
 
 pub front_taken : (origin : Name) (front back : List Operation) (version last : Version) → all_applied origin (front ++ back) version ≡ Ok last → (middle : Version) × (all_applied origin front version ≡ Ok middle) × (all_applied origin back middle ≡ Ok last)
-front_taken origin [] back version last e = (version, refl, e)
-front_taken origin (first ∷ front) back version last e = by_first (λ v f. front_taken origin front back v last f) (apply origin first version) e
+front_taken origin front back version last e = by_result (all_applied origin front version) (sym (both_applied origin front back version) ∙ e)
   where
-    by_first : ((v : Version) → all_applied origin (front ++ back) v ≡ Ok last → (middle : Version) × (all_applied origin front v ≡ Ok middle) × (all_applied origin back middle ≡ Ok last))
-        → (r : Result Version Refusal) → and_then r (all_applied origin (front ++ back)) ≡ Ok last → (middle : Version) × (and_then r (all_applied origin front) ≡ Ok middle) × (all_applied origin back middle ≡ Ok last)
-    by_first more (Ok v) f = more v f
-    by_first more (Err refusal) f = absurd cc
+    by_result : (r : Result Version Refusal) → and_then r (all_applied origin back) ≡ Ok last → (middle : Version) × (r ≡ Ok middle) × (all_applied origin back middle ≡ Ok last)
+    by_result (Ok v) f = (v, refl, f)
+    by_result (Err refusal) f = absurd cc

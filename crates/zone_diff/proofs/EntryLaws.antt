@@ -4,15 +4,17 @@ use Rattle.std.proofs.lemmas.Bool.Decides.{nat_tests}
 use borrow.Author.Tests.{eqb-true}
 use Rattle.std.specs.List.{list_any}
 use Rattle.zone_model.specs.Names.{Name}
-use Rattle.zone_model.specs.Records.{Rrset, Entry, rrset_of, changed_at, rrset_bytes, RisingOctets, RisingSets, IsEntry, IsRrset}
-use Rattle.zone_model.specs.Versions.{Operation, DeleteSet, DeleteRecord}
-use Rattle.zone_change.proofs.FoundLaws.{rises_on, is_set, is_found, left_alone, same_set}
+use Rattle.zone_model.specs.Records.{Rrset, Entry, rrset_of, changed_at, rrset_bytes, RisingOctets, IsEntry, IsRrset}
+use Rattle.zone_model.specs.Versions.{Operation, DeleteSet, DeleteRecord, owner_of}
+use Rattle.zone_change.proofs.FoundLaws.{is_found, left_alone, same_set}
 use Rattle.zone_diff.specs.declared.Serial.{Serial}
 use Rattle.zone_diff.specs.Serials.{counts_as}
-use Rattle.zone_diff.specs.Differences.{addition, lacking, set_deletions, set_additions, unless_soa, stays, soa_additions, staying, deletions, additions, entry_difference, with_set, made_entry}
-use Rattle.zone_diff.proofs.RecordLemmas.{without_all, AreShort, exchanged, all_come, all_short, lacking_short}
-use Rattle.zone_diff.proofs.EntryLemmas.{set_of, set_goes, all_made, AllPlain, all_plain_entry, all_plain_beside, goes_plain, comes_plain, records_go, records_come, Works, Walked, walked, found_then, same_entries}
-use Rattle.zone_diff.proofs.FitLemmas.{IsFit, all_changed, changed_on, placed, fit_placed, fresh_length, AreDeletions, AreAdditions, deletions_let, additions_let, fit_first}
+use Rattle.zone_diff.specs.declared.sets.Side.TheVariants.{Before, After}
+use Rattle.zone_diff.specs.Differences.{addition, lacking, set_changes, set_deletions, set_additions, unless_soa, stays, soa_additions, staying, deletions, additions, entry_difference, with_set, made_entry}
+use Rattle.zone_diff.proofs.EachLemmas.{Each, all_any, all_of, all_proper, lacking_all, of_set, of_sets}
+use Rattle.zone_diff.proofs.RecordLemmas.{without_all, AreShort, exchanged, all_come, all_short}
+use Rattle.zone_diff.proofs.EntryLemmas.{set_of, set_goes, all_made, IsPlain, AllPlain, all_plain_entry, all_plain_beside, plain_each, records_go, records_come, Works, Walked, walked, found_then, same_entries}
+use Rattle.zone_diff.proofs.FitLemmas.{IsFit, all_changed, changed_on, placed, fit_placed, fresh_length, IsOther, IsDeletion, IsAddition, AreDeletions, AreAdditions, deletions_let, additions_let, fit_first}
 use Rattle.zone_diff.proofs.SoaLemmas.{OneSoa, soa_is, counts_length, placed_proper, placed_found, placed_beside, SoaDone, SoaPair, soa_done, kept_or}
 
 -- ---- what is left of an RRset when the deletions are made
@@ -34,14 +36,15 @@ works operations t from to other plain done =
     record { done = done; others = λ entry k apart h. all_plain_beside k t operations entry other apart plain h; proper = λ entry h. all_plain_entry t operations entry other plain h }
 
 works_gone : (owner : Name) (y : Option Rrset) (s : Rrset) → IsRrset s → s.rtype ≢ 6 → Works (set_deletions owner y s) s.rtype (Some s) (left_of y s)
-works_gone owner None s is other = works (DeleteSet owner s.rtype ∷ []) s.rtype (Some s) None other (refl, tt) (λ entry h e. set_goes s.rtype entry h)
-works_gone owner (Some t) s is other = by_time (eqb s.ttl t.ttl)
+works_gone owner y s is other = works (set_changes Before owner y s) s.rtype (Some s) (left_of y s) other (of_set (IsPlain s.rtype) Before owner y s (plain_each Before owner s is)) (done y)
   where
-    by_time : (b : Bool) → Works (cond b (map (DeleteRecord owner s.rtype) (lacking t.records s.records)) (DeleteSet owner s.rtype ∷ [])) s.rtype (Some s) (cond b (set_of s.rtype s.ttl (without_all (lacking t.records s.records) s.records)) None)
-    by_time true =
-        works (map (DeleteRecord owner s.rtype) (lacking t.records s.records)) s.rtype (Some s) (set_of s.rtype s.ttl (without_all (lacking t.records s.records) s.records)) other (goes_plain owner s.rtype (lacking t.records s.records))
-        (λ entry h e. records_go owner s.rtype s.ttl (lacking t.records s.records) s.records entry other h (e ∙ some_set s is))
-    by_time false = works (DeleteSet owner s.rtype ∷ []) s.rtype (Some s) None other (refl, tt) (λ entry h e. set_goes s.rtype entry h)
+    done : (y : Option Rrset) (entry : Entry) → IsEntry entry → rrset_of s.rtype entry ≡ Some s → rrset_of s.rtype (all_made (set_changes Before owner y s) entry) ≡ left_of y s
+    done None entry h e = set_goes s.rtype entry h
+    done (Some t) entry h e = by_time (eqb s.ttl t.ttl)
+      where
+        by_time : (b : Bool) → rrset_of s.rtype (all_made (cond b (map (DeleteRecord owner s.rtype) (lacking t.records s.records)) (DeleteSet owner s.rtype ∷ [])) entry) ≡ cond b (set_of s.rtype s.ttl (without_all (lacking t.records s.records) s.records)) None
+        by_time true = records_go owner s.rtype s.ttl (lacking t.records s.records) s.records entry other h (e ∙ some_set s is)
+        by_time false = set_goes s.rtype entry h
 
 abbrev left_by : Option Rrset → Option Rrset → Option Rrset
 left_by None y = None
@@ -53,34 +56,31 @@ IsSetOf t None = Unit {0}
 IsSetOf t (Some s) = IsRrset s × (s.rtype ≡ t)
 
 works_come : (owner : Name) (x : Option Rrset) (t : Rrset) → IsRrset t → IsSetOf t.rtype x → t.rtype ≢ 6 → Works (set_additions owner x t) t.rtype (left_by x (Some t)) (Some t)
-works_come owner None t is of other =
-    let short : AreShort t.records = all_short None t.records is.rising in
-    let type = is.rtype in
-    let time = is.ttl in
-    works (map (addition owner t.rtype t.ttl) t.records) t.rtype None (Some t) other (comes_plain owner t.rtype t.ttl t.records type time short)
-    (λ entry h e. records_come owner t.rtype t.ttl t.records [] entry other type time short h e ∙ ap (set_of t.rtype t.ttl) (all_come t.records is.rising short) ∙ sym (some_set t is))
-works_come owner (Some s) t is of other = by_time (eqb s.ttl t.ttl) refl
+works_come owner x t is of other = works (set_changes After owner x t) t.rtype (left_by x (Some t)) (Some t) other (of_set (IsPlain t.rtype) After owner x t (plain_each After owner t is)) (done x of)
   where
-    by_time : (b : Bool) → eqb s.ttl t.ttl ≡ b
-        → Works (map (addition owner t.rtype t.ttl) (cond b (lacking s.records t.records) t.records)) t.rtype (cond b (set_of s.rtype s.ttl (without_all (lacking t.records s.records) s.records)) None) (Some t)
-    by_time true q =
-        let short : AreShort (lacking s.records t.records) = lacking_short s.records t.records (all_short None t.records is.rising) in
-        let type = is.rtype in
-        let time = is.ttl in
-        let one = of.0 in
-        let same_type : s.rtype ≡ t.rtype = of.1 in
-        let same_time : s.ttl ≡ t.ttl = eqb-true s.ttl t.ttl q in
-        let alike : set_of s.rtype s.ttl (without_all (lacking t.records s.records) s.records) ≡ set_of t.rtype t.ttl (without_all (lacking t.records s.records) s.records) =
-        ap (λ (n : ℕ). set_of n s.ttl (without_all (lacking t.records s.records) s.records)) same_type ∙ ap (λ (n : ℕ). set_of t.rtype n (without_all (lacking t.records s.records) s.records)) same_time in
-        works (map (addition owner t.rtype t.ttl) (lacking s.records t.records)) t.rtype (set_of s.rtype s.ttl (without_all (lacking t.records s.records) s.records)) (Some t) other (comes_plain owner t.rtype t.ttl (lacking s.records t.records) type time short)
-        (λ entry h e. records_come owner t.rtype t.ttl (lacking s.records t.records) (without_all (lacking t.records s.records) s.records) entry other type time short h (e ∙ alike)
-        ∙ ap (set_of t.rtype t.ttl) (exchanged s.records t.records one.rising is.rising short) ∙ sym (some_set t is))
-    by_time false q =
-        let short : AreShort t.records = all_short None t.records is.rising in
-        let type = is.rtype in
-        let time = is.ttl in
-        works (map (addition owner t.rtype t.ttl) t.records) t.rtype None (Some t) other (comes_plain owner t.rtype t.ttl t.records type time short)
-        (λ entry h e. records_come owner t.rtype t.ttl t.records [] entry other type time short h e ∙ ap (set_of t.rtype t.ttl) (all_come t.records is.rising short) ∙ sym (some_set t is))
+    short : AreShort t.records
+    short = all_short None t.records is.rising
+
+    whole : (entry : Entry) → IsEntry entry → rrset_of t.rtype entry ≡ None → rrset_of t.rtype (all_made (map (addition owner t.rtype t.ttl) t.records) entry) ≡ Some t
+    whole entry h e = records_come owner t.rtype t.ttl t.records [] entry other is.rtype is.ttl short h e ∙ ap (set_of t.rtype t.ttl) (all_come t.records is.rising short) ∙ sym (some_set t is)
+
+    done : (x : Option Rrset) → IsSetOf t.rtype x → (entry : Entry) → IsEntry entry → rrset_of t.rtype entry ≡ left_by x (Some t) → rrset_of t.rtype (all_made (set_changes After owner x t) entry) ≡ Some t
+    done None of entry h e = whole entry h e
+    done (Some s) of entry h e = by_time (eqb t.ttl s.ttl) refl (e ∙ ap (λ (b : Bool). cond b (set_of s.rtype s.ttl (without_all (lacking t.records s.records) s.records)) None) (turned s.ttl t.ttl))
+      where
+        turned : (a b : ℕ) → eqb a b ≡ eqb b a
+        turned a b = grind (arith, nat_tests)
+
+        by_time : (b : Bool) → eqb t.ttl s.ttl ≡ b → rrset_of t.rtype entry ≡ cond b (set_of s.rtype s.ttl (without_all (lacking t.records s.records) s.records)) None
+            → rrset_of t.rtype (all_made (cond b (map (addition owner t.rtype t.ttl) (lacking s.records t.records)) (map (addition owner t.rtype t.ttl) t.records)) entry) ≡ Some t
+        by_time true q f =
+            let one = of.0 in
+            let few : AreShort (lacking s.records t.records) = lacking_all (λ (octets : List ℕ). length octets ≤ 65535) s.records t.records short in
+            let alike : set_of s.rtype s.ttl (without_all (lacking t.records s.records) s.records) ≡ set_of t.rtype t.ttl (without_all (lacking t.records s.records) s.records) =
+            ap (λ (n : ℕ). set_of n s.ttl (without_all (lacking t.records s.records) s.records)) of.1 ∙ ap (λ (n : ℕ). set_of t.rtype n (without_all (lacking t.records s.records) s.records)) (sym (eqb-true t.ttl s.ttl q)) in
+            records_come owner t.rtype t.ttl (lacking s.records t.records) (without_all (lacking t.records s.records) s.records) entry other is.rtype is.ttl few h (f ∙ alike)
+            ∙ ap (set_of t.rtype t.ttl) (exchanged s.records t.records one.rising is.rising few) ∙ sym (some_set t is)
+        by_time false q f = whole entry h f
 
 no_soa : (t : ℕ) → eqb t 6 ≡ false → t ≢ 6
 no_soa t e = grind (arith, nat_tests)
@@ -117,54 +117,26 @@ found_set entry t h = by_found (rrset_of t entry) refl
 
 -- ---- which operations they are
 
-deletions-append : (front back : List Operation) → AreDeletions front → AreDeletions back → AreDeletions (front ++ back)
-deletions-append [] back a b = b
-deletions-append (x ∷ front) back a b = (a.0, a.1, deletions-append front back a.2 b)
-
-go_deletions : (owner : Name) (t : ℕ) (records : List (List ℕ)) → t ≢ 6 → AreDeletions (map (DeleteRecord owner t) records)
-go_deletions owner t [] other = tt
-go_deletions owner t (x ∷ records) other = (record { rtype = t; other = other; plain = refl }, tt, go_deletions owner t records other)
-
-set_goes_so : (owner : Name) (y : Option Rrset) (s : Rrset) → s.rtype ≢ 6 → AreDeletions (set_deletions owner y s)
-set_goes_so owner None s other = (record { rtype = s.rtype; other = other; plain = refl }, tt, tt)
-set_goes_so owner (Some t) s other = by_time (eqb s.ttl t.ttl)
-  where
-    by_time : (b : Bool) → AreDeletions (cond b (map (DeleteRecord owner s.rtype) (lacking t.records s.records)) (DeleteSet owner s.rtype ∷ []))
-    by_time true = go_deletions owner s.rtype (lacking t.records s.records) other
-    by_time false = (record { rtype = s.rtype; other = other; plain = refl }, tt, tt)
+other : (t : ℕ) → t ≢ 6 → (operation : Operation) → IsPlain t operation → IsOther operation
+other t apart operation p = record { rtype = t; other = apart; plain = p }
 
 are_deletions : (owner : Name) (after sets : Entry) → AreDeletions (deletions owner sets after)
-are_deletions owner after [] = tt
-are_deletions owner after (s ∷ sets) = deletions-append (unless_soa s (set_deletions owner (rrset_of s.rtype after) s)) (deletions owner sets after) (by_type (eqb s.rtype 6) refl) (are_deletions owner after sets)
+are_deletions owner after sets = of_sets Gone Before owner after sets (all_any (λ (s : Rrset). s.rtype ≢ 6 → Each Gone Before owner s) (λ s apart. record {
+  whole = λ e. (other s.rtype apart (DeleteSet owner s.rtype) refl, tt);
+  records = all_any (λ (octets : List ℕ). Gone (DeleteRecord owner s.rtype octets)) (λ octets. (other s.rtype apart (DeleteRecord owner s.rtype octets) refl, tt)) s.records;
+}) sets)
   where
-    by_type : (b : Bool) → eqb s.rtype 6 ≡ b → AreDeletions (cond b [] (set_deletions owner (rrset_of s.rtype after) s))
-    by_type true q = tt
-    by_type false q = set_goes_so owner (rrset_of s.rtype after) s (no_soa s.rtype q)
+    Gone : Operation → Type 0
+    Gone operation = IsOther operation × IsDeletion operation
 
-additions-append : (owner : Name) (front back : List Operation) → AreAdditions owner front → AreAdditions owner back → AreAdditions owner (front ++ back)
-additions-append owner [] back a b = b
-additions-append owner (x ∷ front) back a b = (a.0, a.1, a.2, additions-append owner front back a.3 b)
-
-come_additions : (owner : Name) (t ttl : ℕ) (records : List (List ℕ)) → t ≢ 6 → t ≤ 65535 → ttl ≤ 4294967295 → AreShort records → AreAdditions owner (map (addition owner t ttl) records)
-come_additions owner t ttl [] other a b s = tt
-come_additions owner t ttl (x ∷ records) other a b s = (record { rtype = t; other = other; plain = (refl, a, b, s.0) }, tt, refl, come_additions owner t ttl records other a b s.1)
-
-set_comes_so : (owner : Name) (x : Option Rrset) (t : Rrset) → IsRrset t → t.rtype ≢ 6 → AreAdditions owner (set_additions owner x t)
-set_comes_so owner None t is other = come_additions owner t.rtype t.ttl t.records other is.rtype is.ttl (all_short None t.records is.rising)
-set_comes_so owner (Some s) t is other = by_time (eqb s.ttl t.ttl)
+are_additions : (owner : Name) (before sets : Entry) → IsEntry sets → AreAdditions owner (additions owner before sets)
+are_additions owner before sets h = of_sets Come After owner before sets (all_of IsRrset (λ (s : Rrset). s.rtype ≢ 6 → Each Come After owner s) (λ s is apart. let e : Each (IsPlain s.rtype) After owner s = plain_each After owner s is in record {
+  whole = λ q. absurd cc;
+  records = all_of (λ (octets : List ℕ). IsPlain s.rtype (addition owner s.rtype s.ttl octets)) (λ (octets : List ℕ). Come (addition owner s.rtype s.ttl octets)) (λ octets p. (other s.rtype apart (addition owner s.rtype s.ttl octets) p, tt, refl)) s.records e.records;
+}) sets (all_proper None sets h))
   where
-    by_time : (b : Bool) → AreAdditions owner (map (addition owner t.rtype t.ttl) (cond b (lacking s.records t.records) t.records))
-    by_time true = come_additions owner t.rtype t.ttl (lacking s.records t.records) other is.rtype is.ttl (lacking_short s.records t.records (all_short None t.records is.rising))
-    by_time false = come_additions owner t.rtype t.ttl t.records other is.rtype is.ttl (all_short None t.records is.rising)
-
-are_additions : (owner : Name) (start : Option ℕ) (before sets : Entry) → RisingSets start sets → AreAdditions owner (additions owner before sets)
-are_additions owner start before [] h = tt
-are_additions owner start before (t ∷ sets) h =
-    additions-append owner (unless_soa t (set_additions owner (rrset_of t.rtype before) t)) (additions owner before sets) (by_type (eqb t.rtype 6) refl) (are_additions owner (Some t.rtype) before sets (rises_on start t sets h))
-  where
-    by_type : (b : Bool) → eqb t.rtype 6 ≡ b → AreAdditions owner (cond b [] (set_additions owner (rrset_of t.rtype before) t))
-    by_type true q = tt
-    by_type false q = set_comes_so owner (rrset_of t.rtype before) t (is_set start t sets h) (no_soa t.rtype q)
+    Come : Operation → Type 0
+    Come operation = IsOther operation × IsAddition operation × (owner_of operation ≡ owner)
 
 -- ---- what is made
 
@@ -284,37 +256,34 @@ due_where t soa None None = refl
 due_where t soa (Some s) None = refl
 
 -- what is found when the SOA is exchanged
-at_middle : (mode : Serial) (origin owner : Name) (before after gone : Entry)
-    → SoaDone origin owner (soa_additions mode owner (rrset_of 6 before) (rrset_of 6 after)) gone (kept_or (staying mode (rrset_of 6 before) (rrset_of 6 after)) (rrset_of 6 after))
-    → ((t : ℕ) → rrset_of t gone ≡ left_at before after t) → (t : ℕ) (b : Bool) → eqb t 6 ≡ b
-    → rrset_of t (all_made (soa_additions mode owner (rrset_of 6 before) (rrset_of 6 after)) gone) ≡ then_at (kept_or (staying mode (rrset_of 6 before) (rrset_of 6 after)) (rrset_of 6 after)) before after t
-at_middle mode origin owner before after gone done at t true q =
-    subst (λ (n : ℕ). rrset_of n (all_made (soa_additions mode owner (rrset_of 6 before) (rrset_of 6 after)) gone) ≡ then_at (kept_or (staying mode (rrset_of 6 before) (rrset_of 6 after)) (rrset_of 6 after)) before after n) (sym (is_soa t q)) done.found
-at_middle mode origin owner before after gone done at t false q =
-    done.others t (no_soa t q) ∙ at t
-    ∙ ap (λ (b : Bool). cond b (rrset_of t before) (left_by (rrset_of t before) (rrset_of t after))) q
-    ∙ sym (ap (λ (b : Bool). cond b (kept_or (staying mode (rrset_of 6 before) (rrset_of 6 after)) (rrset_of 6 after)) (left_by (rrset_of t before) (rrset_of t after))) q)
+at_middle : (before after gone middle : Entry) (soa : Option Rrset) → rrset_of 6 middle ≡ soa → ((k : ℕ) → k ≢ 6 → rrset_of k middle ≡ rrset_of k gone) → ((t : ℕ) → rrset_of t gone ≡ left_at before after t) → (t : ℕ) (b : Bool) → eqb t 6 ≡ b
+    → rrset_of t middle ≡ then_at soa before after t
+at_middle before after gone middle soa found others at t true q = subst (λ (n : ℕ). rrset_of n middle ≡ then_at soa before after n) (sym (is_soa t q)) found
+at_middle before after gone middle soa found others at t false q =
+    let left : Option Rrset = left_by (rrset_of t before) (rrset_of t after) in
+    others t (no_soa t q) ∙ at t ∙ ap (λ (b : Bool). cond b (rrset_of t before) left) q ∙ sym (ap (λ (b : Bool). cond b soa left) q)
 
 pub entry_exchanged : (mode : Serial) (origin owner : Name) (before after : Entry) → Exchange origin owner before after → all_changed origin (entry_difference mode owner before after) before ≡ Ok (made_entry mode before after)
 entry_exchanged mode origin owner before after x =
-    let soa : Option Rrset = kept_or (staying mode (rrset_of 6 before) (rrset_of 6 after)) (rrset_of 6 after) in
+    let old = rrset_of 6 before in
+    let new = rrset_of 6 after in
+    let soa = kept_or (staying mode old new) new in
+    let between = soa_additions mode owner old new in
     let gone : Entry = all_made (deletions owner before after) before in
-    let first = first_walk owner before after x.before_is in
-    let at_gone : (t : ℕ) → rrset_of t (all_made (deletions owner before after) before) ≡ left_at before after t =
-    λ t. first.found t ∙ left_where t (rrset_of t before) (rrset_of t after) in
-    let second = soa_part mode origin owner after (all_made (deletions owner before after) before) (rrset_of 6 before) (rrset_of 6 after) x.after_is x.soa refl first.proper (at_gone 6) in
-    let middle : Entry = all_made (soa_additions mode owner (rrset_of 6 before) (rrset_of 6 after)) gone in
-    let third = second_walk owner soa before after middle x.before_is x.after_is second.proper (λ t. at_middle mode origin owner before after gone second at_gone t (eqb t 6) refl) in
-    let due = made_done mode origin owner before after (rrset_of 6 before) (rrset_of 6 after) x.before_is x.after_is x.fit x.soa refl refl in
+    let middle : Entry = all_made between gone in
     let last : Entry = all_made (additions owner before after) middle in
+    let first = first_walk owner before after x.before_is in
+    let at_gone : (t : ℕ) → rrset_of t (all_made (deletions owner before after) before) ≡ left_at before after t = λ t. first.found t ∙ left_where t (rrset_of t before) (rrset_of t after) in
+    let second = soa_part mode origin owner after gone old new x.after_is x.soa refl first.proper (at_gone 6) in
+    let there = λ (t : ℕ). at_middle before after gone middle soa second.found second.others at_gone t (eqb t 6) refl in
+    let third = second_walk owner soa before after middle x.before_is x.after_is second.proper there in
+    let due = made_done mode origin owner before after old new x.before_is x.after_is x.fit x.soa refl refl in
     let same : last ≡ made_entry mode before after =
     same_entries None None last (made_entry mode before after) third.proper due.proper
-    (λ t. third.found t ∙ ap (λ (f : Option Rrset). found_then (rrset_of t after) (due_at soa after t) f) (at_middle mode origin owner before after gone second at_gone t (eqb t 6) refl)
-    ∙ due_where t soa (rrset_of t before) (rrset_of t after) ∙ sym (due.found t)) in
+    (λ t. third.found t ∙ ap (λ (f : Option Rrset). found_then (rrset_of t after) (due_at soa after t) f) (there t) ∙ due_where t soa (rrset_of t before) (rrset_of t after) ∙ sym (due.found t)) in
     let fit : IsFit owner last = subst (IsFit owner) (sym same) due.fit in
-    let adds = are_additions owner None before after x.after_is in
-    let middle_fit : IsFit owner middle = fit_first owner (additions owner before after) middle adds second.proper fit in
-    changed_on origin (deletions owner before after) (soa_additions mode owner (rrset_of 6 before) (rrset_of 6 after) ++ additions owner before after) before gone (deletions_let origin (deletions owner before after) before (are_deletions owner after before) x.before_is)
-    ∙ changed_on origin (soa_additions mode owner (rrset_of 6 before) (rrset_of 6 after)) (additions owner before after) gone middle (second.is_let middle_fit)
+    let adds = are_additions owner before after x.after_is in
+    changed_on origin (deletions owner before after) (between ++ additions owner before after) before gone (deletions_let origin (deletions owner before after) before (are_deletions owner after before) x.before_is)
+    ∙ changed_on origin between (additions owner before after) gone middle (second.is_let (fit_first owner (additions owner before after) middle adds second.proper fit))
     ∙ additions_let origin owner (additions owner before after) middle adds second.proper fit
     ∙ ap (λ (l : Entry). Ok l) same

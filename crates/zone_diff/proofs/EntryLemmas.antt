@@ -1,7 +1,7 @@
 -- What is found in an entry that operations changed, RRset by RRset.
 use Rattle.std.proofs.Common.{◌≡◌, ◌≢◌, ◌∙◌, ℕ, suc, ◌<◌, ◌≤◌, Bool, true, false, cond, eqb, List, [], ◌∷◌, ◌++◌, length, map, refl, sym, ap, subst, arith, Option, Some, None}
 use Rattle.std.proofs.lemmas.Bool.Decides.{nat_tests}
-use Rattle.std.specs.List.{flat_map}
+use Rattle.std.specs.List.{AllByRecursion, flat_map}
 use Rattle.std.specs.declared.cmp.Ordering.{Ordering}
 use Rattle.std.specs.declared.cmp.Ordering.TheVariants.{Less, Equal, Greater}
 use Rattle.std.specs.Ordering.{nat_cmp, match_ordering}
@@ -12,8 +12,11 @@ use Rattle.zone_model.proofs.EntryLaws.{entry_with, entry_without, entry_without
 use Rattle.zone_model.specs.Versions.{Addition, Operation, Add, DeleteName, DeleteSet, DeleteRecord, with_added, with_soa}
 use Rattle.zone_change.specs.Counts.{candidate}
 use Rattle.zone_change.proofs.FoundLaws.{Change, rises_on, is_set, none_above, changed_alike, IsOf, first_of, found_changed, found_beside, is_found}
-use Rattle.zone_diff.specs.Differences.{addition}
-use Rattle.zone_diff.proofs.RecordLemmas.{with_all, without_all, AreShort}
+use Rattle.zone_diff.specs.declared.sets.Side.{Side}
+use Rattle.zone_diff.specs.declared.sets.Side.TheVariants.{Before, After}
+use Rattle.zone_diff.specs.Differences.{addition, record_change}
+use Rattle.zone_diff.proofs.EachLemmas.{Each, all_of}
+use Rattle.zone_diff.proofs.RecordLemmas.{with_all, without_all, AreShort, all_short}
 
 -- ---- entries in which the same is found are one
 
@@ -161,8 +164,7 @@ plain_beside k t (DeleteRecord owner rtype octets) entry other apart p h =
     beside_at k rtype (lessened octets) entry (λ e. apart (e ∙ p)) (lessened_of rtype octets (rrset_of rtype entry) (found_is rtype entry h)) h
 
 abbrev pub AllPlain : ℕ → List Operation → Type 0
-AllPlain t [] = Unit {0}
-AllPlain t (first ∷ rest) = IsPlain t first × AllPlain t rest
+AllPlain t operations = AllByRecursion (IsPlain t) operations
 
 -- what operations make of an entry, in order
 abbrev pub all_made : List Operation → Entry → Entry
@@ -184,13 +186,15 @@ all_plain_beside k t (first ∷ rest) entry other apart p h =
 
 -- ---- many records of one RRset
 
-pub goes_plain : (owner : Name) (t : ℕ) (records : List (List ℕ)) → AllPlain t (map (DeleteRecord owner t) records)
-goes_plain owner t [] = tt
-goes_plain owner t (x ∷ records) = (refl, goes_plain owner t records)
+plain_record : (side : Side) (owner : Name) (s : Rrset) → IsRrset s → (octets : List ℕ) → length octets ≤ 65535 → IsPlain s.rtype (record_change side owner s octets)
+plain_record Before owner s is octets l = refl
+plain_record After owner s is octets l = (refl, is.rtype, is.ttl, l)
 
-pub comes_plain : (owner : Name) (t ttl : ℕ) (records : List (List ℕ)) → t ≤ 65535 → ttl ≤ 4294967295 → AreShort records → AllPlain t (map (addition owner t ttl) records)
-comes_plain owner t ttl [] a b s = tt
-comes_plain owner t ttl (x ∷ records) a b s = ((refl, a, b, s.0), comes_plain owner t ttl records a b s.1)
+pub plain_each : (side : Side) (owner : Name) (s : Rrset) → IsRrset s → Each (IsPlain s.rtype) side owner s
+plain_each side owner s is = record {
+  whole = λ e. refl;
+  records = all_of (λ (octets : List ℕ). length octets ≤ 65535) (λ (octets : List ℕ). IsPlain s.rtype (record_change side owner s octets)) (plain_record side owner s is) s.records (all_short None s.records is.rising);
+}
 
 pub records_go : (owner : Name) (t ttl : ℕ) (gone records : List (List ℕ)) (entry : Entry) → t ≢ 6 → IsEntry entry → rrset_of t entry ≡ set_of t ttl records
     → rrset_of t (all_made (map (DeleteRecord owner t) gone) entry) ≡ set_of t ttl (without_all gone records)

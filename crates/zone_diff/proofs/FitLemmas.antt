@@ -2,7 +2,7 @@
 use Rattle.std.proofs.Common.{◌≡◌, ◌≢◌, ◌∙◌, ℕ, suc, ◌+◌, ◌<◌, ◌≤◌, Bool, true, false, not, ◌&&◌, ◌||◌, cond, eqb, leb, ltb, List, [], ◌∷◌, ◌++◌, length, refl, sym, ap, subst, arith, Option, Some, None, Result, Ok, Err, length-append}
 use Rattle.std.proofs.lemmas.Bool.Decides.{nat_tests}
 use borrow.Author.Tests.{eqb-true}
-use Rattle.std.specs.List.{flat_map}
+use Rattle.std.specs.List.{AllByRecursion, flat_map}
 use Rattle.std.specs.Option.{is_some, is_none}
 use Rattle.std.specs.Int.{w16, w32, to_be_bytes}
 use Rattle.std.specs.declared.cmp.Ordering.{Ordering}
@@ -268,8 +268,7 @@ pub record IsOther (operation : Operation) : Type 0 where
   pub plain : IsPlain rtype operation
 
 abbrev pub AreDeletions : List Operation → Type 0
-AreDeletions [] = Unit {0}
-AreDeletions (first ∷ rest) = IsOther first × IsDeletion first × AreDeletions rest
+AreDeletions operations = AllByRecursion (λ (operation : Operation). IsOther operation × IsDeletion operation) operations
 
 abbrev pub IsAddition : Operation → Type 0
 IsAddition (Add a) = Unit {0}
@@ -278,15 +277,14 @@ IsAddition (DeleteSet owner rtype) = ⊥
 IsAddition (DeleteRecord owner rtype octets) = ⊥
 
 abbrev pub AreAdditions : Name → List Operation → Type 0
-AreAdditions owner [] = Unit {0}
-AreAdditions owner (first ∷ rest) = IsOther first × IsAddition first × (owner_of first ≡ owner) × AreAdditions owner rest
+AreAdditions owner operations = AllByRecursion (λ (operation : Operation). IsOther operation × IsAddition operation × (owner_of operation ≡ owner)) operations
 
 pub deletions_let : (origin : Name) (operations : List Operation) (entry : Entry) → AreDeletions operations → IsEntry entry → all_changed origin operations entry ≡ Ok (all_made operations entry)
 deletions_let origin [] entry d h = refl
 deletions_let origin (first ∷ rest) entry d h =
-    let o = d.0 in
-    ap (λ (r : Result Entry Refusal). and_then r (all_changed origin rest)) (deletion_let origin o.rtype first entry o.other o.plain d.1 h)
-    ∙ deletions_let origin rest (candidate first entry) d.2 (plain_entry o.rtype first entry o.other o.plain h)
+    let o = d.0.0 in
+    ap (λ (r : Result Entry Refusal). and_then r (all_changed origin rest)) (deletion_let origin o.rtype first entry o.other o.plain d.0.1 h)
+    ∙ deletions_let origin rest (candidate first entry) d.1 (plain_entry o.rtype first entry o.other o.plain h)
 
 added_fit : (owner : Name) (operation : Operation) (entry : Entry) → IsOther operation → IsAddition operation → IsEntry entry → IsFit owner (candidate operation entry) → IsFit owner entry
 added_fit owner (Add a) entry o d h f =
@@ -300,8 +298,8 @@ added_fit owner (DeleteRecord x rtype octets) entry o d h f = absurd d
 pub fit_first : (owner : Name) (operations : List Operation) (entry : Entry) → AreAdditions owner operations → IsEntry entry → IsFit owner (all_made operations entry) → IsFit owner entry
 fit_first owner [] entry d h f = f
 fit_first owner (first ∷ rest) entry d h f =
-    let o = d.0 in
-    added_fit owner first entry d.0 d.1 h (fit_first owner rest (candidate first entry) d.3 (plain_entry o.rtype first entry o.other o.plain h) f)
+    let o = d.0.0 in
+    added_fit owner first entry o d.0.1 h (fit_first owner rest (candidate first entry) d.1 (plain_entry o.rtype first entry o.other o.plain h) f)
 
 addition_let : (origin : Name) (operation : Operation) (entry : Entry) → IsOther operation → IsAddition operation → IsFit (owner_of operation) (candidate operation entry) → changed origin operation entry ≡ Ok (candidate operation entry)
 addition_let origin (Add a) entry o d f =
@@ -318,8 +316,8 @@ addition_let origin (DeleteRecord x rtype octets) entry o d f = absurd d
 pub additions_let : (origin owner : Name) (operations : List Operation) (entry : Entry) → AreAdditions owner operations → IsEntry entry → IsFit owner (all_made operations entry) → all_changed origin operations entry ≡ Ok (all_made operations entry)
 additions_let origin owner [] entry d h f = refl
 additions_let origin owner (first ∷ rest) entry d h f =
-    let o = d.0 in
+    let o = d.0.0 in
     let next : IsEntry (candidate first entry) = plain_entry o.rtype first entry o.other o.plain h in
-    let fit : IsFit owner (candidate first entry) = fit_first owner rest (candidate first entry) d.3 next f in
-    ap (λ (r : Result Entry Refusal). and_then r (all_changed origin rest)) (addition_let origin first entry d.0 d.1 (subst (λ (n : Name). IsFit n (candidate first entry)) (sym d.2) fit))
-    ∙ additions_let origin owner rest (candidate first entry) d.3 next f
+    let fit : IsFit owner (candidate first entry) = fit_first owner rest (candidate first entry) d.1 next f in
+    ap (λ (r : Result Entry Refusal). and_then r (all_changed origin rest)) (addition_let origin first entry o d.0.1 (subst (λ (n : Name). IsFit n (candidate first entry)) (sym d.0.2) fit))
+    ∙ additions_let origin owner rest (candidate first entry) d.1 next f

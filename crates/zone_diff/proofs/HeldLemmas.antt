@@ -1,5 +1,5 @@
 -- Operations in blocks that are full but for the last, and their text.
-use Rattle.std.proofs.Common.{◌≡◌, ◌∙◌, ℕ, zero, suc, ◌-◌, ◌<◌, ◌≤◌, eqb, List, [], ◌∷◌, ◌++◌, length, refl, sym, ap, arith, append_assoc, append-nil, Result, Ok, Err, IfOk}
+use Rattle.std.proofs.Common.{◌≡◌, ◌∙◌, ℕ, zero, suc, ◌-◌, ◌<◌, ◌≤◌, eqb, List, [], ◌∷◌, ◌++◌, length, refl, sym, ap, arith, append_assoc, append-nil}
 use Rattle.std.proofs.lemmas.Bool.Decides.{nat_tests}
 use Rattle.std.proofs.lemmas.Grind.{flat_map-append}
 use Rattle.std.specs.List.{AllByRecursion, flat_map}
@@ -97,10 +97,6 @@ finished_begun style origin text (suc room) operations some h =
     ap (λ (l : List ℕ). l ++ closing style) o.is ∙ ended_text style origin o.whole o.begun ∙ ap (flat_map (block_text style origin)) (sym are)
 
 -- ---- the text of a sink
-
-pub if_ok_then : {A E : Type 0} (r : Result A E) (P Q : A → Type 0) → ((x : A) → P x → Q x) → IfOk r P → IfOk r Q
-if_ok_then (Ok x) P Q f h = f x h
-if_ok_then (Err e) P Q f h = tt
 
 aimed : (style : DiffStyle) (origin : Name) (aim : Aim) (operations : List Operation) → style ≡ aim.style → origin ≡ aim.origin → text_in style origin operations ≡ text_in aim.style aim.origin operations
 aimed style origin aim operations e f = ap (λ (s : DiffStyle). text_in s origin operations) e ∙ ap (λ (n : Name). text_in aim.style n operations) f

@@ -1,4 +1,5 @@
 pub mod RecordLemmas
+pub mod EachLemmas
 pub mod EntryLemmas
 pub mod FitLemmas
 pub mod SoaLemmas

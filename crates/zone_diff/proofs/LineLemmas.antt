@@ -51,18 +51,6 @@ four a n s e t x l r = simp append_assoc
 four_words : (a s n t x r : List ℕ) → a ++ s ++ (n ++ s ++ (t ++ s ++ x)) ++ r ≡ a ++ (s ++ (n ++ (s ++ (t ++ (s ++ (x ++ r))))))
 four_words a s n t x r = simp append_assoc
 
-three : (a n s e t l r : List ℕ) → a ++ n ++ s ++ e ++ t ++ l ++ r ≡ a ++ (n ++ (s ++ (e ++ (t ++ (l ++ r)))))
-three a n s e t l r = simp append_assoc
-
-three_words : (a s n t r : List ℕ) → a ++ s ++ (n ++ s ++ t) ++ r ≡ a ++ (s ++ (n ++ (s ++ (t ++ r))))
-three_words a s n t r = simp append_assoc
-
-two : (a n l r : List ℕ) → a ++ n ++ l ++ r ≡ a ++ (n ++ (l ++ r))
-two a n l r = simp append_assoc
-
-two_words : (a s n r : List ℕ) → a ++ s ++ n ++ r ≡ a ++ (s ++ (n ++ r))
-two_words a s n r = simp append_assoc
-
 abbrev space : List ℕ
 space = 32 ∷ []
 
@@ -73,8 +61,8 @@ pub line_parts : (operation : Operation) (rest : List ℕ) → line AsScript ope
 line_parts (Add a) rest =
     five (codes "add ") (text_of a.owner) space (decimal a.ttl) [] (type_text a.rtype) (data_text a.rtype a.octets) feed rest
     ∙ sym (five_words (codes "add") space (text_of a.owner) (decimal a.ttl) (type_text a.rtype) (data_text a.rtype a.octets) (10 ∷ rest))
-line_parts (DeleteName owner) rest = two (codes "del ") (text_of owner) feed rest ∙ sym (two_words (codes "del") space (text_of owner) (10 ∷ rest))
-line_parts (DeleteSet owner rtype) rest = three (codes "del ") (text_of owner) space [] (type_text rtype) feed rest ∙ sym (three_words (codes "del") space (text_of owner) (type_text rtype) (10 ∷ rest))
+line_parts (DeleteName owner) rest = simp append_assoc
+line_parts (DeleteSet owner rtype) rest = simp append_assoc
 line_parts (DeleteRecord owner rtype octets) rest =
     four (codes "del ") (text_of owner) space [] (type_text rtype) (data_text rtype octets) feed rest ∙ sym (four_words (codes "del") space (text_of owner) (type_text rtype) (data_text rtype octets) (10 ∷ rest))
 

@@ -1,15 +1,18 @@
 -- Looked at once, records that rise give the same as each looked up.
-use Rattle.std.proofs.Common.{◌≡◌, ◌∙◌, ℕ, Bool, true, false, not, ◌||◌, cond, eqb, List, [], ◌∷◌, ◌++◌, map, refl, sym, ap, subst, Option, Some, None, Result, Ok, Err, OnOk}
+use Rattle.std.proofs.Common.{arith, ◌≡◌, ◌∙◌, ℕ, Bool, true, false, not, ◌||◌, cond, eqb, List, [], ◌∷◌, ◌++◌, map, refl, sym, ap, subst, append_assoc, append-nil, Option, Some, None, Result, OnOk}
 use Rattle.std.specs.declared.cmp.Ordering.{Ordering}
 use Rattle.std.specs.declared.cmp.Ordering.TheVariants.{Less, Equal, Greater}
 use Rattle.std.specs.declared.alloc.AllocError.{AllocError}
 use Rattle.std.specs.Ordering.{is_eq, match_ordering, ordering_reverse}
+use Rattle.std.proofs.lemmas.Bool.Decides.{nat_tests}
 use Rattle.std.proofs.lemmas.Cmp.{nat_list_cmp_total}
 use Rattle.zone_model.specs.Names.{Name}
 use Rattle.zone_model.specs.Records.{Rrset, octets_cmp, has_record, RisingOctets}
-use Rattle.zone_model.specs.Versions.{Operation, DeleteSet, DeleteRecord}
-use Rattle.zone_diff.specs.Differences.{addition, lacking, set_deletions, set_additions}
-use Rattle.zone_diff.specs.Merges.{reached, is_first, lacking_beside, deletions_beside, additions_beside, Rises}
+use Rattle.zone_model.specs.Versions.{Operation}
+use Rattle.zone_diff.specs.declared.sets.Side.{Side}
+use Rattle.zone_diff.specs.declared.sets.Side.TheVariants.{Before, After}
+use Rattle.zone_diff.specs.Differences.{lacking, record_change, set_changes, whole_change}
+use Rattle.zone_diff.specs.Merges.{reached, is_first, lacking_beside, Rises}
 use Rattle.zone_diff.specs.Sinks.{Aim, Adds, AddsFront}
 use Rattle.zone_diff.proofs.RecordLemmas.{none_behind}
 
@@ -64,65 +67,43 @@ beside_is before after others (x ∷ records) h k =
     turned true = refl
     turned false = refl
 
-pub deletions_alike : (owner : Name) (other : Option Rrset) (s : Rrset) → Rises (Some s) → Rises other → deletions_beside owner other s ≡ set_deletions owner other s
-deletions_alike owner None s h k = refl
-deletions_alike owner (Some t) s h k = ap (λ (l : List (List ℕ)). cond (eqb s.ttl t.ttl) (map (DeleteRecord owner s.rtype) l) (DeleteSet owner s.rtype ∷ [])) (beside_is None None t.records s.records k h)
+beside_none : (records : List (List ℕ)) → lacking_beside [] records ≡ records
+beside_none [] = refl
+beside_none (x ∷ records) = ap (λ (l : List (List ℕ)). x ∷ l) (beside_none records)
 
-pub additions_alike : (owner : Name) (other : Option Rrset) (t : Rrset) → Rises (Some t) → Rises other → additions_beside owner other t ≡ set_additions owner other t
-additions_alike owner None t h k = refl
-additions_alike owner (Some s) t h k =
-    ap (λ (l : List (List ℕ)). cond (eqb s.ttl t.ttl) (map (addition owner t.rtype t.ttl) l) (map (addition owner t.rtype t.ttl) t.records)) (beside_is None None s.records t.records k h) ∙ by_time (eqb s.ttl t.ttl)
-  where
-    by_time : (b : Bool) → cond b (map (addition owner t.rtype t.ttl) (lacking s.records t.records)) (map (addition owner t.rtype t.ttl) t.records) ≡ map (addition owner t.rtype t.ttl) (cond b (lacking s.records t.records) t.records)
-    by_time true = refl
-    by_time false = refl
+pub whole_comes : (side : Side) (owner : Name) (s : Rrset) → side ≡ After → map (record_change side owner s) (lacking_beside [] s.records) ≡ whole_change side owner s
+whole_comes Before owner s e = absurd cc
+whole_comes After owner s e = ap (map (record_change After owner s)) (beside_none s.records)
+
+pub changes_alike : (side : Side) (owner : Name) (s t : Rrset) → s.ttl ≡ t.ttl → Rises (Some s) → Rises (Some t) → map (record_change side owner s) (lacking_beside t.records s.records) ≡ set_changes side owner (Some t) s
+changes_alike side owner s t e h k =
+    let same : eqb s.ttl t.ttl ≡ true = grind (arith, nat_tests) in
+    ap (map (record_change side owner s)) (beside_is None None t.records s.records k h)
+    ∙ sym (ap (λ (b : Bool). cond b (map (record_change side owner s) (lacking t.records s.records)) (whole_change side owner s)) same)
 
 -- ---- sinks
 
 pub adds_alike : (r : Result (Unit {0}) AllocError) (had has : Aim → List Operation → Type 0) (xs ys : List Operation) → xs ≡ ys → OnOk r (Adds had has xs) → OnOk r (Adds had has ys)
 adds_alike r had has xs ys e h = subst (λ (l : List Operation). OnOk r (Adds had has l)) e h
 
-pub ok_then : (r : Result (Unit {0}) AllocError) (P Q : Type 0) → (P → Q) → OnOk r P → OnOk r Q
-ok_then (Ok u) P Q f h = f h
-ok_then (Err e) P Q f h = tt
-
-pub ok_both : (r : Result (Unit {0}) AllocError) (P Q R : Type 0) → (P → Q → R) → OnOk r P → OnOk r Q → OnOk r R
-ok_both (Ok u) P Q R f h k = f h k
-ok_both (Err e) P Q R f h k = tt
-
-pub nothing_behind : (l : List Operation) → l ++ [] ≡ l
-nothing_behind [] = refl
-nothing_behind (x ∷ l) = ap (λ (r : List Operation). x ∷ r) (nothing_behind l)
-
-grouped : (a b c : List Operation) → (a ++ b) ++ c ≡ a ++ (b ++ c)
-grouped [] b c = refl
-grouped (x ∷ a) b c = ap (λ (r : List Operation). x ∷ r) (grouped a b c)
-
 pub front_starts : (had : Aim → List Operation → Type 0) (all : List Operation) → AddsFront had had all all
-front_starts had all = record { done = []; gives = refl; added = λ aim operations h. subst (had aim) (sym (nothing_behind operations)) h }
-
-pub front_more : (had has next : Aim → List Operation → Type 0) (all left : List Operation) (operation : Operation) → AddsFront had has all (operation ∷ left) → Adds has next (operation ∷ []) → AddsFront had next all left
-front_more had has next all left operation f a = record {
-  done = f.done ++ operation ∷ [];
-  gives = grouped f.done (operation ∷ []) left ∙ f.gives;
-  added = λ aim operations h. subst (next aim) (grouped operations f.done (operation ∷ [])) (a aim (operations ++ f.done) (f.added aim operations h));
-}
+front_starts had all = record { done = []; gives = refl; added = λ aim operations h. subst (had aim) (sym (append-nil operations)) h }
 
 -- several operations came
 pub front_joins : (had has next : Aim → List Operation → Type 0) (all left come : List Operation) → AddsFront had has all (come ++ left) → Adds has next come → AddsFront had next all left
 front_joins had has next all left come f a = record {
   done = f.done ++ come;
-  gives = grouped f.done come left ∙ f.gives;
-  added = λ aim operations h. subst (next aim) (grouped operations f.done come) (a aim (operations ++ f.done) (f.added aim operations h));
+  gives = append_assoc f.done come left ∙ f.gives;
+  added = λ aim operations h. subst (next aim) (append_assoc operations f.done come) (a aim (operations ++ f.done) (f.added aim operations h));
 }
 
 -- what came behind what came before
 pub adds_joined : (had has next : Aim → List Operation → Type 0) (xs ys : List Operation) → Adds had has xs → Adds has next ys → Adds had next (xs ++ ys)
-adds_joined had has next xs ys a b = λ aim operations h. subst (next aim) (grouped operations xs ys) (b aim (operations ++ xs) (a aim operations h))
+adds_joined had has next xs ys a b = λ aim operations h. subst (next aim) (append_assoc operations xs ys) (b aim (operations ++ xs) (a aim operations h))
 
 pub front_ends : (had has : Aim → List Operation → Type 0) (all left : List Operation) → left ≡ [] → AddsFront had has all left → Adds had has all
 front_ends had has all left e f =
-    let is : f.done ≡ all = sym (nothing_behind f.done) ∙ ap (λ (l : List Operation). f.done ++ l) (sym e) ∙ f.gives in
+    let is : f.done ≡ all = sym (append-nil f.done) ∙ ap (λ (l : List Operation). f.done ++ l) (sym e) ∙ f.gives in
     subst (Adds had has) is f.added
 
 -- an operation that came unless what it is for was there
@@ -133,5 +114,5 @@ front_unless had has next all f octets others rest b e front adds =
   where
     by_test : (t : Bool) → AddsFront had has all (map f (cond t (lacking_beside (reached octets others) rest) (octets ∷ lacking_beside (reached octets others) rest))) → Adds has next (cond t [] (f octets ∷ []))
         → AddsFront had next all (map f (lacking_beside (reached octets others) rest))
-    by_test true x a = record { done = x.done; gives = x.gives; added = λ aim operations h. subst (next aim) (nothing_behind (operations ++ x.done)) (a aim (operations ++ x.done) (x.added aim operations h)) }
-    by_test false x a = front_more had has next all (map f (lacking_beside (reached octets others) rest)) (f octets) x a
+    by_test true x a = front_joins had has next all (map f (lacking_beside (reached octets others) rest)) [] x a
+    by_test false x a = front_joins had has next all (map f (lacking_beside (reached octets others) rest)) (f octets ∷ []) x a

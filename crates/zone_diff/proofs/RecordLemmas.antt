@@ -1,10 +1,11 @@
 -- Records that go and records that come: what is there afterwards.
 use Rattle.std.proofs.Common.{◌≡◌, ◌∙◌, ℕ, ◌≤◌, Bool, true, false, not, ◌&&◌, ◌||◌, cond, List, [], ◌∷◌, length, refl, sym, ap, subst, Option, Some, None}
+use Rattle.std.specs.List.{AllByRecursion}
 use Rattle.std.specs.declared.cmp.Ordering.{Ordering}
 use Rattle.std.specs.declared.cmp.Ordering.TheVariants.{Less, Equal, Greater}
 use Rattle.std.specs.Ordering.{match_ordering, is_eq, ordering_reverse}
 use Rattle.std.specs.FinMap.{nat_cmp-IsAntisymmetric, slice_cmp-IsAntisymmetric}
-use Rattle.std.proofs.lemmas.Cmp.{nat_list_cmp_total}
+use Rattle.std.proofs.lemmas.Cmp.{nat_list_cmp_total, tied_itself}
 use Rattle.zone_model.specs.Records.{octets_cmp, with_record, without_record, has_record, RisingOctets}
 use Rattle.zone_model.proofs.EntryLaws.{rising_with, rising_without}
 use Rattle.zone_diff.specs.Differences.{lacking}
@@ -12,13 +13,13 @@ use Rattle.zone_diff.specs.Differences.{lacking}
 pub same_octets : (a b : List ℕ) → octets_cmp a b ≡ Equal → a ≡ b
 same_octets a b e = slice_cmp-IsAntisymmetric nat_cmp-IsAntisymmetric a b e
 
-pub self_octets : (a : List ℕ) → octets_cmp a a ≡ Equal
-self_octets a = by_order (octets_cmp a a) refl
-  where
-    by_order : (o : Ordering) → octets_cmp a a ≡ o → o ≡ Equal
-    by_order Less e = let turned = nat_list_cmp_total.antisymm a a ∙ ap ordering_reverse e in let bad : Less ≡ Greater = sym e ∙ turned in cc
-    by_order Equal e = refl
-    by_order Greater e = let turned = nat_list_cmp_total.antisymm a a ∙ ap ordering_reverse e in let bad : Greater ≡ Less = sym e ∙ turned in cc
+self_octets : (a : List ℕ) → octets_cmp a a ≡ Equal
+self_octets a = tied_itself nat_list_cmp_total a
+
+pub is_same : (o : Ordering) → is_eq o ≡ true → o ≡ Equal
+is_same Less e = cc
+is_same Equal e = refl
+is_same Greater e = cc
 
 -- whether a record is another
 abbrev pub is_it : List ℕ → List ℕ → Bool
@@ -35,6 +36,10 @@ none_behind r b [] e h = refl
 none_behind r b (x ∷ records) e h =
     let lt : octets_cmp r x ≡ Less = nat_list_cmp_total.trans r b x e h.0 in
     ap (λ (o : Ordering). is_eq o || has_record r records) lt ∙ none_behind r x records lt h.2
+
+itself_not : (x : List ℕ) (records : List (List ℕ)) → RisingOctets (Some x) records → has_record x records ≡ false
+itself_not x [] k = refl
+itself_not x (y ∷ records) k = ap (λ (o : Ordering). is_eq o || has_record x records) k.0 ∙ none_behind x y records k.0 k.2
 
 pub there_with : (r octets : List ℕ) (records : List (List ℕ)) → has_record r (with_record octets records) ≡ (is_it r octets || has_record r records)
 there_with r octets [] = refl
@@ -68,11 +73,6 @@ there_without r octets before (first ∷ rest) h = by_order (octets_cmp octets f
     kept true c f = f refl
     kept false c f = refl
 
-    is_same : (b : Ordering) → is_eq b ≡ true → b ≡ Equal
-    is_same Less e = cc
-    is_same Equal e = refl
-    is_same Greater e = cc
-
     by_order : (o : Ordering) → octets_cmp octets first ≡ o → has_record r (without_record octets rest) ≡ (not (is_it r octets) && has_record r rest)
         → has_record r (match_ordering o (first ∷ rest) rest (first ∷ without_record octets rest)) ≡ (not (is_it r octets) && (is_it r first || has_record r rest))
     by_order Less e on = kept (is_it r octets) (is_it r first || has_record r rest) (λ same.
@@ -84,11 +84,7 @@ there_without r octets before (first ∷ rest) h = by_order (octets_cmp octets f
         gone : (b : Bool) → is_it r first ≡ b → has_record r rest ≡ (not b && (b || has_record r rest))
         gone true same =
             let is : r ≡ first = same_octets r first (is_same (octets_cmp r first) same) in
-            subst (λ (x : List ℕ). has_record x rest ≡ false) (sym is) (itself rest h.2)
-          where
-            itself : (records : List (List ℕ)) → RisingOctets (Some first) records → has_record first records ≡ false
-            itself [] k = refl
-            itself (x ∷ records) k = ap (λ (o : Ordering). is_eq o || has_record first records) k.0 ∙ none_behind first x records k.0 k.2
+            subst (λ (x : List ℕ). has_record x rest ≡ false) (sym is) (itself_not first rest h.2)
         gone false same = refl
     by_order Greater e on = ap (λ (b : Bool). is_it r first || b) on ∙ spread (is_it r first) (is_it r octets) refl refl
       where
@@ -116,8 +112,7 @@ without_all (x ∷ more) records = without_all more (without_record x records)
 
 -- each has at most 65,535 octets
 abbrev pub AreShort : List (List ℕ) → Type 0
-AreShort [] = Unit {0}
-AreShort (x ∷ more) = (length x ≤ 65535) × AreShort more
+AreShort records = AllByRecursion (λ (octets : List ℕ). length octets ≤ 65535) records
 
 pub rising_with_all : (more records : List (List ℕ)) → AreShort more → RisingOctets None records → RisingOctets None (with_all more records)
 rising_with_all [] records s h = h
@@ -151,11 +146,6 @@ pub there_lacking : (r : List ℕ) (others records : List (List ℕ)) → has_re
 there_lacking r others [] = refl
 there_lacking r others (x ∷ records) = by_test (there_lacking r others records) (has_record x others) refl
   where
-    is_same : (b : Ordering) → is_eq b ≡ true → b ≡ Equal
-    is_same Less e = cc
-    is_same Equal e = refl
-    is_same Greater e = cc
-
     joined : (a : Bool) → is_it r x ≡ a → (b : Bool) → has_record x others ≡ b → (c d : Bool) → has_record r others ≡ d → cond (not b) (a || (c && not d)) (c && not d) ≡ ((a || c) && not d)
     joined true p true q c d s =
         let is : r ≡ x = same_octets r x (is_same (octets_cmp r x) p) in
@@ -188,10 +178,6 @@ there_lacking r others (x ∷ records) = by_test (there_lacking r others records
 has_head : (x : List ℕ) (rest : List (List ℕ)) → has_record x (x ∷ rest) ≡ true
 has_head x rest = ap (λ (o : Ordering). is_eq o || has_record x rest) (self_octets x)
 
-itself_not : (x : List ℕ) (records : List (List ℕ)) → RisingOctets (Some x) records → has_record x records ≡ false
-itself_not x [] k = refl
-itself_not x (y ∷ records) k = ap (λ (o : Ordering). is_eq o || has_record x records) k.0 ∙ none_behind x y records k.0 k.2
-
 pub same_records : (b c : Option (List ℕ)) (xs ys : List (List ℕ)) → RisingOctets b xs → RisingOctets c ys → ((r : List ℕ) → has_record r xs ≡ has_record r ys) → xs ≡ ys
 same_records b c [] [] h k e = refl
 same_records b c [] (y ∷ ys) h k e = let bad : false ≡ true = e y ∙ has_head y ys in cc
@@ -211,11 +197,6 @@ same_records b c (x ∷ xs) (y ∷ ys) h k e = by_order (same_records (Some x) (
         let rest : xs ≡ ys = more (λ r. others r (is_it r x) refl) in
         cc
       where
-        is_same : (b : Ordering) → is_eq b ≡ true → b ≡ Equal
-        is_same Less e = cc
-        is_same Equal e = refl
-        is_same Greater e = cc
-
         others : (r : List ℕ) (t : Bool) → is_it r x ≡ t → has_record r xs ≡ has_record r ys
         others r true p =
             let one : r ≡ x = same_octets r x (is_same (octets_cmp r x) p) in
@@ -254,11 +235,3 @@ all_come after k short =
 pub all_short : (before : Option (List ℕ)) (records : List (List ℕ)) → RisingOctets before records → AreShort records
 all_short before [] h = tt
 all_short before (x ∷ records) h = (h.1, all_short (Some x) records h.2)
-
-pub lacking_short : (others records : List (List ℕ)) → AreShort records → AreShort (lacking others records)
-lacking_short others [] s = tt
-lacking_short others (x ∷ records) s = by_test (lacking_short others records s.1) (has_record x others)
-  where
-    by_test : AreShort (lacking others records) → (b : Bool) → AreShort (cond (not b) (x ∷ lacking others records) (lacking others records))
-    by_test more true = more
-    by_test more false = (s.0, more)

@@ -1,22 +1,17 @@
 -- The operations of a difference are as scripts say them: records as master files have them, at names of the zone.
-use Rattle.std.proofs.Common.{◌≡◌, ◌∙◌, ℕ, zero, suc, ◌+◌, ◌-◌, ◌%◌, ◌<◌, ◌≤◌, Bool, true, false, not, cond, eqb, leb, List, [], ◌∷◌, ◌++◌, length, map, take, drop, get_or, set, refl, sym, ap, subst, arith, Option, Some, None, Ok, length-append, length-set}
+use Rattle.std.proofs.Common.{◌≡◌, ◌≢◌, ◌∙◌, ℕ, zero, suc, ◌+◌, ◌-◌, ◌%◌, ◌<◌, ◌≤◌, Bool, true, false, cond, leb, List, [], ◌∷◌, ◌++◌, length, take, drop, get_or, set, refl, sym, ap, subst, arith, Option, Some, None, Ok, length-append, length-set}
 use borrow.Author.Tests.{eqb-true}
-use Rattle.std.specs.List.{AllByRecursion, flat_map}
+use Rattle.std.specs.List.{AllByRecursion}
 use Rattle.std.specs.Option.{option_map}
-use Rattle.std.specs.Int.{w32, from_be_bytes}
-use Rattle.std.specs.declared.cmp.Ordering.{Ordering}
-use Rattle.std.specs.declared.cmp.Ordering.TheVariants.{Less, Equal, Greater}
-use Rattle.std.specs.Ordering.{match_ordering}
-use Rattle.zone_model.specs.Names.{Name, IsName, name_cmp, wire}
-use Rattle.zone_model.specs.Records.{Rrset, Entry, rrset_of, has_record}
-use Rattle.zone_model.proofs.NameLemmas.{name_cmp-IsAntisymmetric}
+use Rattle.zone_model.specs.Names.{Name, IsName, wire}
+use Rattle.zone_model.specs.Records.{Rrset, Entry, rrset_of}
 use Rattle.master_file.specs.Rows.{IsRecord}
 use Rattle.zone_model.specs.Versions.{Version, Operation, Add, DeleteName, DeleteSet, DeleteRecord, all_applied}
 use Rattle.zone_model.specs.DataWords.{most_time, data_type}
 use Rattle.zone_model.specs.Types.{Field, NameField, NumberField, TimeField}
 use Rattle.zone_model.specs.Splits.{split_octets, split_name}
-use Rattle.zone_model.specs.DataForms.{split_time, field_rest, fits_behind, fields_fit, form_fits}
-use Rattle.zone_model.proofs.SplitLemmas.{map_some, and_some, cond_some, octets_sound, name_sound, name_back, bytes_behind}
+use Rattle.zone_model.specs.DataForms.{field_rest, fits_behind, fields_fit, form_fits}
+use Rattle.zone_model.proofs.SplitLemmas.{map_some, name_sound, name_back, bytes_behind}
 use Rattle.zone_change.proofs.FoundLaws.{is_found}
 use Rattle.master_file.specs.Rows.{CanBeDumped}
 use Rattle.report_laws.specs.Changes.{IsInside, IsSaid, row_of}
@@ -25,10 +20,12 @@ use Rattle.report_laws.proofs.WellFormedLemmas.{IsOwned, well_formed}
 use Rattle.report_laws.proofs.ChangeLemmas.{whole_dumped}
 use Rattle.zone_diff.specs.declared.Serial.{Serial}
 use Rattle.zone_diff.specs.Serials.{renumbered}
-use Rattle.zone_diff.specs.Differences.{addition, lacking, set_deletions, set_additions, unless_soa, stays, soa_exchange, soa_additions, deletions, additions, entry_difference, merged, difference, made}
-use Rattle.zone_diff.proofs.SoaForms.{is_bytes}
+use Rattle.zone_diff.specs.declared.sets.Side.{Side}
+use Rattle.zone_diff.specs.declared.sets.Side.TheVariants.{Before, After}
+use Rattle.zone_diff.specs.Differences.{addition, record_change, soa_additions, entry_difference, difference, made}
+use Rattle.zone_diff.proofs.SoaForms.{is_bytes, rest_long, time_split}
 use Rattle.zone_diff.proofs.DifferenceLaws.{found_all, difference_makes, front_taken}
-use Rattle.dns_name.proofs.BodyLemmas.{all_append}
+use Rattle.zone_diff.proofs.EachLemmas.{Each, HasSoa, all_of, front_all, of_difference, of_entry, of_soas}
 use Rattle.zone_diff.specs.Cuts.{CutAt}
 
 -- ---- another serial leaves the form
@@ -86,29 +83,11 @@ named_renumbers fields octets v b e more =
           ∙ t.fit;
     }
 
-times : List Field
-times = TimeField ∷ TimeField ∷ TimeField ∷ TimeField ∷ []
-
 time_rest : (octets rest : List ℕ) → field_rest TimeField octets ≡ Some rest → length octets ≡ 4 + length rest
-time_rest octets rest e =
-    let m = map_some (λ (x : List ℕ × List ℕ). x.1) (split_time octets) rest e in
-    let a = and_some (λ (x : List ℕ × List ℕ). cond (leb (from_be_bytes w32 x.0) most_time) (Some x) None) (split_octets 4 octets) m.0 m.1 in
-    let c = cond_some (leb (from_be_bytes w32 a.0.0) most_time) (Some a.0) m.0 a.2 in
-    let same : a.0 ≡ m.0 = cc in
-    let s = octets_sound 4 octets a.0 a.1 in
-    let size = s.0 in
-    let long : length octets ≡ length a.0.0 + length a.0.1 = ap (λ (l : List ℕ). length l) s.1 ∙ length-append a.0.0 a.0.1 in
-    let rest_is : length a.0.1 ≡ length rest = ap (λ (x : List ℕ × List ℕ). length x.1) same ∙ ap (λ (l : List ℕ). length l) m.2 in
-    omega (arith, size, long, rest_is)
+time_rest octets rest e = let t = time_split octets rest e in rest_long 4 octets rest t.0 t.1 t.2
 
 number_rest : (octets rest : List ℕ) → field_rest NumberField octets ≡ Some rest → length octets ≡ 4 + length rest
-number_rest octets rest e =
-    let m = map_some (λ (x : List ℕ × List ℕ). x.1) (split_octets 4 octets) rest e in
-    let s = octets_sound 4 octets m.0 m.1 in
-    let size = s.0 in
-    let long : length octets ≡ length m.0.0 + length m.0.1 = ap (λ (l : List ℕ). length l) s.1 ∙ length-append m.0.0 m.0.1 in
-    let rest_is : length m.0.1 ≡ length rest = ap (λ (l : List ℕ). length l) m.2 in
-    omega (arith, size, long, rest_is)
+number_rest octets rest e = let m = map_some (λ (x : List ℕ × List ℕ). x.1) (split_octets 4 octets) rest e in rest_long 4 octets rest m.0 m.1 m.2
 
 -- fields behind a time or number
 one_rest : (r : Option (List ℕ)) (fit : List ℕ → Bool) → fits_behind r fit ≡ true → (rest : List ℕ) × (r ≡ Some rest) × (fit rest ≡ true)
@@ -198,8 +177,7 @@ abbrev AllSaidBy : Name → List Operation → Type 0
 AllSaidBy origin operations = AllByRecursion (IsTold origin) operations
 
 all_told_said : (origin : Name) (operations : List Operation) → AllSaidBy origin operations → AllByRecursion (IsSaid origin) operations
-all_told_said origin [] h = tt
-all_told_said origin (x ∷ operations) h = (told_said origin x h.0, all_told_said origin operations h.1)
+all_told_said origin = all_of (IsTold origin) (IsSaid origin) (told_said origin)
 
 -- what is known of the records of an RRset
 record IsKnown (t ttl : ℕ) : Type 0 where
@@ -213,69 +191,18 @@ known_of origin n s is = record { number = is.number; kind = is.kind; time = is.
 one_said : (origin n : Name) (t ttl : ℕ) (octets : List ℕ) → IsInside origin n → IsKnown t ttl → IsData t octets → IsTold origin (addition n t ttl octets)
 one_said origin n t ttl octets inside k d = (inside, record { owner = inside.name; number = k.number; kind = k.kind; time = k.time; bytes = d.bytes; short = d.short; form = d.form })
 
-come_said : (origin n : Name) (t ttl : ℕ) (records : List (List ℕ)) → IsInside origin n → IsKnown t ttl → AllByRecursion (IsData t) records → AllSaidBy origin (map (addition n t ttl) records)
-come_said origin n t ttl [] inside k d = tt
-come_said origin n t ttl (x ∷ records) inside k d = (one_said origin n t ttl x inside k d.0, come_said origin n t ttl records inside k d.1)
-
 type_of : (origin n : Name) (s : Rrset) → IsSet origin n s → IsType s.rtype
 type_of origin n s is = record { number = is.number; kind = is.kind }
 
-go_said : (origin n : Name) (t : ℕ) (records : List (List ℕ)) → IsInside origin n → IsType t → AllByRecursion (IsData t) records → AllSaidBy origin (map (DeleteRecord n t) records)
-go_said origin n t [] inside k d = tt
-go_said origin n t (x ∷ records) inside k d = ((inside, k, d.0), go_said origin n t records inside k d.1)
+record_said : (side : Side) (origin n : Name) (s : Rrset) → IsInside origin n → IsSet origin n s → (octets : List ℕ) → IsData s.rtype octets → IsTold origin (record_change side n s octets)
+record_said Before origin n s inside is octets d = (inside, type_of origin n s is, d)
+record_said After origin n s inside is octets d = one_said origin n s.rtype s.ttl octets inside (known_of origin n s is) d
 
-lacking_all : (P : List ℕ → Type 0) (others records : List (List ℕ)) → AllByRecursion P records → AllByRecursion P (lacking others records)
-lacking_all P others [] h = tt
-lacking_all P others (x ∷ records) h = by_test (lacking_all P others records h.1) (has_record x others)
-  where
-    by_test : AllByRecursion P (lacking others records) → (b : Bool) → AllByRecursion P (cond (not b) (x ∷ lacking others records) (lacking others records))
-    by_test more true = more
-    by_test more false = (h.0, more)
-
-deletions_said : (origin n : Name) (after sets : Entry) → IsInside origin n → AllSets origin n sets → AllSaidBy origin (deletions n sets after)
-deletions_said origin n after [] inside h = tt
-deletions_said origin n after (s ∷ sets) inside h =
-    all_append (IsTold origin) (unless_soa s (set_deletions n (rrset_of s.rtype after) s)) (deletions n sets after) (by_type (eqb s.rtype 6) (rrset_of s.rtype after)) (deletions_said origin n after sets inside h.1)
-  where
-    by_time : (b : Bool) (t : Rrset) → AllSaidBy origin (cond b (map (DeleteRecord n s.rtype) (lacking t.records s.records)) (DeleteSet n s.rtype ∷ []))
-    by_time true t = let is = h.0 in go_said origin n s.rtype (lacking t.records s.records) inside (type_of origin n s h.0) (lacking_all (IsData s.rtype) t.records s.records is.each)
-    by_time false t = ((inside, type_of origin n s h.0), tt)
-
-    by_type : (b : Bool) (y : Option Rrset) → AllSaidBy origin (cond b [] (set_deletions n y s))
-    by_type true y = tt
-    by_type false None = ((inside, type_of origin n s h.0), tt)
-    by_type false (Some t) = by_time (eqb s.ttl t.ttl) t
-
-additions_said : (origin n : Name) (before sets : Entry) → IsInside origin n → AllSets origin n sets → AllSaidBy origin (additions n before sets)
-additions_said origin n before [] inside h = tt
-additions_said origin n before (t ∷ sets) inside h =
-    all_append (IsTold origin) (unless_soa t (set_additions n (rrset_of t.rtype before) t)) (additions n before sets) (by_type (eqb t.rtype 6) (rrset_of t.rtype before)) (additions_said origin n before sets inside h.1)
-  where
-    by_time : (b : Bool) (s : Rrset) → AllSaidBy origin (map (addition n t.rtype t.ttl) (cond b (lacking s.records t.records) t.records))
-    by_time true s = let is = h.0 in come_said origin n t.rtype t.ttl (lacking s.records t.records) inside (known_of origin n t h.0) (lacking_all (IsData t.rtype) s.records t.records is.each)
-    by_time false s = let is = h.0 in come_said origin n t.rtype t.ttl t.records inside (known_of origin n t h.0) is.each
-
-    by_type : (b : Bool) (x : Option Rrset) → AllSaidBy origin (cond b [] (set_additions n x t))
-    by_type true x = tt
-    by_type false None = let is = h.0 in come_said origin n t.rtype t.ttl t.records inside (known_of origin n t h.0) is.each
-    by_type false (Some s) = by_time (eqb s.ttl t.ttl) s
-
-soas_said : (mode : Serial) (origin n : Name) (x : Option Rrset) (ttl : ℕ) (records : List (List ℕ)) → IsInside origin n → IsKnown 6 ttl → AllByRecursion (IsData 6) records → AllSaidBy origin (flat_map (soa_exchange mode n x ttl) records)
-soas_said mode origin n x ttl [] inside k d = tt
-soas_said mode origin n x ttl (octets ∷ records) inside k d =
-    all_append (IsTold origin) (soa_exchange mode n x ttl octets) (flat_map (soa_exchange mode n x ttl) records) (one x) (soas_said mode origin n x ttl records inside k d.1)
-  where
-    this : IsTold origin (addition n 6 ttl octets)
-    this = one_said origin n 6 ttl octets inside k d.0
-
-    by_tests : (b c : Bool) → AllSaidBy origin (cond b [] (cond c (addition n 6 ttl (renumbered octets) ∷ addition n 6 ttl octets ∷ []) (addition n 6 ttl octets ∷ [])))
-    by_tests true c = tt
-    by_tests false true = (one_said origin n 6 ttl (renumbered octets) inside k (renumbered_data octets d.0), (one_said origin n 6 ttl octets inside k d.0, tt))
-    by_tests false false = (one_said origin n 6 ttl octets inside k d.0, tt)
-
-    one : (f : Option Rrset) → AllSaidBy origin (soa_exchange mode n f ttl octets)
-    one None = (one_said origin n 6 ttl octets inside k d.0, tt)
-    one (Some s) = by_tests (stays mode s ttl octets) (has_record octets s.records)
+sets_said : (side : Side) (origin n : Name) (sets : Entry) → IsInside origin n → AllSets origin n sets → AllByRecursion (λ (s : Rrset). s.rtype ≢ 6 → Each (IsTold origin) side n s) sets
+sets_said side origin n sets inside h = all_of (IsSet origin n) (λ (s : Rrset). s.rtype ≢ 6 → Each (IsTold origin) side n s) (λ s is other. record {
+  whole = λ e. (inside, type_of origin n s is);
+  records = all_of (IsData s.rtype) (λ (octets : List ℕ). IsTold origin (record_change side n s octets)) (record_said side origin n s inside is) s.records is.each;
+}) sets h
 
 soa_said : (mode : Serial) (origin n : Name) (x : Option Rrset) (after : Entry) → IsInside origin n → AllSets origin n after → ((s : Rrset) → rrset_of 6 after ≡ Some s → s.rtype ≡ 6) → AllSaidBy origin (soa_additions mode n x (rrset_of 6 after))
 soa_said mode origin n x after inside h typed = by_found (rrset_of 6 after) refl
@@ -284,53 +211,32 @@ soa_said mode origin n x after inside h typed = by_found (rrset_of 6 after) refl
     by_found None e = tt
     by_found (Some t) e =
         let is = found_all (IsSet origin n) 6 after t h e in
-        let type = typed t e in
-        soas_said mode origin n x t.ttl t.records inside (subst (λ (k : ℕ). IsKnown k t.ttl) type (known_of origin n t is)) (subst (λ (k : ℕ). AllByRecursion (IsData k) t.records) type is.each)
-
-entry_said : (mode : Serial) (origin n : Name) (before after : Entry) → IsInside origin n → AllSets origin n before → AllSets origin n after → ((s : Rrset) → rrset_of 6 after ≡ Some s → s.rtype ≡ 6) → AllSaidBy origin (entry_difference mode n before after)
-entry_said mode origin n before after inside g h typed =
-    all_append (IsTold origin) (deletions n before after) (soa_additions mode n (rrset_of 6 before) (rrset_of 6 after) ++ additions n before after) (deletions_said origin n after before inside g)
-    (all_append (IsTold origin) (soa_additions mode n (rrset_of 6 before) (rrset_of 6 after)) (additions n before after) (soa_said mode origin n (rrset_of 6 before) after inside h typed) (additions_said origin n before after inside h))
+        let k : IsKnown 6 t.ttl = subst (λ (k : ℕ). IsKnown k t.ttl) (typed t e) (known_of origin n t is) in
+        of_soas (IsTold origin) mode n x t.ttl t.records
+        (all_of (IsData 6) (HasSoa (IsTold origin) n t.ttl) (λ octets d. (one_said origin n 6 t.ttl octets inside k d, one_said origin n 6 t.ttl (renumbered octets) inside k (renumbered_data octets d))) t.records
+        (subst (λ (k : ℕ). AllByRecursion (IsData k) t.records) (typed t e) is.each))
 
 inside_of : (origin : Name) (pair : Name × Entry) → IsOwned origin pair → IsInside origin pair.0
 inside_of origin pair o = record { name = o.item.name; under = o.under }
 
 pair_said : (mode : Serial) (origin : Name) (before : Entry) (a : Name × Entry) → AllSets origin a.0 before → IsOwned origin a → AllSaidBy origin (entry_difference mode a.0 before a.1)
-pair_said mode origin before a g o = entry_said mode origin a.0 before a.1 (inside_of origin a o) g o.sets (λ s e. (is_found None 6 a.1 s o.item.proper e).1)
-
-news_said : (mode : Serial) (origin : Name) (after : Version) → AllByRecursion (IsOwned origin) after → AllSaidBy origin (difference mode [] after)
-news_said mode origin [] h = tt
-news_said mode origin (a ∷ after) h = all_append (IsTold origin) (entry_difference mode a.0 [] a.1) (difference mode [] after) (pair_said mode origin [] a tt h.0) (news_said mode origin after h.1)
-
-merged_said : (mode : Serial) (origin : Name) (b : Name × Entry) (others : Version → List Operation) (after : Version) → IsOwned origin b → ((v : Version) → AllByRecursion (IsOwned origin) v → AllSaidBy origin (others v)) → AllByRecursion (IsOwned origin) after
-    → AllSaidBy origin (merged mode b others after)
-merged_said mode origin b others [] o more h = (inside_of origin b o, more [] tt)
-merged_said mode origin b others (a ∷ after) o more h = by_order (name_cmp b.0 a.0) refl (merged_said mode origin b others after o more h.1)
-  where
-    by_order : (x : Ordering) → name_cmp b.0 a.0 ≡ x → AllSaidBy origin (merged mode b others after)
-        → AllSaidBy origin (match_ordering x (DeleteName b.0 ∷ others (a ∷ after)) (entry_difference mode b.0 b.1 a.1 ++ others after) (entry_difference mode a.0 [] a.1 ++ merged mode b others after))
-    by_order Less e on = (inside_of origin b o, more (a ∷ after) h)
-    by_order Equal e on =
-        all_append (IsTold origin) (entry_difference mode b.0 b.1 a.1) (others after)
-        (subst (λ (n : Name). AllSaidBy origin (entry_difference mode n b.1 a.1)) (sym (name_cmp-IsAntisymmetric b.0 a.0 e)) (pair_said mode origin b.1 a (subst (λ (n : Name). AllSets origin n b.1) (name_cmp-IsAntisymmetric b.0 a.0 e) o.sets) h.0)) (more after h.1)
-    by_order Greater e on = all_append (IsTold origin) (entry_difference mode a.0 [] a.1) (merged mode b others after) (pair_said mode origin [] a tt h.0) on
-
-said : (mode : Serial) (origin : Name) (before after : Version) → AllByRecursion (IsOwned origin) before → AllByRecursion (IsOwned origin) after → AllSaidBy origin (difference mode before after)
-said mode origin [] after g h = news_said mode origin after h
-said mode origin (b ∷ before) after g h = merged_said mode origin b (difference mode before) after g.0 (λ v k. said mode origin before v g.1 k) h
+pair_said mode origin before a g o =
+    let inside : IsInside origin a.0 = inside_of origin a o in
+    of_entry (IsTold origin) mode a.0 before a.1 (sets_said Before origin a.0 before inside g) (sets_said After origin a.0 a.1 inside o.sets)
+    (soa_said mode origin a.0 (rrset_of 6 before) a.1 inside o.sets (λ s e. (is_found None 6 a.1 s o.item.proper e).1))
 
 pub difference_told : (mode : Serial) (origin : Name) (before after : Version) → CanBeDumped origin before → CanBeDumped origin after → AllByRecursion (IsTold origin) (difference mode before after)
-difference_told mode origin before after h k = let a = well_formed origin before h in let b = well_formed origin after k in said mode origin before after a.each b.each
+difference_told mode origin before after h k =
+    let a = well_formed origin before h in
+    let b = well_formed origin after k in
+    of_difference (IsTold origin) mode (IsOwned origin) (inside_of origin) (λ c o. pair_said mode origin [] c tt o)
+    (λ b a same p o. subst (λ (n : Name). AllSaidBy origin (entry_difference mode n b.1 a.1)) (sym same) (pair_said mode origin b.1 a (subst (λ (n : Name). AllSets origin n b.1) same p.sets) o)) before after a.each b.each
 
 -- ---- so each part of a difference leaves a zone
-
-front_said : (origin : Name) (front back : List Operation) → AllSaidBy origin (front ++ back) → AllSaidBy origin front
-front_said origin [] back h = tt
-front_said origin (x ∷ front) back h = (h.0, front_said origin front back h.1)
 
 pub cut : (mode : Serial) (origin : Name) (before after : Version) (front back : List Operation) → CanBeDumped origin before → CanBeDumped origin after → difference mode before after ≡ front ++ back
     → (middle : Version) × CutAt origin front back before (made mode origin before after) middle
 cut mode origin before after front back h k e =
     let m = front_taken origin front back before (made mode origin before after) (subst (λ (l : List Operation). all_applied origin l before ≡ Ok (made mode origin before after)) e (difference_makes mode origin before after h k)) in
-    let saids : AllSaidBy origin front = front_said origin front back (subst (AllSaidBy origin) e (difference_told mode origin before after h k)) in
+    let saids : AllSaidBy origin front = front_all (IsTold origin) front back (subst (AllSaidBy origin) e (difference_told mode origin before after h k)) in
     (m.0, record { taken = m.1; zone = whole_dumped origin (record { needs = []; operations = front }) before m.0 m.1 h (all_told_said origin front saids); on = m.2 })

@@ -25,7 +25,9 @@ use Rattle.zone_diff.specs.Blocks.{block_limit, blocks, changes}
 use Rattle.zone_diff.specs.Commands.{TakesCommands, committed}
 use Rattle.zone_diff.specs.Differences.{difference}
 use Rattle.zone_diff.specs.Texts.{block_text, line, text_in}
-use Rattle.zone_diff.proofs.BlockLaws.{all_of, blocks_all, sizes}
+use Rattle.zone_diff.proofs.BlockLaws.{blocks_all, sizes}
+use Rattle.zone_diff.specs.Held.{joined}
+use Rattle.zone_diff.proofs.EachLemmas.{all_of, back_all, front_all}
 use Rattle.zone_diff.proofs.LineLemmas.{LineSaid, body, line_parts, line_said}
 use Rattle.zone_diff.proofs.SaidLemmas.{IsTold, difference_told}
 
@@ -128,25 +130,12 @@ module _ (origin : Name) (listing : Listing) (earlier : List (List Command)) (he
 
 -- ---- the text of a difference
 
-each_block : (P : Operation → Type 0) (bs : List (List Operation)) → AllByRecursion P (all_of bs) → AllByRecursion (λ (b : List Operation). AllByRecursion P b) bs
+each_block : (P : Operation → Type 0) (bs : List (List Operation)) → AllByRecursion P (joined bs) → AllByRecursion (λ (b : List Operation). AllByRecursion P b) bs
 each_block P [] h = tt
-each_block P (b ∷ bs) h = (front_of b (all_of bs) h, each_block P bs (back_of b (all_of bs) h))
-  where
-    front_of : (xs ys : List Operation) → AllByRecursion P (xs ++ ys) → AllByRecursion P xs
-    front_of [] ys k = tt
-    front_of (x ∷ xs) ys k = (k.0, front_of xs ys k.1)
-
-    back_of : (xs ys : List Operation) → AllByRecursion P (xs ++ ys) → AllByRecursion P ys
-    back_of [] ys k = k
-    back_of (x ∷ xs) ys k = back_of xs ys k.1
-
-shown_of : (origin : Name) (operations : List Operation) → AllByRecursion (IsTold origin) operations → AreShown operations
-shown_of origin [] h = tt
-shown_of origin (x ∷ operations) h = let l : LineSaid origin 0 x = line_said origin 0 x h.0 in (l.shown, shown_of origin operations h.1)
+each_block P (b ∷ bs) h = (front_all P b (joined bs) h, each_block P bs (back_all P b (joined bs) h))
 
 all_shown : (origin : Name) (bs : List (List Operation)) → AllByRecursion (λ (b : List Operation). AllByRecursion (IsTold origin) b) bs → AllByRecursion AreShown bs
-all_shown origin [] h = tt
-all_shown origin (b ∷ bs) h = (shown_of origin b h.0, all_shown origin bs h.1)
+all_shown origin = all_of (λ (b : List Operation). AllByRecursion (IsTold origin) b) AreShown (all_of (IsTold origin) (λ (x : Operation). list_all is_shown (body x) ≡ true) (λ x h. let l : LineSaid origin 0 x = line_said origin 0 x h in l.shown))
 
 script_back : (mode : Serial) (origin : Name) (before after : Version) → CanBeDumped origin before → CanBeDumped origin after → (n : ℕ) (listing : Listing) (earlier : List (List Command)) (held : Bool) (cs : List Command) → length cs + length (blocks (difference mode before after)) ≤ 10000
     → script_from origin n (lines_of (text_in AsScript origin (difference mode before after))) (between origin listing earlier held cs) ≡ Ok (between origin listing earlier held (cs ++ map committed (blocks (difference mode before after))))

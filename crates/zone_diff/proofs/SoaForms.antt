@@ -31,15 +31,28 @@ record Behind (n : ℕ) (octets rest : List ℕ) : Type 0 where
   long : n + length rest ≤ length octets
   bytes : (i : ℕ) → get_or rest i 0 < 256
 
-split_behind : (n : ℕ) (octets : List ℕ) (x : List ℕ × List ℕ) → ((i : ℕ) → get_or octets i 0 < 256) → split_octets n octets ≡ Some x → Behind n octets x.1
-split_behind n octets x b e =
+-- what stands behind n octets
+pub rest_long : (n : ℕ) (octets rest : List ℕ) (x : List ℕ × List ℕ) → split_octets n octets ≡ Some x → x.1 ≡ rest → length octets ≡ n + length rest
+rest_long n octets rest x e is =
     let s = octets_sound n octets x e in
     let size = s.0 in
     let long : length octets ≡ length x.0 + length x.1 = ap (λ (l : List ℕ). length l) s.1 ∙ length-append x.0 x.1 in
-    record { long = omega (arith, size, long); bytes = bytes_behind x.0 x.1 (subst (λ (l : List ℕ). (i : ℕ) → get_or l i 0 < 256) s.1 b) }
+    let behind : length x.1 ≡ length rest = ap (λ (l : List ℕ). length l) is in
+    omega (arith, size, long, behind)
+
+pub time_split : (octets rest : List ℕ) → field_rest TimeField octets ≡ Some rest → (x : List ℕ × List ℕ) × (split_octets 4 octets ≡ Some x) × (x.1 ≡ rest)
+time_split octets rest e =
+    let m = map_some (λ (x : List ℕ × List ℕ). x.1) (split_time octets) rest e in
+    let a = and_some (λ (x : List ℕ × List ℕ). cond (leb (from_be_bytes w32 x.0) most_time) (Some x) None) (split_octets 4 octets) m.0 m.1 in
+    let c = cond_some (leb (from_be_bytes w32 a.0.0) most_time) (Some a.0) m.0 a.2 in
+    let same : a.0 ≡ m.0 = cc in
+    (a.0, a.1, ap (λ (x : List ℕ × List ℕ). x.1) same ∙ m.2)
 
 plain_behind : (n : ℕ) (octets rest : List ℕ) → ((i : ℕ) → get_or octets i 0 < 256) → (x : List ℕ × List ℕ) → split_octets n octets ≡ Some x → x.1 ≡ rest → Behind n octets rest
-plain_behind n octets rest b x e is = subst (Behind n octets) is (split_behind n octets x b e)
+plain_behind n octets rest b x e is =
+    let s = octets_sound n octets x e in
+    let long = rest_long n octets rest x e is in
+    record { long = omega (arith, long); bytes = subst (λ (l : List ℕ). (i : ℕ) → get_or l i 0 < 256) is (bytes_behind x.0 x.1 (subst (λ (l : List ℕ). (i : ℕ) → get_or l i 0 < 256) s.1 b)) }
 
 field_behind : (field : Field) (octets rest : List ℕ) → ((i : ℕ) → get_or octets i 0 < 256) → field_rest field octets ≡ Some rest → Behind (least field) octets rest
 field_behind NameField octets rest b e =
@@ -49,12 +62,7 @@ field_behind NameField octets rest b e =
     subst (Behind 0 octets) m.2 (record { long = omega (arith, long); bytes = bytes_behind (wire m.0.0) m.0.1 (subst (λ (l : List ℕ). (i : ℕ) → get_or l i 0 < 256) s.octets b) })
 field_behind ShortField octets rest b e = let m = map_some (λ (x : List ℕ × List ℕ). x.1) (split_octets 2 octets) rest e in plain_behind 2 octets rest b m.0 m.1 m.2
 field_behind NumberField octets rest b e = let m = map_some (λ (x : List ℕ × List ℕ). x.1) (split_octets 4 octets) rest e in plain_behind 4 octets rest b m.0 m.1 m.2
-field_behind TimeField octets rest b e =
-    let m = map_some (λ (x : List ℕ × List ℕ). x.1) (split_time octets) rest e in
-    let a = and_some (λ (x : List ℕ × List ℕ). cond (leb (from_be_bytes w32 x.0) most_time) (Some x) None) (split_octets 4 octets) m.0 m.1 in
-    let c = cond_some (leb (from_be_bytes w32 a.0.0) most_time) (Some a.0) m.0 a.2 in
-    let same : a.0 ≡ m.0 = cc in
-    plain_behind 4 octets rest b a.0 a.1 (ap (λ (x : List ℕ × List ℕ). x.1) same ∙ m.2)
+field_behind TimeField octets rest b e = let t = time_split octets rest e in plain_behind 4 octets rest b t.0 t.1 t.2
 field_behind AddressField octets rest b e = let m = map_some (λ (x : List ℕ × List ℕ). x.1) (split_octets 4 octets) rest e in plain_behind 4 octets rest b m.0 m.1 m.2
 field_behind Address6Field octets rest b e = let m = map_some (λ (x : List ℕ × List ℕ). x.1) (split_octets 16 octets) rest e in plain_behind 16 octets rest b m.0 m.1 m.2
 

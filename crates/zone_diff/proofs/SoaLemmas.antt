@@ -15,7 +15,7 @@ use Rattle.zone_diff.specs.declared.Serial.{Serial}
 use Rattle.zone_diff.specs.declared.Serial.TheVariants.{Keep, Ignore}
 use Rattle.zone_diff.specs.Serials.{without_serial, renumbered, counts_as}
 use Rattle.zone_diff.specs.Differences.{addition, stays, soa_additions, staying}
-use Rattle.zone_diff.proofs.RecordLemmas.{same_octets}
+use Rattle.zone_diff.proofs.RecordLemmas.{is_same, same_octets}
 use Rattle.zone_diff.proofs.EntryLemmas.{all_made}
 use Rattle.zone_diff.proofs.FitLemmas.{IsFit, fits, all_changed, placed, fit_placed, fresh_length}
 
@@ -32,11 +32,6 @@ renumbered_other octets long e =
     let lt : length octets - 17 < length octets = omega arith in
     let at : get_or (renumbered octets) (length octets - 17) 0 ≡ (get_or octets (length octets - 17) 0 + 1) % 256 = get_or-set_same octets (length octets - 17) ((get_or octets (length octets - 17) 0 + 1) % 256) 0 lt in
     counts_up (get_or octets (length octets - 17) 0) (sym at ∙ ap (λ (l : List ℕ). get_or l (length octets - 17) 0) e)
-
-is_same : (o : Ordering) → is_eq o ≡ true → o ≡ Equal
-is_same Less e = cc
-is_same Equal e = refl
-is_same Greater e = cc
 
 without_length : (octets : List ℕ) → 20 ≤ length octets → length (without_serial octets) + 4 ≡ length octets
 without_length octets long =
@@ -88,16 +83,13 @@ placed_beside k s entry apart is = found_beside k 6 (λ f. s ∷ []) entry apart
 pub placed_twice : (s u : Rrset) (entry : Entry) → u.rtype ≡ 6 → IsEntry entry → placed 6 s (placed 6 u entry) ≡ placed 6 s entry
 placed_twice s u entry is h = twice None entry h
   where
+    at_one : (rest : Entry) → placed 6 s (u ∷ rest) ≡ s ∷ rest
+    at_one rest = ap (λ (o : Ordering). match_ordering o (s ∷ (u ∷ rest)) (s ∷ rest) (u ∷ placed 6 s rest)) (ap (nat_cmp 6) is)
+
     twice : (before : Option ℕ) (entry : Entry) → RisingSets before entry → placed 6 s (placed 6 u entry) ≡ placed 6 s entry
     twice before [] h = at_one []
-      where
-        at_one : (rest : Entry) → placed 6 s (u ∷ rest) ≡ s ∷ rest
-        at_one rest = ap (λ (o : Ordering). match_ordering o (s ∷ (u ∷ rest)) (s ∷ rest) (u ∷ placed 6 s rest)) (ap (nat_cmp 6) is)
     twice before (x ∷ rest) h = by_order (nat_cmp 6 x.rtype) refl (twice (Some x.rtype) rest (rises_on before x rest h))
       where
-        at_one : (rest : Entry) → placed 6 s (u ∷ rest) ≡ s ∷ rest
-        at_one rest = ap (λ (o : Ordering). match_ordering o (s ∷ (u ∷ rest)) (s ∷ rest) (u ∷ placed 6 s rest)) (ap (nat_cmp 6) is)
-
         by_order : (o : Ordering) → nat_cmp 6 x.rtype ≡ o → placed 6 s (placed 6 u rest) ≡ placed 6 s rest
             → placed 6 s (match_ordering o (u ∷ (x ∷ rest)) (u ∷ rest) (x ∷ placed 6 u rest)) ≡ match_ordering o (s ∷ (x ∷ rest)) (s ∷ rest) (x ∷ placed 6 s rest)
         by_order Less e on = at_one (x ∷ rest)

@@ -1,6 +1,6 @@
 -- The difference of two versions makes of the one before the one after, name by name.
-use Rattle.std.proofs.Common.{◌≡◌, ◌∙◌, ℕ, ◌<◌, Bool, true, false, ◌&&◌, cond, eqb, List, [], ◌∷◌, ◌++◌, length, map, refl, sym, ap, subst, arith, Option, Some, None, Result, Ok, Err, unwrap_or}
-use Rattle.std.specs.List.{AllByRecursion, flat_map}
+use Rattle.std.proofs.Common.{◌≡◌, ◌≢◌, ◌∙◌, ℕ, ◌<◌, true, ◌&&◌, cond, List, [], ◌∷◌, ◌++◌, length, refl, sym, ap, subst, arith, Option, Some, None, Result, Ok, Err, unwrap_or}
+use Rattle.std.specs.List.{AllByRecursion}
 use Rattle.std.specs.List.Sorted.{IsStrictlySortedBy}
 use Rattle.std.specs.Option.{is_some}
 use Rattle.std.specs.Map.{keys_of, remove_entry}
@@ -8,17 +8,19 @@ use Rattle.std.specs.BTreeMap.{insert_entry, is_at}
 use Rattle.std.specs.declared.cmp.Ordering.{Ordering}
 use Rattle.std.specs.declared.cmp.Ordering.TheVariants.{Less, Equal, Greater}
 use Rattle.std.specs.Ordering.{is_eq, match_ordering, ordering_reverse}
+use Rattle.std.proofs.lemmas.Cmp.{tied_itself}
 use Rattle.zone_model.specs.Names.{Name, name_cmp}
 use Rattle.zone_model.specs.NameOrder.{name_cmp_total}
 use Rattle.zone_model.specs.Records.{Rrset, Entry, rrset_of, IsEntry}
-use Rattle.zone_model.specs.Versions.{Version, Operation, DeleteName, DeleteSet, DeleteRecord, entry_of, owned, put, owner_of, changed, apply, all_applied, and_then}
+use Rattle.zone_model.specs.Versions.{Version, Operation, DeleteName, entry_of, owned, put, owner_of, changed, apply, all_applied, and_then}
 use Rattle.zone_model.specs.declared.Refusal.{Refusal}
 use Rattle.zone_model.specs.declared.Refusal.TheVariants.{Soa}
 use Rattle.zone_model.proofs.NameLemmas.{name_cmp-IsAntisymmetric}
 use Rattle.zone_diff.specs.declared.Serial.{Serial}
-use Rattle.zone_diff.specs.Differences.{addition, lacking, set_deletions, set_additions, unless_soa, stays, soa_exchange, soa_additions, staying, deletions, additions, entry_difference, merged, difference, with_set, made_entry}
-use Rattle.zone_diff.specs.Serials.{renumbered}
-use Rattle.zone_model.specs.Records.{has_record}
+use Rattle.zone_diff.specs.declared.sets.Side.{Side}
+use Rattle.zone_diff.specs.declared.sets.Side.TheVariants.{Before, After}
+use Rattle.zone_diff.specs.Differences.{record_change, soa_additions, staying, entry_difference, merged, difference, with_set, made_entry}
+use Rattle.zone_diff.proofs.EachLemmas.{Each, HasSoa, all_any, all_of, of_difference, of_entry, of_soas}
 use Rattle.zone_diff.proofs.FitLemmas.{IsFit, all_changed}
 use Rattle.zone_diff.proofs.SoaLemmas.{SoaPair}
 use Rattle.zone_diff.proofs.EntryLaws.{entry_exchanged}
@@ -26,12 +28,7 @@ use Rattle.zone_diff.proofs.EntryLaws.{entry_exchanged}
 -- ---- names in their order
 
 pub self_name : (n : Name) → name_cmp n n ≡ Equal
-self_name n = by_order (name_cmp n n) refl
-  where
-    by_order : (o : Ordering) → name_cmp n n ≡ o → o ≡ Equal
-    by_order Less e = let turned = name_cmp_total.antisymm n n ∙ ap ordering_reverse e in let bad : Less ≡ Greater = sym e ∙ turned in cc
-    by_order Equal e = refl
-    by_order Greater e = let turned = name_cmp_total.antisymm n n ∙ ap ordering_reverse e in let bad : Greater ≡ Less = sym e ∙ turned in cc
+self_name n = tied_itself name_cmp_total n
 
 pub turned : (a b : Name) → name_cmp a b ≡ Less → name_cmp b a ≡ Greater
 turned a b e = name_cmp_total.antisymm b a ∙ ap ordering_reverse e
@@ -78,8 +75,7 @@ put_stood n (t ∷ next) (s ∷ entry) rest h = ap (λ (o : Ordering). match_ord
 -- ---- operations of one name
 
 abbrev pub AllOf : Name → List Operation → Type 0
-AllOf n [] = Unit {0}
-AllOf n (first ∷ rest) = (owner_of first ≡ n) × AllOf n rest
+AllOf n operations = AllByRecursion (λ (operation : Operation). owner_of operation ≡ n) operations
 
 one_applied : (origin n : Name) (operation : Operation) (entry : Entry) (rest : Version) → IsAhead n rest → owner_of operation ≡ n
     → apply origin operation (stood n entry rest) ≡ and_then (changed origin operation entry) (λ x. Ok (stood n x rest))
@@ -107,8 +103,7 @@ stood_applied origin n (first ∷ operations) entry next rest h a e =
 -- ---- operations of names behind
 
 abbrev pub AllBehind : Name → List Operation → Type 0
-AllBehind n [] = Unit {0}
-AllBehind n (first ∷ rest) = (name_cmp n (owner_of first) ≡ Less) × AllBehind n rest
+AllBehind n operations = AllByRecursion (λ (operation : Operation). name_cmp n (owner_of operation) ≡ Less) operations
 
 put_behind : (o : Name) (entry : Entry) (pair : Name × Entry) (rest : Version) → name_cmp o pair.0 ≡ Greater → put o entry (pair ∷ rest) ≡ pair ∷ put o entry rest
 put_behind o [] pair rest g = ap (λ (x : Ordering). cond (is_eq x) rest (pair ∷ remove_entry (is_at (name_cmp o)) rest)) g
@@ -138,97 +133,50 @@ behind_applied origin (first ∷ operations) pair rest next a e =
     by_result more (Ok v) f = more v f
     by_result more (Err refusal) f = absurd cc
 
-pub applied_on : (origin : Name) (front back : List Operation) (version working : Version) → all_applied origin front version ≡ Ok working → all_applied origin (front ++ back) version ≡ all_applied origin back working
-applied_on origin [] back version working e = let same : version ≡ working = cc in ap (all_applied origin back) same
-applied_on origin (first ∷ rest) back version working e = by_first (λ (v : Version) (h : all_applied origin rest v ≡ Ok working). applied_on origin rest back v working h) (apply origin first version) e
+pub both_applied : (origin : Name) (front back : List Operation) (version : Version) → all_applied origin (front ++ back) version ≡ and_then (all_applied origin front version) (all_applied origin back)
+both_applied origin [] back version = refl
+both_applied origin (first ∷ front) back version = by_first (λ v. both_applied origin front back v) (apply origin first version)
   where
-    by_first : ((v : Version) → all_applied origin rest v ≡ Ok working → all_applied origin (rest ++ back) v ≡ all_applied origin back working) → (r : Result Version Refusal) → and_then r (all_applied origin rest) ≡ Ok working → and_then r (all_applied origin (rest ++ back)) ≡ all_applied origin back working
-    by_first further (Ok next) h = further next h
-    by_first further (Err refusal) h = absurd cc
+    by_first : ((v : Version) → all_applied origin (front ++ back) v ≡ and_then (all_applied origin front v) (all_applied origin back)) → (r : Result Version Refusal)
+        → and_then r (all_applied origin (front ++ back)) ≡ and_then (and_then r (all_applied origin front)) (all_applied origin back)
+    by_first more (Ok v) = more v
+    by_first more (Err refusal) = refl
+
+pub applied_on : (origin : Name) (front back : List Operation) (version working : Version) → all_applied origin front version ≡ Ok working → all_applied origin (front ++ back) version ≡ all_applied origin back working
+applied_on origin front back version working e = both_applied origin front back version ∙ ap (λ (r : Result Version Refusal). and_then r (all_applied origin back)) e
 
 -- ---- whose the operations are
 
-all_of-append : (n : Name) (front back : List Operation) → AllOf n front → AllOf n back → AllOf n (front ++ back)
-all_of-append n [] back a b = b
-all_of-append n (x ∷ front) back a b = (a.0, all_of-append n front back a.1 b)
-
-go_of : (n : Name) (t : ℕ) (records : List (List ℕ)) → AllOf n (map (DeleteRecord n t) records)
-go_of n t [] = tt
-go_of n t (x ∷ records) = (refl, go_of n t records)
-
-come_of : (n : Name) (t ttl : ℕ) (records : List (List ℕ)) → AllOf n (map (addition n t ttl) records)
-come_of n t ttl [] = tt
-come_of n t ttl (x ∷ records) = (refl, come_of n t ttl records)
-
-deletions_of : (n : Name) (sets after : Entry) → AllOf n (deletions n sets after)
-deletions_of n [] after = tt
-deletions_of n (s ∷ sets) after = all_of-append n (unless_soa s (set_deletions n (rrset_of s.rtype after) s)) (deletions n sets after) (by_type (eqb s.rtype 6) (rrset_of s.rtype after)) (deletions_of n sets after)
-  where
-    by_time : (b : Bool) (t : Rrset) → AllOf n (cond b (map (DeleteRecord n s.rtype) (lacking t.records s.records)) (DeleteSet n s.rtype ∷ []))
-    by_time true t = go_of n s.rtype (lacking t.records s.records)
-    by_time false t = (refl, tt)
-
-    by_type : (b : Bool) (y : Option Rrset) → AllOf n (cond b [] (set_deletions n y s))
-    by_type true y = tt
-    by_type false None = (refl, tt)
-    by_type false (Some t) = by_time (eqb s.ttl t.ttl) t
-
-additions_of : (n : Name) (before sets : Entry) → AllOf n (additions n before sets)
-additions_of n before [] = tt
-additions_of n before (t ∷ sets) = all_of-append n (unless_soa t (set_additions n (rrset_of t.rtype before) t)) (additions n before sets) (by_type (eqb t.rtype 6) (rrset_of t.rtype before)) (additions_of n before sets)
-  where
-    by_type : (b : Bool) (x : Option Rrset) → AllOf n (cond b [] (set_additions n x t))
-    by_type true x = tt
-    by_type false None = come_of n t.rtype t.ttl t.records
-    by_type false (Some s) = come_of n t.rtype t.ttl (cond (eqb s.ttl t.ttl) (lacking s.records t.records) t.records)
-
-soa_of : (mode : Serial) (n : Name) (x y : Option Rrset) → AllOf n (soa_additions mode n x y)
-soa_of mode n x None = tt
-soa_of mode n x (Some t) = each t.records
-  where
-    by_tests : (b c : Bool) (octets : List ℕ) → AllOf n (cond b [] (cond c (addition n 6 t.ttl (renumbered octets) ∷ addition n 6 t.ttl octets ∷ []) (addition n 6 t.ttl octets ∷ [])))
-    by_tests true c octets = tt
-    by_tests false true octets = (refl, (refl, tt))
-    by_tests false false octets = (refl, tt)
-
-    one : (f : Option Rrset) (octets : List ℕ) → AllOf n (soa_exchange mode n f t.ttl octets)
-    one None octets = (refl, tt)
-    one (Some s) octets = by_tests (stays mode s t.ttl octets) (has_record octets s.records) octets
-
-    each : (records : List (List ℕ)) → AllOf n (flat_map (soa_exchange mode n x t.ttl) records)
-    each [] = tt
-    each (octets ∷ records) = all_of-append n (soa_exchange mode n x t.ttl octets) (flat_map (soa_exchange mode n x t.ttl) records) (one x octets) (each records)
-
 pub entry_of_name : (mode : Serial) (n : Name) (before after : Entry) → AllOf n (entry_difference mode n before after)
-entry_of_name mode n before after =
-    all_of-append n (deletions n before after) (soa_additions mode n (rrset_of 6 before) (rrset_of 6 after) ++ additions n before after) (deletions_of n before after)
-    (all_of-append n (soa_additions mode n (rrset_of 6 before) (rrset_of 6 after)) (additions n before after) (soa_of mode n (rrset_of 6 before) (rrset_of 6 after)) (additions_of n before after))
+entry_of_name mode n before after = of_entry IsOf mode n before after (each Before before) (each After after) (soas (rrset_of 6 after))
+  where
+    IsOf : Operation → Type 0
+    IsOf operation = owner_of operation ≡ n
 
-behind-append : (n : Name) (front back : List Operation) → AllBehind n front → AllBehind n back → AllBehind n (front ++ back)
-behind-append n [] back a b = b
-behind-append n (x ∷ front) back a b = (a.0, behind-append n front back a.1 b)
+    by_side : (side : Side) (s : Rrset) (octets : List ℕ) → owner_of (record_change side n s octets) ≡ n
+    by_side Before s octets = refl
+    by_side After s octets = refl
+
+    each : (side : Side) (sets : Entry) → AllByRecursion (λ (s : Rrset). s.rtype ≢ 6 → Each IsOf side n s) sets
+    each side sets = all_any (λ (s : Rrset). s.rtype ≢ 6 → Each IsOf side n s) (λ s other. record { whole = λ e. refl; records = all_any (λ (octets : List ℕ). IsOf (record_change side n s octets)) (by_side side s) s.records }) sets
+
+    soas : (y : Option Rrset) → AllOf n (soa_additions mode n (rrset_of 6 before) y)
+    soas None = tt
+    soas (Some t) = of_soas IsOf mode n (rrset_of 6 before) t.ttl t.records (all_any (HasSoa IsOf n t.ttl) (λ octets. (refl, refl)) t.records)
 
 all_behind : (m n : Name) (operations : List Operation) → name_cmp m n ≡ Less → AllOf n operations → AllBehind m operations
-all_behind m n [] l a = tt
-all_behind m n (x ∷ operations) l a = (subst (λ (o : Name). name_cmp m o ≡ Less) (sym a.0) l, all_behind m n operations l a.1)
+all_behind m n operations l a =
+    all_of (λ (operation : Operation). owner_of operation ≡ n) (λ (operation : Operation). name_cmp m (owner_of operation) ≡ Less) (λ operation e. subst (λ (o : Name). name_cmp m o ≡ Less) (sym e) l) operations a
 
-news_behind : (mode : Serial) (m : Name) (after : Version) → IsAhead m after → AllBehind m (difference mode [] after)
-news_behind mode m [] h = tt
-news_behind mode m (a ∷ after) h = behind-append m (entry_difference mode a.0 [] a.1) (difference mode [] after) (all_behind m a.0 (entry_difference mode a.0 [] a.1) h.0 (entry_of_name mode a.0 [] a.1)) (news_behind mode m after h.1)
-
-merged_behind : (mode : Serial) (m : Name) (b : Name × Entry) (others : Version → List Operation) (after : Version) → name_cmp m b.0 ≡ Less → ((v : Version) → IsAhead m v → AllBehind m (others v)) → IsAhead m after → AllBehind m (merged mode b others after)
-merged_behind mode m b others [] l more h = (l, more [] tt)
-merged_behind mode m b others (a ∷ after) l more h = by_order (name_cmp b.0 a.0) (merged_behind mode m b others after l more h.1)
-  where
-    by_order : (o : Ordering) → AllBehind m (merged mode b others after)
-        → AllBehind m (match_ordering o (DeleteName b.0 ∷ others (a ∷ after)) (entry_difference mode b.0 b.1 a.1 ++ others after) (entry_difference mode a.0 [] a.1 ++ merged mode b others after))
-    by_order Less on = (l, more (a ∷ after) h)
-    by_order Equal on = behind-append m (entry_difference mode b.0 b.1 a.1) (others after) (all_behind m b.0 (entry_difference mode b.0 b.1 a.1) l (entry_of_name mode b.0 b.1 a.1)) (more after h.1)
-    by_order Greater on = behind-append m (entry_difference mode a.0 [] a.1) (merged mode b others after) (all_behind m a.0 (entry_difference mode a.0 [] a.1) h.0 (entry_of_name mode a.0 [] a.1)) on
+each_ahead : (m : Name) (version : Version) → IsAhead m version → AllByRecursion (λ (pair : Name × Entry). name_cmp m pair.0 ≡ Less) version
+each_ahead m [] h = tt
+each_ahead m (pair ∷ version) h = (h.0, each_ahead m version h.1)
 
 pub difference_behind : (mode : Serial) (m : Name) (before after : Version) → IsAhead m before → IsAhead m after → AllBehind m (difference mode before after)
-difference_behind mode m [] after g h = news_behind mode m after h
-difference_behind mode m (b ∷ before) after g h = merged_behind mode m b (difference mode before) after g.0 (λ v k. difference_behind mode m before v g.1 k) h
+difference_behind mode m before after g h =
+    of_difference (λ (operation : Operation). name_cmp m (owner_of operation) ≡ Less) mode (λ (pair : Name × Entry). name_cmp m pair.0 ≡ Less) (λ b l. l)
+    (λ a l. all_behind m a.0 (entry_difference mode a.0 [] a.1) l (entry_of_name mode a.0 [] a.1)) (λ b a same l k. all_behind m b.0 (entry_difference mode b.0 b.1 a.1) l (entry_of_name mode b.0 b.1 a.1))
+    before after (each_ahead m before g) (each_ahead m after h)
 
 -- ---- names without an SOA
 
@@ -292,7 +240,7 @@ news : (mode : Serial) (origin : Name) (after : Version) → IsPlainVersion afte
 news mode origin [] v = refl
 news mode origin (a ∷ after) v =
     applied_on origin (entry_difference mode a.0 [] a.1) (difference mode [] after) [] (a ∷ []) (comes mode origin a [] v.each.0 tt)
-    ∙ behind_applied origin (difference mode [] after) a [] after (news_behind mode a.0 after (first_ahead a after v)) (news mode origin after (rest_plain a after v))
+    ∙ behind_applied origin (difference mode [] after) a [] after (difference_behind mode a.0 [] after tt (first_ahead a after v)) (news mode origin after (rest_plain a after v))
 
 merges : (mode : Serial) (origin : Name) (b : Name × Entry) (before after : Version) → IsPlainVersion (b ∷ before) → IsPlainVersion after
     → ((v : Version) → IsPlainVersion v → all_applied origin (difference mode before v) before ≡ Ok v) → all_applied origin (merged mode b (difference mode before) after) (b ∷ before) ≡ Ok after

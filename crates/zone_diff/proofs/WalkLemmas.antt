@@ -9,10 +9,11 @@ use Rattle.zone_model.specs.Names.{Name}
 use Rattle.zone_model.specs.Records.{Rrset, Entry, rrset_of, IsEntry, IsRrset, RisingSets}
 use Rattle.zone_model.specs.Versions.{Operation}
 use Rattle.zone_change.proofs.FoundLaws.{rises_on, is_set, none_above}
-use Rattle.zone_diff.specs.Differences.{set_deletions, set_additions, unless_soa, deletions, additions}
+use Rattle.zone_diff.specs.declared.sets.Side.{Side}
+use Rattle.zone_diff.specs.Differences.{entry_changes, set_changes, unless_soa}
 use Rattle.zone_diff.specs.Merges.{Rises}
 use Rattle.zone_diff.specs.Sinks.{Aim, Adds, AddsFront}
-use Rattle.zone_diff.specs.Walks.{sets_reached, set_ahead, each_beside, deletions_walked, additions_walked}
+use Rattle.zone_diff.specs.Walks.{sets_reached, set_ahead, changes_walked, each_beside}
 use Rattle.zone_diff.proofs.EntryLemmas.{passed}
 use Rattle.zone_diff.proofs.MergeLemmas.{front_joins}
 
@@ -67,11 +68,8 @@ module _ (due : Option Rrset → Rrset → List Operation) where
       ∙ up_alike s.rtype left others sets (λ n lt. later_is s.rtype n others lt) (rises_on c s sets k) in
       ap (λ (x : Option Rrset). due x s ++ each_beside due left sets) (ahead_is s.rtype b others h) ∙ ap (λ (l : List Operation). due (rrset_of s.rtype others) s ++ l) on
 
-pub deletions_are_walked : (owner : Name) (before after : Entry) → IsEntry before → IsEntry after → deletions_walked owner before after ≡ deletions owner before after
-deletions_are_walked owner before after h k = beside_looks_up (λ other s. unless_soa s (set_deletions owner other s)) None None after before k h
-
-pub additions_are_walked : (owner : Name) (before after : Entry) → IsEntry before → IsEntry after → additions_walked owner before after ≡ additions owner before after
-additions_are_walked owner before after h k = beside_looks_up (λ other t. unless_soa t (set_additions owner other t)) None None before after h k
+pub changes_are_walked : (side : Side) (owner : Name) (others sets : Entry) → IsEntry others → IsEntry sets → changes_walked side owner others sets ≡ entry_changes side owner others sets
+changes_are_walked side owner others sets h k = beside_looks_up (λ other s. unless_soa s (set_changes side owner other s)) None None others sets h k
 
 -- ---- one RRset more
 

@@ -8,6 +8,8 @@ use Rattle.zone_model.specs.Names.{Name, name_cmp}
 use Rattle.zone_model.specs.Records.{Rrset, Entry, rrset_of, has_record, changed_at}
 use Rattle.zone_model.specs.Versions.{Version, Operation, Add, DeleteName, DeleteSet, DeleteRecord, owned, put, soa_type}
 use Rattle.zone_diff.specs.declared.Serial.{Serial}
+use Rattle.zone_diff.specs.declared.sets.Side.{Side}
+use Rattle.zone_diff.specs.declared.sets.Side.TheVariants.{Before, After}
 use Rattle.zone_diff.specs.Serials.{renumbered, counts_as}
 
 -- a record comes
@@ -20,15 +22,27 @@ lacking others records = filter (λ octets. not (has_record octets others)) reco
 
 -- ---- one RRset
 
--- what goes of an RRset, by the one that takes its place
-abbrev pub set_deletions : Name → Option Rrset → Rrset → List Operation
-set_deletions owner None s = DeleteSet owner s.rtype ∷ []
-set_deletions owner (Some t) s = if s.ttl == t.ttl then map (DeleteRecord owner s.rtype) (lacking t.records s.records) else DeleteSet owner s.rtype ∷ []
+-- what becomes of a record: it goes where it is of the version before, and comes where it is of the one after
+abbrev pub record_change : Side → Name → Rrset → List ℕ → Operation
+record_change Before owner s octets = DeleteRecord owner s.rtype octets
+record_change After owner s octets = addition owner s.rtype s.ttl octets
 
--- what comes of an RRset, by the one whose place it takes
+-- what becomes of a whole RRset
+abbrev pub whole_change : Side → Name → Rrset → List Operation
+whole_change Before owner s = DeleteSet owner s.rtype ∷ []
+whole_change After owner s = map (record_change After owner s) s.records
+
+-- what becomes of an RRset, by the one of its type on the other side
+abbrev pub set_changes : Side → Name → Option Rrset → Rrset → List Operation
+set_changes side owner None s = whole_change side owner s
+set_changes side owner (Some t) s = if s.ttl == t.ttl then map (record_change side owner s) (lacking t.records s.records) else whole_change side owner s
+
+-- what goes of an RRset, by the one that takes its place, and what comes of one, by the one whose place it takes
+abbrev pub set_deletions : Name → Option Rrset → Rrset → List Operation
+set_deletions = set_changes Before
+
 abbrev pub set_additions : Name → Option Rrset → Rrset → List Operation
-set_additions owner None t = map (addition owner t.rtype t.ttl) t.records
-set_additions owner (Some s) t = map (addition owner t.rtype t.ttl) (if s.ttl == t.ttl then lacking s.records t.records else t.records)
+set_additions = set_changes After
 
 -- ---- the SOA
 
@@ -54,11 +68,15 @@ soa_additions mode owner before (Some t) = flat_map (soa_exchange mode owner bef
 abbrev pub unless_soa : Rrset → List Operation → List Operation
 unless_soa s operations = if s.rtype == soa_type then [] else operations
 
+-- what becomes of the RRsets on one side
+abbrev pub entry_changes : Side → Name → Entry → Entry → List Operation
+entry_changes side owner others sets = flat_map (λ (s : Rrset). unless_soa s (set_changes side owner (rrset_of s.rtype others) s)) sets
+
 abbrev pub deletions : Name → Entry → Entry → List Operation
-deletions owner before after = flat_map (λ (s : Rrset). unless_soa s (set_deletions owner (rrset_of s.rtype after) s)) before
+deletions owner before after = entry_changes Before owner after before
 
 abbrev pub additions : Name → Entry → Entry → List Operation
-additions owner before after = flat_map (λ (t : Rrset). unless_soa t (set_additions owner (rrset_of t.rtype before) t)) after
+additions owner before after = entry_changes After owner before after
 
 -- What makes of the entry of a name that owns records before and after the one after. What goes, goes first: so an alias is gone before
 -- addresses come, and no item is longer on the way than in the end. For the latter the SOA comes before all else.

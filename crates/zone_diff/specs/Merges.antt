@@ -1,11 +1,8 @@
 -- Records that rise beside others that rise, where each is looked at once.
-use Rattle.std.specs.Prelude.{ℕ, Bool, false, List, [], ◌∷◌, map, ◌==◌, if◌then◌else◌, Option, Some, None}
+use Rattle.std.specs.Prelude.{ℕ, Bool, false, List, [], ◌∷◌, if◌then◌else◌, Option, Some, None}
 use Rattle.std.specs.Borrow.{Bor}
 use Rattle.std.specs.Ordering.{is_eq, match_ordering}
-use Rattle.zone_model.specs.Names.{Name}
 use Rattle.zone_model.specs.Records.{Rrset, octets_cmp, RisingOctets}
-use Rattle.zone_model.specs.Versions.{Operation, DeleteSet, DeleteRecord}
-use Rattle.zone_diff.specs.Differences.{addition}
 
 -- the records that are left: the one ahead, and those behind it
 abbrev pub records_ahead : Option (Bor (List ℕ)) → List (List ℕ) → List (List ℕ)
@@ -27,15 +24,6 @@ abbrev pub lacking_beside : List (List ℕ) → List (List ℕ) → List (List �
 lacking_beside others [] = []
 lacking_beside others (octets ∷ rest) =
     let left = reached octets others in if is_first octets left then lacking_beside left rest else octets ∷ lacking_beside left rest
-
--- what goes and what comes of an RRset beside the one that takes its place, or whose place it takes
-abbrev pub deletions_beside : Name → Option Rrset → Rrset → List Operation
-deletions_beside owner None s = DeleteSet owner s.rtype ∷ []
-deletions_beside owner (Some t) s = if s.ttl == t.ttl then map (DeleteRecord owner s.rtype) (lacking_beside t.records s.records) else DeleteSet owner s.rtype ∷ []
-
-abbrev pub additions_beside : Name → Option Rrset → Rrset → List Operation
-additions_beside owner None t = map (addition owner t.rtype t.ttl) t.records
-additions_beside owner (Some s) t = if s.ttl == t.ttl then map (addition owner t.rtype t.ttl) (lacking_beside s.records t.records) else map (addition owner t.rtype t.ttl) t.records
 
 -- the records of an RRset rise, if there is one
 abbrev pub Rises : Option Rrset → Type 0

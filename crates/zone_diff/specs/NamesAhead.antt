@@ -1,15 +1,18 @@
 -- Names that are left of two zones, gone through side by side.
-use Rattle.std.specs.Prelude.{◌≡◌, ℕ, ◌≤◌, List, [], ◌∷◌, ◌++◌, length, take, drop, Option, Some, None}
+use Rattle.std.specs.Prelude.{◌≡◌, ℕ, ◌≤◌, Bool, if◌then◌else◌, List, [], ◌∷◌, length, take, drop, Option, Some, None}
 use Rattle.std.specs.Int.{w16, from_be_bytes}
-use Rattle.zone_model.specs.Names.{Name, wire}
+use Rattle.std.specs.Ordering.{match_ordering}
+use Rattle.std.specs.declared.cmp.Ordering.{Ordering}
+use Rattle.std.specs.declared.cmp.Ordering.TheVariants.{Less, Equal, Greater}
+use Rattle.zone_model.specs.Names.{Name, name_cmp, wire}
 use Rattle.zone_model.specs.Items.{split_sets}
 use Rattle.zone_model.specs.Records.{Entry, IsItem}
-use Rattle.zone_model.specs.Versions.{Version, Operation}
+use Rattle.zone_model.specs.Versions.{Version, Operation, DeleteName}
 use Rattle.rr_data.specs.ItemViews.{sets_seen}
 use Rattle.zone_diff.specs.declared.names.Ahead.{Ahead}
 use Rattle.zone_diff.specs.declared.Serial.{Serial}
 use Rattle.zone_diff.specs.Differences.{difference, entry_difference}
-use Rattle.zone_diff.specs.Sinks.{Adds, AddsFront, Aim}
+use Rattle.zone_diff.specs.Sinks.{AddsFront, Aim}
 
 -- ---- one zone
 
@@ -35,17 +38,6 @@ abbrev pub behind_first : Version → Version
 behind_first [] = []
 behind_first (first ∷ rest) = rest
 
--- This name stands first of what is left.
-pub record StandsFirst (owner : Name) (shows : Version → Type 0) : Type 0 where
-  -- Something is shown to be left.
-  pub some : (left : Version) × shows left
-  -- Whatever is has the name first.
-  pub first : (left : Version) → shows left → owner_ahead left ≡ Some owner
-
--- the first name was passed
-abbrev pub Passes : (Version → Type 0) → (Version → Type 0) → Type 0
-Passes old new = (left : Version) → old left → new (behind_first left)
-
 -- the octets are the first name's item, or there are none
 abbrev pub SaysFirst : Version → List ℕ → Type 0
 SaysFirst [] octets = octets ≡ []
@@ -53,30 +45,31 @@ SaysFirst (first ∷ rest) octets = IsItem octets first.0 first.1
 
 -- ---- two zones
 
--- what becomes of a name that is first after, and wasn't there
-abbrev pub Comes : Serial → Name → Version → (Aim → List Operation → Type 0) → (Aim → List Operation → Type 0) → Type 0
-Comes mode owner [] had has = Unit {0}
-Comes mode owner (a ∷ rest) had has = Adds had has (entry_difference mode owner [] a.1)
+-- the first name's entry; none where no name is left
+abbrev pub first_entry : Version → Entry
+first_entry [] = []
+first_entry (first ∷ rest) = first.1
 
--- what becomes of a name that is first before and after
-abbrev pub Meets : Serial → Name → Version → Version → (Aim → List Operation → Type 0) → (Aim → List Operation → Type 0) → Type 0
-Meets mode owner [] after had has = Unit {0}
-Meets mode owner (b ∷ before) [] had has = Unit {0}
-Meets mode owner (b ∷ before) (a ∷ after) had has = Adds had has (entry_difference mode owner b.1 a.1)
+-- the first name was passed, or wasn't
+abbrev pub passed_if : Bool → Version → Version
+passed_if passes left = if passes then behind_first left else left
 
--- Operations came, and what is left of both versions has the others.
-pub record Goes (mode : Serial) (had has : Aim → List Operation → Type 0) (before after before' after' : Version) : Type 0 where
-  pub came : List Operation
-  pub added : Adds had has came
-  pub gives : difference mode before after ≡ came ++ difference mode before' after'
+-- Of two names the one that comes first, and how the one before stands to the one after. A name that there isn't comes last.
+abbrev pub first_name : Option Name → Option Name → Option (Name × Ordering)
+first_name None None = None
+first_name (Some old) None = Some (old, Less)
+first_name None (Some new) = Some (new, Greater)
+first_name (Some old) (Some new) = match_ordering (name_cmp old new) (Some (old, Less)) (Some (old, Equal)) (Some (new, Greater))
 
--- the same where what is left is shown
-pub record Went (mode : Serial) (had has : Aim → List Operation → Type 0) (before after : Version) (shows shows' : Version → Type 0) : Type 0 where
-  pub before' : Version
-  pub after' : Version
-  pub shown : shows before'
-  pub shown' : shows' after'
-  pub goes : Goes mode had has before after before' after'
+-- the same of what is left
+abbrev pub first_of : Version → Version → Option (Name × Ordering)
+first_of before after = first_name (owner_ahead before) (owner_ahead after)
+
+-- what becomes of the name that comes first
+abbrev pub name_changes : Serial → Name → Ordering → Version → Version → List Operation
+name_changes mode owner Less before after = DeleteName owner ∷ []
+name_changes mode owner Equal before after = entry_difference mode owner (first_entry before) (first_entry after)
+name_changes mode owner Greater before after = entry_difference mode owner [] (first_entry after)
 
 -- of all operations some came, and what is left of both versions has the others
 pub record Leaves (mode : Serial) (had has : Aim → List Operation → Type 0) (all : List Operation) (shows shows' : Version → Type 0) : Type 0 where

@@ -4,17 +4,18 @@ pub use Rattle.zone_model.specs.Versions.{Version, Operation, DeleteName, Delete
 pub use Rattle.master_file.specs.Rows.{CanBeDumped}
 pub use Rattle.zone_diff.specs.declared.Serial.{Serial}
 pub use Rattle.zone_diff.specs.declared.Serial.TheVariants.{Keep, Ignore}
-pub use Rattle.zone_diff.specs.Differences.{addition, deletions, additions, set_deletions, set_additions, difference, made}
-pub use Rattle.zone_diff.specs.Merges.{records_ahead, reached, is_first, lacking_beside, deletions_beside, additions_beside, Rises}
+pub use Rattle.zone_diff.specs.Differences.{addition, entry_changes, record_change, set_additions, set_changes, set_deletions, whole_change, difference, made}
+pub use Rattle.zone_diff.specs.declared.sets.Side.{Side}
+pub use Rattle.zone_diff.specs.Merges.{records_ahead, reached, is_first, lacking_beside, Rises}
 pub use Rattle.zone_diff.specs.Sinks.{Aim, Adds, IsShort, change_view}
 pub use Rattle.zone_diff.specs.Cuts.{CutAt}
 pub use Rattle.zone_diff.specs.Blocks.{blocks, block_limit, in_turn, StopsAt}
 pub use Rattle.std.specs.List.{AllByRecursion}
 pub use Rattle.zone_model.specs.Records.{Entry, IsEntry}
-pub use Rattle.zone_diff.specs.Walks.{deletions_walked, additions_walked, sets_ahead, sets_reached, set_ahead}
+pub use Rattle.zone_diff.specs.Walks.{changes_walked, sets_ahead, sets_reached, set_ahead}
 pub use Rattle.zone_diff.specs.Differences.{unless_soa, soa_exchange, soa_additions, stays, entry_difference}
 pub use Rattle.zone_diff.specs.Serials.{without_serial, renumbered, counts_as}
-pub use Rattle.zone_diff.specs.NamesAhead.{Comes, Meets, Passes, Stands, StandsFirst, Went, pairs_ahead}
+pub use Rattle.zone_diff.specs.NamesAhead.{Leaves, Stands, first_name, first_of, name_changes, pairs_ahead, passed_if}
 pub use Rattle.rr_data.specs.ItemViews.{SaysEntry}
 pub use Rattle.zone_model.specs.Records.{item_limit}
 pub use Rattle.zone_diff.specs.declared.DiffStyle.{DiffStyle}

@@ -4,7 +4,8 @@ use Rattle.std.specs.Ordering.{nat_cmp, match_ordering}
 use Rattle.zone_model.specs.Names.{Name}
 use Rattle.zone_model.specs.Records.{Rrset, Entry}
 use Rattle.zone_model.specs.Versions.{Operation}
-use Rattle.zone_diff.specs.Differences.{set_deletions, set_additions, unless_soa}
+use Rattle.zone_diff.specs.declared.sets.Side.{Side}
+use Rattle.zone_diff.specs.Differences.{set_changes, unless_soa}
 
 -- the RRsets that are left: the one ahead, and those behind it
 abbrev pub sets_ahead : Option Rrset → Entry → Entry
@@ -26,8 +27,5 @@ abbrev pub each_beside : (Option Rrset → Rrset → List Operation) → Entry �
 each_beside due others [] = []
 each_beside due others (first ∷ rest) = let left = sets_reached first.rtype others in due (set_ahead first.rtype left) first ++ each_beside due left rest
 
-abbrev pub deletions_walked : Name → Entry → Entry → List Operation
-deletions_walked owner before after = each_beside (λ other s. unless_soa s (set_deletions owner other s)) after before
-
-abbrev pub additions_walked : Name → Entry → Entry → List Operation
-additions_walked owner before after = each_beside (λ other t. unless_soa t (set_additions owner other t)) before after
+abbrev pub changes_walked : Side → Name → Entry → Entry → List Operation
+changes_walked side owner others sets = each_beside (λ other s. unless_soa s (set_changes side owner other s)) others sets

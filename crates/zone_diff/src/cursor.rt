@@ -1,5 +1,5 @@
 //! Records and RRsets that are looked at once, beside others.
-ghost use Rattle.std.specs.Prelude.{◌≡◌};
+ghost use Rattle.std.specs.Prelude.{◌≡◌, []};
 ghost use Rattle.zone_diff.specs.Prelude.{records_ahead, reached, is_first, sets_ahead, set_ahead, sets_reached};
 
 use rr_data::{ItemView, RecordViews, SetView};
@@ -20,6 +20,16 @@ impl<'a> RecordCursor<'a> {
         let mut behind = set.records();
         let ahead = behind.next();
         RecordCursor { ahead, behind }
+    }
+
+    /// None of them.
+    pub fn none(set: &SetView<'a>) -> Self
+        ensures { records_ahead result.ahead result.behind ≡ [] }
+    {
+        RecordCursor {
+            ahead: None,
+            behind: set.records(),
+        }
     }
 
     /// Passes the records below some octets, and tells whether these are ahead.

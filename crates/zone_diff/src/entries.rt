@@ -1,19 +1,19 @@
 //! What becomes of one name.
 ghost use Rattle.std.specs.Prelude.{◌≡◌, Some, OnOk};
-ghost use Rattle.zone_diff.specs.Prelude.{Adds, Entry, IsEntry, Rises, SaysEntry, additions, deletions, entry_difference};
-ghost use Rattle.zone_diff.specs.Prelude.{set_additions, set_deletions, unless_soa};
+ghost use Rattle.zone_diff.specs.Prelude.{Adds, Entry, IsEntry, Rises, SaysEntry, entry_changes, entry_difference, set_changes, unless_soa};
 
 use crate::Serial;
 use crate::changes::OperationSink;
 use crate::cursor::SetCursor;
-use crate::sets::{push_additions, push_deletions};
+use crate::sets::{Side, push_changes};
 use crate::soa::push_soa;
 use dns_name::Name;
 use rr_data::{ItemView, SOA, SetView};
 use std::alloc::{AllocError, Global};
 
-// What goes of an RRset, which is nothing of an SOA.
-fn push_gone_unless_soa<K: OperationSink>(
+// What becomes of an RRset, which is nothing of an SOA.
+fn push_unless_soa<K: OperationSink>(
+    side: Side,
     owner: &Name,
     other: &Option<SetView<'_>>,
     set: &SetView<'_>,
@@ -21,67 +21,31 @@ fn push_gone_unless_soa<K: OperationSink>(
 ) -> Result<(), AllocError>
     requires rises { Rises (Some set.now) }
     requires other_rises { Rises other.now }
-    ensures { OnOk result (Adds (K.has sink.old) (K.has sink.new) (unless_soa set.now (set_deletions owner.now other.now set.now))) }
+    ensures { OnOk result (Adds (K.has sink.old) (K.has sink.new) (unless_soa set.now (set_changes side owner.now other.now set.now))) }
 {
     if set.rtype() == SOA {
         return Ok(());
     }
-    push_deletions(owner, other, set, sink)
+    push_changes(side, owner, other, set, sink)
 }
 
-// What comes of an RRset, which is nothing of an SOA.
-fn push_new_unless_soa<K: OperationSink>(
+// What becomes of the RRsets on one side. Each on either side is looked at once.
+fn push_side<K: OperationSink>(
+    side: Side,
     owner: &Name,
-    other: &Option<SetView<'_>>,
-    set: &SetView<'_>,
+    others: ItemView<'_>,
+    sets: ItemView<'_>,
     sink: &mut K,
 ) -> Result<(), AllocError>
-    requires rises { Rises (Some set.now) }
-    requires other_rises { Rises other.now }
-    ensures { OnOk result (Adds (K.has sink.old) (K.has sink.new) (unless_soa set.now (set_additions owner.now other.now set.now))) }
+    requires others { IsEntry others }
+    requires sets { IsEntry sets }
+    ensures { OnOk result (Adds (K.has sink.old) (K.has sink.new) (entry_changes side owner.now others.entry sets.entry)) }
 {
-    if set.rtype() != SOA {
-        return push_additions(owner, other, set, sink);
-    }
-    Ok(())
-}
-
-// What goes of an entry. Each RRset is looked at once.
-fn push_all_gone<K: OperationSink>(
-    owner: &Name,
-    before: ItemView<'_>,
-    after: ItemView<'_>,
-    sink: &mut K,
-) -> Result<(), AllocError>
-    requires before { IsEntry before }
-    requires after { IsEntry after }
-    ensures { OnOk result (Adds (K.has sink.old) (K.has sink.new) (deletions owner.now before.entry after.entry)) }
-{
-    let mut others = SetCursor::new(after);
-    let mut sets = before;
+    let mut others = SetCursor::new(others);
+    let mut sets = sets;
     while let Some(set) = sets.next() {
         let other = others.reach(set.rtype());
-        push_gone_unless_soa(owner, &other, &set, sink)?;
-    }
-    Ok(())
-}
-
-// What comes to an entry. Each RRset is looked at once.
-fn push_all_new<K: OperationSink>(
-    owner: &Name,
-    before: ItemView<'_>,
-    after: ItemView<'_>,
-    sink: &mut K,
-) -> Result<(), AllocError>
-    requires before { IsEntry before }
-    requires after { IsEntry after }
-    ensures { OnOk result (Adds (K.has sink.old) (K.has sink.new) (additions owner.now before.entry after.entry)) }
-{
-    let mut others = SetCursor::new(before);
-    let mut sets = after;
-    while let Some(set) = sets.next() {
-        let other = others.reach(set.rtype());
-        push_new_unless_soa(owner, &other, &set, sink)?;
+        push_unless_soa(side, owner, &other, &set, sink)?;
     }
     Ok(())
 }
@@ -97,18 +61,14 @@ pub fn push_entry<K: OperationSink>(
 ) -> Result<(), AllocError>
     requires before { (entry : Entry) × SaysEntry owner.now before.now entry }
     requires after { (entry : Entry) × SaysEntry owner.now after.now entry }
-    ensures { (b a : Entry) → SaysEntry owner.now before.now b → SaysEntry owner.now after.now a
-        → OnOk result (Adds (K.has sink.old) (K.has sink.new) (entry_difference serial owner.now b a)) }
+    ensures { OnOk result ((b a : Entry) → SaysEntry owner.now before.now b → SaysEntry owner.now after.now a
+        → Adds (K.has sink.old) (K.has sink.new) (entry_difference serial owner.now b a)) }
 {
     let old = ItemView::of(owner, before);
     let new = ItemView::of(owner, after);
     let (old_soa, new_soa) = (old.find_set(SOA), new.find_set(SOA));
-    push_all_gone(owner, old, new, sink)?;
+    push_side(Side::Before, owner, new, old, sink)?;
     push_soa(alloc, serial, owner, &old_soa, &new_soa, sink)?;
-    push_all_new(
-        owner,
-        ItemView::of(owner, before),
-        ItemView::of(owner, after),
-        sink,
-    )
+    let (old, new) = (ItemView::of(owner, before), ItemView::of(owner, after));
+    push_side(Side::After, owner, old, new, sink)
 }

@@ -6,7 +6,7 @@ ghost use Rattle.zone_diff.specs.Prelude.{blocks, block_limit, in_turn, StopsAt,
 ghost use Rattle.std.specs.Prelude.{ℕ, ◌+◌, ◌*◌, map};
 ghost use Rattle.zone_diff.specs.Prelude.{Script, TakesCommands, committed, lines_of, list_of, script_from, text_in, zone_at};
 ghost use Rattle.zone_diff.specs.declared.DiffStyle.TheVariants.{Script as AsScript};
-ghost use Rattle.zone_diff.specs.Prelude.{Entry, IsEntry, deletions, additions, deletions_walked, additions_walked};
+ghost use Rattle.zone_diff.specs.Prelude.{Entry, IsEntry, Side, changes_walked, entry_changes};
 
 /// Of two zones of one origin the difference makes of the one before the one after. No rule refuses any operation of it. Where a change
 /// of the serial alone doesn't count, what is made has the SOA from before if the one after counts as the same.
@@ -34,12 +34,10 @@ pub fn differences_in_transactions()
         → blocks (difference mode before after) ≡ front ++ back → (middle : Version) × StopsAt o front back before (made mode o before after) middle }
 {}
 
-/// What goes and what comes of an entry is found by going through its RRsets and the other's side by side, each looked at once.
+/// What goes and what comes of an entry is found by going through the RRsets of both versions side by side, each looked at once.
 pub fn differences_side_by_side()
-    ensures deletions { (owner : Name) (before after : Entry) → IsEntry before → IsEntry after
-        → deletions_walked owner before after ≡ deletions owner before after }
-    ensures additions { (owner : Name) (before after : Entry) → IsEntry before → IsEntry after
-        → additions_walked owner before after ≡ additions owner before after }
+    ensures { (side : Side) (owner : Name) (others sets : Entry) → IsEntry others → IsEntry sets
+        → changes_walked side owner others sets ≡ entry_changes side owner others sets }
 {}
 
 /// The text of a difference as a script says its transactions, as blocks `update` that are committed: where it is one list of commands,

@@ -1,7 +1,7 @@
 //! The names of two zones, gone through side by side in canonical order.
-ghost use Rattle.std.specs.Prelude.{◌≡◌, ◌≤◌, ◌∷◌, [], length, IfOk, OnOk};
-ghost use Rattle.zone_diff.specs.Prelude.{Adds, Comes, DeleteName, Meets, Stands, Version};
-ghost use Rattle.zone_diff.specs.Prelude.{Passes, StandsFirst, Went, difference, item_limit, pairs_ahead};
+ghost use Rattle.std.specs.Prelude.{◌≡◌, ◌≤◌, Some, length, IfOk, OnOk};
+ghost use Rattle.zone_diff.specs.Prelude.{Adds, Leaves, Stands, Version, difference, first_name, first_of, item_limit, name_changes};
+ghost use Rattle.zone_diff.specs.Prelude.{pairs_ahead, passed_if};
 
 use crate::Serial;
 use crate::changes::{Change, OperationSink};
@@ -143,62 +143,56 @@ impl Names for NameCursor {
     ghost stays_on = { λ a b c h k. tt };
 }
 
-// The first name goes.
-fn push_old<B: Names, K: OperationSink>(
-    owner: &Name,
-    before: &mut B,
-    sink: &mut K,
-) -> Result<(), AllocError>
-    requires { (left : Version) × B.shows before.old left }
-    ensures added { OnOk result (Adds (K.has sink.old) (K.has sink.new) (DeleteName owner.now ∷ [])) }
-    ensures left { OnOk result (Passes (B.shows before.old) (B.shows before.new)) }
-    ensures source { B.stays before.old before.new }
+// Of two names the one that comes first, and how the one before stands to the one after; a name that there isn't comes last.
+fn first_name(old: Option<Name>, new: Option<Name>) -> Option<(Name, Ordering)>
+    ensures { result ≡ first_name old new }
 {
-    sink.push(owner, &Change::Goes)?;
-    before.pass();
-    Ok(())
-}
-
-// The first name comes.
-fn push_new<A: Names, K: OperationSink>(
-    alloc: Global,
-    serial: Serial,
-    owner: &Name,
-    after: &mut A,
-    sink: &mut K,
-) -> Result<(), AllocError>
-    requires { StandsFirst owner.now (A.shows after.old) }
-    ensures added { OnOk result ((left : Version) → A.shows after.old left → Comes serial owner.now left (K.has sink.old) (K.has sink.new)) }
-    ensures left { OnOk result (Passes (A.shows after.old) (A.shows after.new)) }
-    ensures source { A.stays after.old after.new }
-{
-    push_entry(alloc, serial, owner, &[], after.item(), sink)?;
-    after.pass();
-    Ok(())
-}
-
-// The first name stays.
-fn push_both<B: Names, A: Names, K: OperationSink>(
-    alloc: Global,
-    serial: Serial,
-    owner: &Name,
-    before: &mut B,
-    after: &mut A,
-    sink: &mut K,
-) -> Result<(), AllocError>
-    requires before { StandsFirst owner.now (B.shows before.old) }
-    requires after { StandsFirst owner.now (A.shows after.old) }
-    ensures added { OnOk result ((b a : Version) → B.shows before.old b → A.shows after.old a → Meets serial owner.now b a (K.has sink.old) (K.has sink.new)) }
-    ensures left { OnOk result (Passes (B.shows before.old) (B.shows before.new) × Passes (A.shows after.old) (A.shows after.new)) }
-    ensures sources { B.stays before.old before.new × A.stays after.old after.new }
-{
-    push_entry(alloc, serial, owner, before.item(), after.item(), sink)?;
-    before.pass();
-    after.pass();
-    Ok(())
+    match (old, new) {
+        (None, None) => None,
+        (Some(old), None) => Some((old, Ordering::Less)),
+        (None, Some(new)) => Some((new, Ordering::Greater)),
+        (Some(old), Some(new)) => match old.cmp(&new) {
+            Ordering::Greater => Some((new, Ordering::Greater)),
+            order => Some((old, order)),
+        },
+    }
 }
 
 // What becomes of the name that comes first.
+fn push_name<B: Names, A: Names, K: OperationSink>(
+    alloc: Global,
+    serial: Serial,
+    owner: &Name,
+    order: Ordering,
+    before: &B,
+    after: &A,
+    sink: &mut K,
+) -> Result<(), AllocError>
+    requires some_before { (left : Version) × B.shows before.now left }
+    requires some_after { (left : Version) × A.shows after.now left }
+    requires first { (b a : Version) → B.shows before.now b → A.shows after.now a → first_of b a ≡ Some (owner.now, order) }
+    ensures { OnOk result ((b a : Version) → B.shows before.now b → A.shows after.now a
+        → Adds (K.has sink.old) (K.has sink.new) (name_changes serial owner.now order b a)) }
+{
+    match order {
+        Ordering::Less => sink.push(owner, &Change::Goes),
+        Ordering::Equal => push_entry(alloc, serial, owner, before.item(), after.item(), sink),
+        Ordering::Greater => push_entry(alloc, serial, owner, &[], after.item(), sink),
+    }
+}
+
+// Passes the first name, if it is the one at hand.
+fn pass_if<N: Names>(at_hand: bool, names: &mut N)
+    requires { (left : Version) × N.shows names.old left }
+    ensures left { (left : Version) → N.shows names.old left → N.shows names.new (passed_if at_hand left) }
+    ensures source { N.stays names.old names.new }
+{
+    if at_hand {
+        names.pass();
+    }
+}
+
+// What becomes of the name that comes first, which is passed.
 fn push_first<B: Names, A: Names, K: OperationSink>(
     alloc: Global,
     serial: Serial,
@@ -209,19 +203,17 @@ fn push_first<B: Names, A: Names, K: OperationSink>(
     requires some_before { (left : Version) × B.shows before.old left }
     requires some_after { (left : Version) × A.shows after.old left }
     ensures sources { B.stays before.old before.new × A.stays after.old after.new }
-    ensures went { OnOk result ((b a : Version) → B.shows before.old b → A.shows after.old a
-        → Went serial (K.has sink.old) (K.has sink.new) b a (B.shows before.new) (A.shows after.new)) }
+    ensures left { OnOk result ((b a : Version) → B.shows before.old b → A.shows after.old a
+        → Leaves serial (K.has sink.old) (K.has sink.new) (difference serial b a) (B.shows before.new) (A.shows after.new)) }
 {
-    match (before.owner(), after.owner()) {
-        (None, None) => Ok(()),
-        (Some(old), None) => push_old(&old, before, sink),
-        (None, Some(new)) => push_new(alloc, serial, &new, after, sink),
-        (Some(old), Some(new)) => match old.cmp(&new) {
-            Ordering::Less => push_old(&old, before, sink),
-            Ordering::Equal => push_both(alloc, serial, &old, before, after, sink),
-            Ordering::Greater => push_new(alloc, serial, &new, after, sink),
-        },
-    }
+    let Some(first) = first_name(before.owner(), after.owner()) else {
+        return Ok(());
+    };
+    let (owner, order) = first;
+    push_name(alloc, serial, &owner, order, before, after, sink)?;
+    pass_if(order.is_le(), before);
+    pass_if(order.is_ge(), after);
+    Ok(())
 }
 
 /// Pushes the operations that make of a version another one, name by name; no name that was passed is looked at again. More names than

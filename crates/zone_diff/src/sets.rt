@@ -1,7 +1,7 @@
 //! What goes and what comes of one RRset.
-ghost use Rattle.std.specs.Prelude.{◌≡◌, ◌∷◌, [], Some, OnOk, map, if◌then◌else◌};
-ghost use Rattle.zone_diff.specs.Prelude.{Adds, IsShort, change_view, addition, DeleteSet, DeleteRecord, lacking_beside};
-ghost use Rattle.zone_diff.specs.Prelude.{deletions_beside, additions_beside, set_deletions, set_additions, Rises};
+ghost use Rattle.std.specs.Prelude.{◌≡◌, ◌≤◌, ◌∷◌, [], Some, OnOk, length, map, if◌then◌else◌};
+ghost use Rattle.zone_diff.specs.Prelude.{Adds, Rises, lacking_beside, record_change, records_ahead};
+ghost use Rattle.zone_diff.specs.Prelude.{set_additions, set_changes, set_deletions, whole_change};
 
 use crate::changes::{Change, OperationSink};
 use crate::cursor::RecordCursor;
@@ -9,129 +9,88 @@ use dns_name::Name;
 use rr_data::SetView;
 use std::alloc::AllocError;
 
-// All records of an RRset come.
-fn push_all<K: OperationSink>(
-    owner: &Name,
-    set: &SetView<'_>,
-    sink: &mut K,
-) -> Result<(), AllocError>
-    ensures { OnOk result (Adds (K.has sink.old) (K.has sink.new) (map (addition owner.now set.now.rtype set.now.ttl) set.now.records)) }
-{
-    let (rtype, ttl) = (set.rtype(), set.ttl());
-    let mut records = set.records();
-    while let Some(octets) = records.next() {
-        sink.push(owner, &Change::Comes { rtype, ttl, octets })?;
-    }
-    Ok(())
+/// The version that an RRset is of: of the one before it goes, and of the one after it comes.
+#[derive(Clone, Copy)]
+pub enum Side {
+    Before,
+    After,
 }
 
-// An operation comes, unless what it is for is there.
+// What becomes of a record of an RRset, unless it is there on the other side.
 fn push_unless<K: OperationSink>(
     there: bool,
+    side: Side,
     owner: &Name,
-    change: &Change<'_>,
+    set: &SetView<'_>,
+    octets: &[u8],
     sink: &mut K,
 ) -> Result<(), AllocError>
-    requires { IsShort change.now }
-    ensures { OnOk result (Adds (K.has sink.old) (K.has sink.new) (if there then [] else change_view owner.now change.now ∷ [])) }
+    requires { length octets.now ≤ 65535 }
+    ensures { OnOk result (Adds (K.has sink.old) (K.has sink.new) (if there then [] else record_change side owner.now set.now octets.now ∷ [])) }
 {
     if there {
         return Ok(());
     }
-    sink.push(owner, change)
-}
-
-// The records of an RRset come that another one hasn't.
-fn push_new<K: OperationSink>(
-    owner: &Name,
-    set: &SetView<'_>,
-    other: &SetView<'_>,
-    sink: &mut K,
-) -> Result<(), AllocError>
-    ensures { OnOk result (Adds (K.has sink.old) (K.has sink.new)
-        (map (addition owner.now set.now.rtype set.now.ttl) (lacking_beside other.now.records set.now.records))) }
-{
     let (rtype, ttl) = (set.rtype(), set.ttl());
-    let mut others = RecordCursor::new(other);
-    let mut records = set.records();
-    while let Some(octets) = records.next() {
-        let there = others.reach(octets);
-        push_unless(there, owner, &Change::Comes { rtype, ttl, octets }, sink)?;
+    match side {
+        Side::Before => sink.push(owner, &Change::RecordGoes { rtype, octets }),
+        Side::After => sink.push(owner, &Change::Comes { rtype, ttl, octets }),
     }
-    Ok(())
 }
 
-// The records of an RRset go that another one hasn't.
-fn push_gone<K: OperationSink>(
+// What becomes of the records of an RRset that others haven't.
+fn push_lacking<K: OperationSink>(
+    side: Side,
     owner: &Name,
     set: &SetView<'_>,
-    other: &SetView<'_>,
+    others: RecordCursor<'_>,
     sink: &mut K,
 ) -> Result<(), AllocError>
     ensures { OnOk result (Adds (K.has sink.old) (K.has sink.new)
-        (map (DeleteRecord owner.now set.now.rtype) (lacking_beside other.now.records set.now.records))) }
+        (map (record_change side owner.now set.now) (lacking_beside (records_ahead others.entry.ahead others.entry.behind) set.now.records))) }
 {
-    let rtype = set.rtype();
-    let mut others = RecordCursor::new(other);
+    let mut others = others;
     let mut records = set.records();
     while let Some(octets) = records.next() {
         let there = others.reach(octets);
-        push_unless(there, owner, &Change::RecordGoes { rtype, octets }, sink)?;
+        push_unless(there, side, owner, set, octets, sink)?;
     }
     Ok(())
 }
 
-// An RRset goes.
-fn push_set_gone<K: OperationSink>(
+// What becomes of an RRset whose place none takes that has its time to live.
+fn push_whole<K: OperationSink>(
+    side: Side,
     owner: &Name,
     set: &SetView<'_>,
     sink: &mut K,
 ) -> Result<(), AllocError>
-    ensures { OnOk result (Adds (K.has sink.old) (K.has sink.new) (DeleteSet owner.now set.now.rtype ∷ [])) }
+    ensures { OnOk result (Adds (K.has sink.old) (K.has sink.new) (whole_change side owner.now set.now)) }
 {
     let rtype = set.rtype();
-    sink.push(owner, &Change::SetGoes { rtype })
-}
-
-// What goes of an RRset beside another one.
-fn push_deletions_beside<K: OperationSink>(
-    owner: &Name,
-    other: &Option<SetView<'_>>,
-    set: &SetView<'_>,
-    sink: &mut K,
-) -> Result<(), AllocError>
-    ensures { OnOk result (Adds (K.has sink.old) (K.has sink.new) (deletions_beside owner.now other.now set.now)) }
-{
-    match other {
-        None => push_set_gone(owner, set, sink),
-        Some(other) => {
-            if set.ttl() == other.ttl() {
-                push_gone(owner, set, other, sink)
-            } else {
-                push_set_gone(owner, set, sink)
-            }
-        }
+    match side {
+        Side::Before => sink.push(owner, &Change::SetGoes { rtype }),
+        Side::After => push_lacking(side, owner, set, RecordCursor::none(set), sink),
     }
 }
 
-// What comes of an RRset beside another one.
-fn push_additions_beside<K: OperationSink>(
+/// What becomes of an RRset, by the one on the other side. Each record is looked at once.
+pub fn push_changes<K: OperationSink>(
+    side: Side,
     owner: &Name,
     other: &Option<SetView<'_>>,
     set: &SetView<'_>,
     sink: &mut K,
 ) -> Result<(), AllocError>
-    ensures { OnOk result (Adds (K.has sink.old) (K.has sink.new) (additions_beside owner.now other.now set.now)) }
+    requires rises { Rises (Some set.now) }
+    requires other_rises { Rises other.now }
+    ensures { OnOk result (Adds (K.has sink.old) (K.has sink.new) (set_changes side owner.now other.now set.now)) }
 {
     match other {
-        None => push_all(owner, set, sink),
-        Some(other) => {
-            if other.ttl() == set.ttl() {
-                push_new(owner, set, other, sink)
-            } else {
-                push_all(owner, set, sink)
-            }
+        Some(other) if set.ttl() == other.ttl() => {
+            push_lacking(side, owner, set, RecordCursor::new(other), sink)
         }
+        _ => push_whole(side, owner, set, sink),
     }
 }
 
@@ -146,7 +105,7 @@ pub fn push_deletions<K: OperationSink>(
     requires other_rises { Rises other.now }
     ensures { OnOk result (Adds (K.has sink.old) (K.has sink.new) (set_deletions owner.now other.now set.now)) }
 {
-    push_deletions_beside(owner, other, set, sink)
+    push_changes(Side::Before, owner, other, set, sink)
 }
 
 /// What comes of an RRset, by the one whose place it takes. Each record is looked at once.
@@ -160,5 +119,5 @@ pub fn push_additions<K: OperationSink>(
     requires other_rises { Rises other.now }
     ensures { OnOk result (Adds (K.has sink.old) (K.has sink.new) (set_additions owner.now other.now set.now)) }
 {
-    push_additions_beside(owner, other, set, sink)
+    push_changes(Side::After, owner, other, set, sink)
 }

@@ -119,29 +119,6 @@ fn push_twice<K: OperationSink>(
     push_record(owner, ttl, octets, sink)
 }
 
-// A record takes the place of an RRset that is there.
-fn push_over<K: OperationSink>(
-    alloc: Global,
-    serial: Serial,
-    owner: &Name,
-    before: &SetView<'_>,
-    ttl: u32,
-    octets: &[u8],
-    sink: &mut K,
-) -> Result<(), AllocError>
-    requires { length octets.now ≤ 65535 }
-    ensures { OnOk result (Adds (K.has sink.old) (K.has sink.new) (soa_exchange serial owner.now (Some before.now) ttl octets.now)) }
-{
-    if stays(alloc, serial, before, ttl, octets)? {
-        return Ok(());
-    }
-    if has_alike(alloc, Serial::Keep, octets, before)? {
-        push_twice(alloc, owner, ttl, octets, sink)
-    } else {
-        push_record(owner, ttl, octets, sink)
-    }
-}
-
 // A record takes the place of an RRset.
 fn push_exchange<K: OperationSink>(
     alloc: Global,
@@ -155,9 +132,16 @@ fn push_exchange<K: OperationSink>(
     requires { length octets.now ≤ 65535 }
     ensures { OnOk result (Adds (K.has sink.old) (K.has sink.new) (soa_exchange serial owner.now before.now ttl octets.now)) }
 {
-    match before {
-        Some(before) => push_over(alloc, serial, owner, before, ttl, octets, sink),
-        None => push_record(owner, ttl, octets, sink),
+    let Some(before) = before else {
+        return push_record(owner, ttl, octets, sink);
+    };
+    if stays(alloc, serial, before, ttl, octets)? {
+        return Ok(());
+    }
+    if has_alike(alloc, Serial::Keep, octets, before)? {
+        push_twice(alloc, owner, ttl, octets, sink)
+    } else {
+        push_record(owner, ttl, octets, sink)
     }
 }
 
