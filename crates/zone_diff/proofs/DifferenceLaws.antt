@@ -166,8 +166,7 @@ difference_makes mode origin before after h k =
 -- ---- where each serial counts, it is the one after
 
 first_true : (a b : Bool) → (a && b) ≡ true → a ≡ true
-first_true true b e = refl
-first_true false b e = absurd cc
+first_true a b e = grind arith
 
 same_soa : (s t : Rrset) → OneSoa s → OneSoa t → list_any (stays Keep s t.ttl) t.records ≡ true → s ≡ t
 same_soa s t one other e =

@@ -171,12 +171,10 @@ made_kept owner s t after one other is e h f at =
     by_type k false q = placed_beside k s after (no_soa k q) one.rtype_is
 
 pub both_true : (a b : Bool) → (a && b) ≡ true → b ≡ true
-both_true true b e = e
-both_true false b e = absurd cc
+both_true a b e = grind arith
 
 pub or_none : (a : Bool) → (a || false) ≡ true → a ≡ true
-or_none true e = refl
-or_none false e = absurd cc
+or_none a e = grind arith
 
 pub stays_counts : (mode : Serial) (s t : Rrset) (one : OneSoa s) (other : OneSoa t) → list_any (stays mode s t.ttl) t.records ≡ true → counts_as mode other.octets one.octets ≡ true
 stays_counts mode s t one other e =

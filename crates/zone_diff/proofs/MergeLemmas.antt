@@ -54,6 +54,9 @@ lacking_alike octets others less (x ∷ records) f h =
     let on : lacking less records ≡ lacking others records = lacking_alike x others less records (λ r l. f r (nat_list_cmp_total.trans octets x r h.0 l)) h.2 in
     ap (λ (b : Bool). cond (not b) (x ∷ lacking less records) (lacking less records)) (f x h.0) ∙ ap (λ (l : List (List ℕ)). cond (not (has_record x others)) (x ∷ l) l) on
 
+turned : (b : Bool) (xs ys : List (List ℕ)) → cond b xs ys ≡ cond (not b) ys xs
+turned b xs ys = grind arith
+
 pub beside_is : (before after : Option (List ℕ)) (others records : List (List ℕ)) → RisingOctets before others → RisingOctets after records → lacking_beside others records ≡ lacking others records
 beside_is before after others [] h k = refl
 beside_is before after others (x ∷ records) h k =
@@ -61,11 +64,7 @@ beside_is before after others (x ∷ records) h k =
     beside_is None (Some x) (reached x others) records (reached_rises x before others h) k.2 ∙ lacking_alike x others (reached x others) records (λ r l. reached_has r x others l) k.2 in
     ap (λ (l : List (List ℕ)). cond (is_first x (reached x others)) l (x ∷ l)) on
     ∙ ap (λ (b : Bool). cond b (lacking others records) (x ∷ lacking others records)) (first_has x before others h)
-    ∙ turned (has_record x others)
-  where
-    turned : (b : Bool) → cond b (lacking others records) (x ∷ lacking others records) ≡ cond (not b) (x ∷ lacking others records) (lacking others records)
-    turned true = refl
-    turned false = refl
+    ∙ turned (has_record x others) (lacking others records) (x ∷ lacking others records)
 
 beside_none : (records : List (List ℕ)) → lacking_beside [] records ≡ records
 beside_none [] = refl
