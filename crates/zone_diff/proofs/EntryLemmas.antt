@@ -1,6 +1,7 @@
 -- What is found in an entry that operations changed, RRset by RRset.
 use Rattle.std.proofs.Common.{◌≡◌, ◌≢◌, ◌∙◌, ℕ, suc, ◌<◌, ◌≤◌, Bool, true, false, cond, eqb, List, [], ◌∷◌, ◌++◌, length, map, refl, sym, ap, subst, arith, Option, Some, None}
 use Rattle.std.proofs.lemmas.Bool.Decides.{nat_tests}
+use borrow.Author.Tests.{eqb-true}
 use Rattle.std.specs.List.{AllByRecursion, flat_map}
 use Rattle.std.specs.declared.cmp.Ordering.{Ordering}
 use Rattle.std.specs.declared.cmp.Ordering.TheVariants.{Less, Equal, Greater}
@@ -47,22 +48,18 @@ same_entries b c (x ∷ xs) (y ∷ ys) h k e = by_order (same_entries (Some x.rt
     by_order more Equal l =
         let same : x.rtype ≡ y.rtype = ranked x.rtype y.rtype Equal (sym l) in
         let is : x ≡ y = some_is x y (sym (here x.rtype x xs refl) ∙ e x.rtype ∙ here x.rtype y ys (sym same)) in
-        let rest : xs ≡ ys = more (λ t. others t (nat_cmp t x.rtype) refl) in
+        let rest : xs ≡ ys = more (λ t. others t (eqb x.rtype t) refl) in
         cc
       where
-        others : (t : ℕ) (p : Ordering) → nat_cmp t x.rtype ≡ p → rrset_of t xs ≡ rrset_of t ys
-        others t Less q =
+        others : (t : ℕ) (b : Bool) → eqb x.rtype t ≡ b → rrset_of t xs ≡ rrset_of t ys
+        others t true q =
+            let at : x.rtype ≡ t = eqb-true x.rtype t q in
             let same : x.rtype ≡ y.rtype = ranked x.rtype y.rtype Equal (sym l) in
-            let lt : t < x.rtype = ranked t x.rtype Less (sym q) in
             none_above t x.rtype xs (omega arith) (rises_on b x xs h) ∙ sym (none_above t y.rtype ys (omega arith) (rises_on c y ys k))
-        others t Equal q =
+        others t false q =
+            let other : x.rtype ≢ t = grind (arith, nat_tests) in
             let same : x.rtype ≡ y.rtype = ranked x.rtype y.rtype Equal (sym l) in
-            let eq : t ≡ x.rtype = ranked t x.rtype Equal (sym q) in
-            none_above t x.rtype xs (omega arith) (rises_on b x xs h) ∙ sym (none_above t y.rtype ys (omega arith) (rises_on c y ys k))
-        others t Greater q =
-            let same : x.rtype ≡ y.rtype = ranked x.rtype y.rtype Equal (sym l) in
-            let gt : x.rtype < t = ranked t x.rtype Greater (sym q) in
-            sym (passed t x xs (λ s. absurd (omega arith))) ∙ e t ∙ passed t y ys (λ s. absurd (omega arith))
+            sym (passed t x xs other) ∙ e t ∙ passed t y ys (λ s. other (same ∙ s))
 
 -- ---- what is found where an entry changes
 

@@ -18,11 +18,12 @@ use Rattle.zone_diff.specs.Sinks.{Aim, AddsFront}
 use Rattle.zone_diff.specs.NamesAhead.{Leaves, SaysFirst, entry_laid, first_entry, first_of, name_changes, owner_ahead, passed_if}
 use Rattle.zone_diff.proofs.MergeLemmas.{front_joins}
 
+pub begins_with_owner : (octets : List ℕ) (owner : Name) (entry : Entry) → IsItem octets owner entry → BeginsWith octets owner
+begins_with_owner octets owner entry is = (to_be_bytes w16 (length entry) ++ flat_map rrset_bytes entry, is.octets ∙ append_assoc (wire owner) (to_be_bytes w16 (length entry)) (flat_map rrset_bytes entry))
+
 -- octets that are an item begin with its owner
 pub owner_is : (octets : List ℕ) (name owner : Name) (entry : Entry) → IsItem octets owner entry → IsName name → BeginsWith octets name → name ≡ owner
-owner_is octets name owner entry is n b =
-    begins_once octets name owner n.each is.name.each b
-    (to_be_bytes w16 (length entry) ++ flat_map rrset_bytes entry, is.octets ∙ append_assoc (wire owner) (to_be_bytes w16 (length entry)) (flat_map rrset_bytes entry))
+owner_is octets name owner entry is n b = begins_once octets name owner n.each is.name.each b (begins_with_owner octets owner entry is)
 
 pub laid_is : (octets : List ℕ) (owner : Name) (entry : Entry) → IsItem octets owner entry → entry_laid owner octets ≡ entry
 unfolding entry_laid

@@ -11,7 +11,7 @@ pub use Rattle.zone_diff.specs.Sinks.{Aim, Adds, IsShort, change_view}
 pub use Rattle.zone_diff.specs.Cuts.{CutAt}
 pub use Rattle.zone_diff.specs.Blocks.{blocks, block_limit, in_turn, StopsAt}
 pub use Rattle.std.specs.List.{AllByRecursion}
-pub use Rattle.zone_model.specs.Records.{Entry, IsEntry}
+pub use Rattle.zone_model.specs.Records.{Entry, IsEntry, IsItem}
 pub use Rattle.zone_diff.specs.Walks.{changes_walked, sets_ahead, sets_reached, set_ahead}
 pub use Rattle.zone_diff.specs.Differences.{unless_soa, soa_exchange, soa_additions, stays, entry_difference}
 pub use Rattle.zone_diff.specs.Serials.{without_serial, renumbered, counts_as}

@@ -15,7 +15,7 @@ pub use laws::{
     differences_are_few, differences_in_transactions, differences_make_the_other,
     differences_may_be_cut, differences_read_back,
 };
-pub use names::{Ahead, NameCursor, Names, push_between, push_difference};
+pub use names::{Ahead, NameCursor, Names, owner_of, push_between, push_difference};
 pub use sets::{push_additions, push_deletions};
 pub use text::difference_text;
 

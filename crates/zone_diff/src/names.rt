@@ -1,6 +1,6 @@
 //! The names of two zones, gone through side by side in canonical order.
 ghost use Rattle.std.specs.Prelude.{◌≡◌, ◌≤◌, Some, length, IfOk, OnOk};
-ghost use Rattle.zone_diff.specs.Prelude.{Adds, Leaves, Stands, Version, difference, first_name, first_of, item_limit, name_changes};
+ghost use Rattle.zone_diff.specs.Prelude.{Adds, Entry, IsItem, Leaves, Stands, Version, difference, first_name, first_of, item_limit, name_changes};
 ghost use Rattle.zone_diff.specs.Prelude.{pairs_ahead, passed_if};
 
 use crate::Serial;
@@ -77,6 +77,18 @@ impl Model for NameCursor {
     ghost invariant = { λ c. (item_limit ≤ length c.octets.items) × Stands c.ahead c.octets.items };
 }
 
+/// The owner of an item.
+pub fn owner_of(item: &[u8]) -> Name
+    requires { (owner : Name) × (entry : Entry) × IsItem item.now owner entry }
+    ensures { (owner : Name) (entry : Entry) → IsItem item.now owner entry → result ≡ owner }
+{
+    let Some(owner) = Name::from_wire(item) else {
+        // An item begins with its owner's octets.
+        unreachable!();
+    };
+    owner
+}
+
 // Lays down the item of the next name.
 fn next_of(behind: &mut IntoItems, octets: &mut [u8]) -> Option<Ahead>
     requires { item_limit ≤ length octets.old }
@@ -84,10 +96,7 @@ fn next_of(behind: &mut IntoItems, octets: &mut [u8]) -> Option<Ahead>
     ensures stands { Stands result octets.new }
 {
     let len = behind.next(octets)?;
-    let Some(owner) = Name::from_wire(&octets[..len]) else {
-        // An item begins with its owner's octets.
-        unreachable!();
-    };
+    let owner = owner_of(&octets[..len]);
     Some(Ahead { owner, len })
 }
 
