@@ -8,7 +8,7 @@ use Rattle.std.specs.declared.cmp.Ordering.{Ordering}
 use Rattle.std.specs.declared.cmp.Ordering.TheVariants.{Less, Equal, Greater}
 use Rattle.std.specs.Ordering.{is_eq, nat_cmp, match_ordering}
 use Rattle.zone_model.specs.Names.{Name, same_name}
-use Rattle.zone_model.specs.Records.{Rrset, Entry, rrset_of, changed_at, fresh, octets_cmp}
+use Rattle.zone_model.specs.Records.{Rrset, Entry, rrset_of, changed_at, fresh}
 use Rattle.zone_model.specs.Versions.{Version, Operation, DeleteName, owned, put, has_soa, all_applied, and_then}
 use Rattle.zone_model.specs.MasterFile.{soa_count}
 use Rattle.zone_model.specs.declared.Refusal.{Refusal}
@@ -21,11 +21,11 @@ use Rattle.zone_diff.specs.declared.Serial.{Serial}
 use Rattle.zone_diff.specs.declared.Serial.TheVariants.{Keep}
 use Rattle.zone_diff.specs.Serials.{counts_as}
 use Rattle.zone_diff.specs.Differences.{stays, staying, entry_difference, merged, difference, with_set, made_entry, made}
-use Rattle.zone_diff.proofs.RecordLemmas.{is_same, same_octets}
+use Rattle.zone_diff.proofs.RecordLemmas.{it_is, or_none}
 use Rattle.zone_diff.proofs.FitLemmas.{IsFit}
 use Rattle.zone_diff.proofs.SoaLemmas.{OneSoa, soa_is, SoaPair}
 use Rattle.zone_diff.proofs.SoaForms.{soa_long}
-use Rattle.zone_diff.proofs.EntryLaws.{Exchange, entry_exchanged, or_none, stays_counts}
+use Rattle.zone_diff.proofs.EntryLaws.{Exchange, entry_exchanged, stays_counts}
 use Rattle.zone_diff.proofs.VersionLemmas.{self_name, turned, IsAhead, stood_is, put_stood, stood_applied, behind_applied, both_applied, applied_on, entry_of_name, difference_behind, IsPlainPair, IsPlainVersion, plain_difference}
 
 -- ---- what a zone's names own
@@ -172,7 +172,7 @@ same_soa : (s t : Rrset) → OneSoa s → OneSoa t → list_any (stays Keep s t.
 same_soa s t one other e =
     let a : stays Keep s t.ttl other.octets ≡ true = or_none (stays Keep s t.ttl other.octets) (subst (λ (l : List (List ℕ)). list_any (stays Keep s t.ttl) l ≡ true) other.records_are e) in
     let time : s.ttl ≡ t.ttl = eqb-true s.ttl t.ttl (first_true (eqb s.ttl t.ttl) (list_any (counts_as Keep other.octets) s.records) a) in
-    let octets : one.octets ≡ other.octets = sym (same_octets other.octets one.octets (is_same (octets_cmp other.octets one.octets) (stays_counts Keep s t one other e))) in
+    let octets : one.octets ≡ other.octets = sym (it_is other.octets one.octets (stays_counts Keep s t one other e)) in
     soa_is s one ∙ ap (λ (n : ℕ). fresh 6 n one.octets) time ∙ ap (λ (l : List ℕ). fresh 6 t.ttl l) octets ∙ sym (soa_is t other)
 
 kept_entry : (origin : Name) (e f : Entry) → Exchange origin origin e f → made_entry Keep e f ≡ f

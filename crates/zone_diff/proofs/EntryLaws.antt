@@ -1,5 +1,5 @@
 -- The operations of one name make of its entry before the one that is due, and none is refused.
-use Rattle.std.proofs.Common.{◌≡◌, ◌≢◌, ◌∙◌, ℕ, ◌<◌, ◌≤◌, Bool, true, false, ◌&&◌, ◌||◌, cond, eqb, List, [], ◌∷◌, ◌++◌, length, map, refl, sym, ap, subst, arith, Option, Some, None, Ok}
+use Rattle.std.proofs.Common.{◌≡◌, ◌≢◌, ◌∙◌, ℕ, ◌≤◌, Bool, true, false, ◌&&◌, cond, eqb, List, [], ◌∷◌, ◌++◌, length, map, refl, sym, ap, subst, arith, Option, Some, None, Ok}
 use Rattle.std.proofs.lemmas.Bool.Decides.{nat_tests}
 use borrow.Author.Tests.{eqb-true}
 use Rattle.std.specs.List.{list_any}
@@ -12,8 +12,8 @@ use Rattle.zone_diff.specs.Serials.{counts_as}
 use Rattle.zone_diff.specs.declared.sets.Side.TheVariants.{Before, After}
 use Rattle.zone_diff.specs.Differences.{addition, lacking, set_changes, set_deletions, set_additions, unless_soa, stays, soa_additions, staying, deletions, additions, entry_difference, with_set, made_entry}
 use Rattle.zone_diff.proofs.EachLemmas.{Each, all_any, all_of, all_proper, lacking_all, of_set, of_sets}
-use Rattle.zone_diff.proofs.RecordLemmas.{without_all, AreShort, exchanged, all_come, all_short}
-use Rattle.zone_diff.proofs.EntryLemmas.{set_of, set_goes, all_made, IsPlain, AllPlain, all_plain_entry, all_plain_beside, plain_each, records_go, records_come, Works, Walked, walked, found_then, same_entries}
+use Rattle.zone_diff.proofs.RecordLemmas.{without_all, AreShort, exchanged, all_come, all_short, or_none}
+use Rattle.zone_diff.proofs.EntryLemmas.{set_of, set_is, set_goes, all_made, IsPlain, AllPlain, all_plain_entry, all_plain_beside, plain_each, records_go, records_come, Works, Walked, walked, found_then, same_entries}
 use Rattle.zone_diff.proofs.FitLemmas.{IsFit, all_changed, changed_on, placed, fit_placed, fresh_length, IsOther, IsDeletion, IsAddition, AreDeletions, AreAdditions, deletions_let, additions_let, fit_first}
 use Rattle.zone_diff.proofs.SoaLemmas.{OneSoa, soa_is, counts_length, placed_proper, placed_found, placed_beside, SoaDone, SoaPair, soa_done, kept_or}
 
@@ -24,11 +24,7 @@ left_of None s = None
 left_of (Some t) s = cond (eqb s.ttl t.ttl) (set_of s.rtype s.ttl (without_all (lacking t.records s.records) s.records)) None
 
 some_set : (s : Rrset) → IsRrset s → Some s ≡ set_of s.rtype s.ttl s.records
-some_set s is = by_records s.records is.some
-  where
-    by_records : (l : List (List ℕ)) → 0 < length l → Some (record { rtype = s.rtype; ttl = s.ttl; records = l }) ≡ set_of s.rtype s.ttl l
-    by_records [] lt = absurd (omega arith)
-    by_records (x ∷ l) lt = refl
+some_set s is = set_is s.rtype s.ttl s.records is.some
 
 -- operations of one type do nothing else
 works : (operations : List Operation) (t : ℕ) (from to : Option Rrset) → t ≢ 6 → AllPlain t operations → ((entry : Entry) → IsEntry entry → rrset_of t entry ≡ from → rrset_of t (all_made operations entry) ≡ to) → Works operations t from to
@@ -172,9 +168,6 @@ made_kept owner s t after one other is e h f at =
 
 pub both_true : (a b : Bool) → (a && b) ≡ true → b ≡ true
 both_true a b e = grind arith
-
-pub or_none : (a : Bool) → (a || false) ≡ true → a ≡ true
-or_none a e = grind arith
 
 pub stays_counts : (mode : Serial) (s t : Rrset) (one : OneSoa s) (other : OneSoa t) → list_any (stays mode s t.ttl) t.records ≡ true → counts_as mode other.octets one.octets ≡ true
 stays_counts mode s t one other e =

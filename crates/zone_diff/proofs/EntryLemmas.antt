@@ -76,6 +76,10 @@ abbrev pub set_of : ℕ → ℕ → List (List ℕ) → Option Rrset
 set_of t ttl [] = None
 set_of t ttl (x ∷ records) = Some (record { rtype = t; ttl = ttl; records = x ∷ records })
 
+pub set_is : (t ttl : ℕ) (records : List (List ℕ)) → 0 < length records → Some (record { rtype = t; ttl = ttl; records = records }) ≡ set_of t ttl records
+set_is t ttl [] lt = absurd (omega arith)
+set_is t ttl (x ∷ records) lt = refl
+
 some_with : (octets : List ℕ) (records : List (List ℕ)) → 0 < length (with_record octets records)
 some_with octets [] = omega arith
 some_with octets (first ∷ rest) = by_order (octets_cmp octets first)
@@ -121,11 +125,7 @@ record_comes t ttl octets [] entry h e =
     found_at t (joined t ttl octets) entry (joined_of t ttl octets (rrset_of t entry) (found_is t entry h)) h ∙ ap (λ (f : Option Rrset). first_of (joined t ttl octets f)) e
 record_comes t ttl octets (x ∷ records) entry h e =
     found_at t (joined t ttl octets) entry (joined_of t ttl octets (rrset_of t entry) (found_is t entry h)) h ∙ ap (λ (f : Option Rrset). first_of (joined t ttl octets f)) e
-    ∙ some_set (with_record octets (x ∷ records)) (some_with octets (x ∷ records))
-  where
-    some_set : (l : List (List ℕ)) → 0 < length l → Some (record { rtype = t; ttl = ttl; records = l }) ≡ set_of t ttl l
-    some_set [] lt = absurd (omega arith)
-    some_set (y ∷ l) lt = refl
+    ∙ set_is t ttl (with_record octets (x ∷ records)) (some_with octets (x ∷ records))
 
 -- an RRset goes
 pub set_goes : (t : ℕ) (entry : Entry) → IsEntry entry → rrset_of t (without_set t entry) ≡ None

@@ -1,5 +1,5 @@
 -- Records that go and records that come: what is there afterwards.
-use Rattle.std.proofs.Common.{◌≡◌, ◌∙◌, ℕ, ◌≤◌, Bool, true, false, not, ◌&&◌, ◌||◌, cond, List, [], ◌∷◌, length, refl, sym, ap, subst, arith, Option, Some, None}
+use Rattle.std.proofs.Common.{◌≡◌, ◌≢◌, ◌∙◌, ℕ, ◌≤◌, Bool, true, false, not, ◌&&◌, ◌||◌, cond, List, [], ◌∷◌, length, refl, sym, ap, subst, arith, Option, Some, None}
 use Rattle.std.specs.List.{AllByRecursion}
 use Rattle.std.specs.declared.cmp.Ordering.{Ordering}
 use Rattle.std.specs.declared.cmp.Ordering.TheVariants.{Less, Equal, Greater}
@@ -10,18 +10,31 @@ use Rattle.zone_model.specs.Records.{octets_cmp, with_record, without_record, ha
 use Rattle.zone_model.proofs.EntryLaws.{rising_with, rising_without}
 use Rattle.zone_diff.specs.Differences.{lacking}
 
-pub same_octets : (a b : List ℕ) → octets_cmp a b ≡ Equal → a ≡ b
+same_octets : (a b : List ℕ) → octets_cmp a b ≡ Equal → a ≡ b
 same_octets a b e = slice_cmp-IsAntisymmetric nat_cmp-IsAntisymmetric a b e
 
-pub is_same : (o : Ordering) → is_eq o ≡ true → o ≡ Equal
+is_same : (o : Ordering) → is_eq o ≡ true → o ≡ Equal
 is_same o e = grind arith
 
+pub or_none : (a : Bool) → (a || false) ≡ true → a ≡ true
+or_none a e = grind arith
+
 -- whether a record is another
-abbrev is_it : List ℕ → List ℕ → Bool
+abbrev pub is_it : List ℕ → List ℕ → Bool
 is_it r o = is_eq (octets_cmp r o)
 
-it_is : (r o : List ℕ) → is_it r o ≡ true → r ≡ o
+pub it_is : (r o : List ℕ) → is_it r o ≡ true → r ≡ o
 it_is r o e = same_octets r o (is_same (octets_cmp r o) e)
+
+-- where a record is alone
+pub has_same : (p q : List ℕ) → has_record p (q ∷ []) ≡ true → p ≡ q
+has_same p q e = it_is p q (or_none (is_it p q) e)
+
+pub has_other : (p q : List ℕ) → p ≢ q → has_record p (q ∷ []) ≡ false
+has_other p q other = never (is_it p q) (λ e. other (it_is p q e))
+  where
+    never : (a : Bool) → a ≢ true → (a || false) ≡ false
+    never a n = grind arith
 
 turned_less : (a b : List ℕ) → octets_cmp a b ≡ Greater → octets_cmp b a ≡ Less
 turned_less a b e = nat_list_cmp_total.antisymm b a ∙ ap ordering_reverse e
@@ -178,12 +191,12 @@ exchanged before after h k short =
     (λ r. swapped (has_record r after) (has_record r before) (has_record r (lacking before after)) (has_record r (lacking after before)) (has_record r left) (has_record r (with_all (lacking before after) left))
     (there_with_all r (lacking before after) left) (there_lacking r before after) (there_without_all r (lacking after before) before h) (there_lacking r after before))
 
-or_none : (a b : Bool) → b ≡ (a || false) → b ≡ a
-or_none a b e = grind arith
+none_more : (a b : Bool) → b ≡ (a || false) → b ≡ a
+none_more a b e = grind arith
 
 pub all_come : (after : List (List ℕ)) → RisingOctets None after → AreShort after → with_all after [] ≡ after
 all_come after k short =
-    same_records None None (with_all after []) after (rising_with_all after [] short tt) k (λ r. or_none (has_record r after) (has_record r (with_all after [])) (there_with_all r after []))
+    same_records None None (with_all after []) after (rising_with_all after [] short tt) k (λ r. none_more (has_record r after) (has_record r (with_all after [])) (there_with_all r after []))
 
 pub all_short : (before : Option (List ℕ)) (records : List (List ℕ)) → RisingOctets before records → AreShort records
 all_short before [] h = tt

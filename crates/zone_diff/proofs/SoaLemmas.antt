@@ -2,9 +2,9 @@
 use Rattle.std.proofs.Common.{◌≡◌, ◌≢◌, ◌∙◌, ℕ, ◌+◌, ◌-◌, ◌%◌, ◌<◌, ◌≤◌, Bool, true, false, not, ◌||◌, cond, List, [], ◌∷◌, ◌++◌, length, take, drop, get_or, refl, sym, ap, subst, arith, Option, Some, None, Result, Ok, Err, length-append, length-take, length-drop, length-set, get_or-set_same}
 use Rattle.std.specs.declared.cmp.Ordering.{Ordering}
 use Rattle.std.specs.declared.cmp.Ordering.TheVariants.{Less, Equal, Greater}
-use Rattle.std.specs.Ordering.{is_eq, nat_cmp, match_ordering}
+use Rattle.std.specs.Ordering.{nat_cmp, match_ordering}
 use Rattle.zone_model.specs.Names.{Name, same_name}
-use Rattle.zone_model.specs.Records.{Rrset, Entry, octets_cmp, rrset_of, has_record, joined, fresh, with_rr, without_set, RisingOctets, RisingSets, IsEntry, IsRrset}
+use Rattle.zone_model.specs.Records.{Rrset, Entry, rrset_of, has_record, joined, fresh, with_rr, without_set, RisingOctets, RisingSets, IsEntry, IsRrset}
 use Rattle.zone_model.proofs.EntryLaws.{entry_with, entry_without_set}
 use Rattle.zone_model.specs.Versions.{Operation, holds, changed, and_then, fitting}
 use Rattle.zone_model.specs.declared.Refusal.{Refusal}
@@ -15,7 +15,7 @@ use Rattle.zone_diff.specs.declared.Serial.{Serial}
 use Rattle.zone_diff.specs.declared.Serial.TheVariants.{Keep, Ignore}
 use Rattle.zone_diff.specs.Serials.{without_serial, renumbered, counts_as}
 use Rattle.zone_diff.specs.Differences.{addition, stays, soa_additions, staying}
-use Rattle.zone_diff.proofs.RecordLemmas.{is_same, same_octets}
+use Rattle.zone_diff.proofs.RecordLemmas.{has_other, has_same, it_is}
 use Rattle.zone_diff.proofs.EntryLemmas.{all_made}
 use Rattle.zone_diff.proofs.FitLemmas.{IsFit, fits, all_changed, placed, fit_placed, fresh_length}
 
@@ -42,9 +42,9 @@ without_length octets long =
 
 -- what counts as the same is as long
 pub counts_length : (mode : Serial) (a b : List ℕ) → 20 ≤ length a → 20 ≤ length b → counts_as mode a b ≡ true → length a ≡ length b
-counts_length Keep a b long more e = ap (λ (l : List ℕ). length l) (same_octets a b (is_same (octets_cmp a b) e))
+counts_length Keep a b long more e = ap (λ (l : List ℕ). length l) (it_is a b e)
 counts_length Ignore a b long more e =
-    let same : without_serial a ≡ without_serial b = same_octets (without_serial a) (without_serial b) (is_same (octets_cmp (without_serial a) (without_serial b)) e) in
+    let same : without_serial a ≡ without_serial b = it_is (without_serial a) (without_serial b) e in
     let lengths : length (without_serial a) ≡ length (without_serial b) = ap (λ (l : List ℕ). length l) same in
     omega (arith, without_length a long, without_length b more, lengths)
 
@@ -124,14 +124,6 @@ one_comes origin owner ttl octets entry s at a b h e other =
       is_let = λ f. ap (λ (r : Result Entry Refusal). and_then r (all_changed origin [])) (soa_let origin owner ttl octets entry at f);
     }
 
-has_other : (p q : List ℕ) → p ≢ q → has_record p (q ∷ []) ≡ false
-has_other p q other = by_order (octets_cmp p q) refl
-  where
-    by_order : (o : Ordering) → octets_cmp p q ≡ o → (is_eq o || false) ≡ false
-    by_order Less e = refl
-    by_order Equal e = absurd (other (same_octets p q e))
-    by_order Greater e = refl
-
 two_come : (origin owner : Name) (ttl : ℕ) (octets : List ℕ) (entry : Entry) (s : Rrset) → same_name owner origin ≡ true → ttl ≤ 4294967295 → length octets ≤ 65535 → 20 ≤ length octets → IsEntry entry → rrset_of 6 entry ≡ Some s → has_record (renumbered octets) s.records ≡ false
     → SoaDone origin owner (addition owner 6 ttl (renumbered octets) ∷ addition owner 6 ttl octets ∷ []) entry (Some (fresh 6 ttl octets))
 two_come origin owner ttl octets entry s at a b long h e other =
@@ -173,14 +165,9 @@ soa_done mode origin owner s t entry one other is at h e =
       where
         by_there : (k : Bool) → has_record p (o ∷ []) ≡ k → SoaDone origin owner (cond k (addition owner 6 a (renumbered p) ∷ addition owner 6 a p ∷ []) (addition owner 6 a p ∷ []) ++ []) entry (Some (fresh 6 a p))
         by_there true q =
-            let same : p ≡ o = same_one (octets_cmp p o) refl q in
+            let same : p ≡ o = has_same p o q in
             let other : has_record (renumbered p) (o ∷ []) ≡ false = has_other (renumbered p) o (λ x. renumbered_other p long (x ∙ sym same)) in
             two_come origin owner a p entry (fresh 6 b o) at time short long h f other
-          where
-            same_one : (x : Ordering) → octets_cmp p o ≡ x → (is_eq x || false) ≡ true → p ≡ o
-            same_one Less y z = absurd cc
-            same_one Equal y z = same_octets p o y
-            same_one Greater y z = absurd cc
         by_there false q = one_comes origin owner a p entry (fresh 6 b o) at time short h f q
 
         by_stays : (c k : Bool) → has_record p (o ∷ []) ≡ k

@@ -14,6 +14,7 @@ use Rattle.zone_diff.specs.Differences.{entry_changes, set_changes, unless_soa}
 use Rattle.zone_diff.specs.Merges.{Rises}
 use Rattle.zone_diff.specs.Sinks.{Aim, Adds, AddsFront}
 use Rattle.zone_diff.specs.Walks.{sets_reached, set_ahead, changes_walked, each_beside}
+use Rattle.zone_diff.proofs.EachLemmas.{all_of, all_proper}
 use Rattle.zone_diff.proofs.EntryLemmas.{passed}
 use Rattle.zone_diff.proofs.MergeLemmas.{front_joins}
 
@@ -78,8 +79,7 @@ abbrev pub AllRise : Entry → Type 0
 AllRise sets = AllByRecursion (λ (s : Rrset). Rises (Some s)) sets
 
 pub all_rise : (b : Option ℕ) (sets : Entry) → RisingSets b sets → AllRise sets
-all_rise b [] h = tt
-all_rise b (s ∷ rest) h = let set : IsRrset s = is_set b s rest h in (set.rising, all_rise (Some s.rtype) rest (rises_on b s rest h))
+all_rise b sets h = all_of IsRrset (λ (s : Rrset). Rises (Some s)) (λ s is. is.rising) sets (all_proper b sets h)
 
 pub reached_rise : (t : ℕ) (others : Entry) → AllRise others → AllRise (sets_reached t others)
 reached_rise t [] h = tt
