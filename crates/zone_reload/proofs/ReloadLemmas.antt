@@ -3,8 +3,10 @@ use Rattle.std.proofs.Common.{◌≡◌, ◌∙◌, List, ap, subst, Option, Som
 use Rattle.zone_model.specs.Names.{Name}
 use Rattle.zone_model.specs.Versions.{Version, Operation, all_applied}
 use Rattle.master_file.specs.Rows.{CanBeDumped}
+use Rattle.trie_model.specs.Keys.{Entry}
 use Rattle.qp_multi.specs.declared.writer.WorkingVersion.{WorkingVersion}
 use Rattle.qp_multi.specs.WorkingVersions.{Between}
+use Rattle.zone_answer.specs.Standing.{Shows}
 use Rattle.zone_diff.specs.Blocks.{changes}
 use Rattle.zone_diff.specs.Differences.{difference}
 use Rattle.zone_diff.specs.declared.Serial.TheVariants.{Keep}
@@ -13,7 +15,7 @@ use Rattle.zone_edit.specs.Blocks.{Edited}
 use Rattle.zone_edit.specs.Stores.{WorksOn, WorksOnSome}
 use Rattle.zone_edit.specs.declared.refusal.EditRefusal.{EditRefusal}
 use Rattle.zone_edit.specs.declared.refusal.EditRefusal.TheVariants as refusals
-use Rattle.zone_reload.specs.Reloads.{Becomes, IsAccepted, Replaces}
+use Rattle.zone_reload.specs.Reloads.{Becomes, IsAccepted, ReplacesAll}
 
 -- the operations make the version after
 makes : (origin : Name) (before after : Version) → CanBeDumped origin before → CanBeDumped origin after → all_applied origin (difference Keep before after) before ≡ Ok after
@@ -37,17 +39,16 @@ accepted origin before after (Err (refusals.Full number request)) (Some old) (So
 accepted origin before after (Err (refusals.Refused r)) (Some old) (Some new) h k edited = λ on refusal e. let x = edited.edits.becomes before on in let m = makes origin before after h k in cc
 
 -- whichever operations they are that are those of the difference
-pub became_as : (origin : Name) (before after : Version) (operations : List Operation) (result : Result (Unit {0}) EditRefusal) (old new : Option WorkingVersion) → operations ≡ difference Keep before after → CanBeDumped origin before → CanBeDumped origin after → Edited origin (changes operations) result old new
-    → OnOk result (Between (Becomes before after) old new)
-became_as origin before after operations result old new e h k edited = became origin before after result old new h k (subst (λ (l : List Operation). Edited origin (changes l) result old new) e edited)
-
-pub accepted_as : (origin : Name) (before after : Version) (operations : List Operation) (result : Result (Unit {0}) EditRefusal) (old new : Option WorkingVersion) → operations ≡ difference Keep before after → CanBeDumped origin before → CanBeDumped origin after → Edited origin (changes operations) result old new
-    → Between (IsAccepted before result) old new
-accepted_as origin before after operations result old new e h k edited = accepted origin before after result old new h k (subst (λ (l : List Operation). Edited origin (changes l) result old new) e edited)
-
-pub replaces_as : (origin : Name) (before after : Version) (operations : List Operation) (result : Result (Unit {0}) EditRefusal) (old new : Option WorkingVersion) → operations ≡ difference Keep before after → Edited origin (changes operations) result old new
-    → Replaces origin (difference Keep before after) result old new
-replaces_as origin before after operations result old new e edited = inr (subst (λ (l : List Operation). Edited origin (changes l) result old new) e edited)
+pub replaces_all : (origin : Name) (holds : List Entry → Type 0) (after : Version) (operations : List Operation) (result : Result (Unit {0}) EditRefusal) (old new : Option WorkingVersion) → ((before : Version) → Shows holds before → operations ≡ difference Keep before after) → Edited origin (changes operations) result old new
+    → ReplacesAll origin holds after result old new
+replaces_all origin holds after operations result old new is edited = record {
+  differs = λ before shown. inr (executes before shown);
+  accepted = λ before shown h k. accepted origin before after result old new h k (executes before shown);
+  made = λ before shown h k. became origin before after result old new h k (executes before shown);
+}
+  where
+    executes : (before : Version) → Shows holds before → Edited origin (changes (difference Keep before after)) result old new
+    executes before shown = subst (λ (l : List Operation). Edited origin (changes l) result old new) (is before shown) edited
 
 -- nothing was done for want of memory
 pub accepted_none : (before : Version) (old : Option WorkingVersion) → IsSomeAnd old WorksOnSome → Between (IsAccepted before (Err refusals.Memory)) old old

@@ -4,7 +4,7 @@ ghost use Rattle.zone_reload.specs.Prelude.{Faces, FacesSome, ShowsAll, ShowsLef
 
 use dns_name::Name;
 use trie_read::{Iter, Reading};
-use zone_diff::{Ahead, Names};
+use zone_diff::{Ahead, Names, owner_of};
 use zone_dump::next_item;
 
 /// The names of a version from one on, which is laid down as an item in a buffer that is lent.
@@ -24,10 +24,7 @@ fn next_of<V: Reading>(version: &mut V, iter: &mut Iter, octets: &mut [u8]) -> O
     ensures names { (left : Version) → Faces (V.stands version.old iter.old) left → ShowsLeft (V.stands version.old iter.new) result octets.new left }
 {
     let len = next_item(version, iter, octets)?;
-    let Some(owner) = Name::from_wire(&octets[..len]) else {
-        // An item begins with its owner's octets.
-        unreachable!();
-    };
+    let owner = owner_of(&octets[..len]);
     Some(Ahead { owner, len })
 }
 

@@ -3,7 +3,7 @@ use Rattle.zone_change.specs.Views.{operation_view}
 use Rattle.zone_change.specs.declared.operations.Operation.{Operation}
 use Rattle.zone_diff.specs.Blocks.{changes}
 use Rattle.zone_edit.specs.Blocks.{Edited}
-use Rattle.zone_reload.proofs.ReloadLemmas.{accepted_as, accepted_none, became_as, replaces_as}
+use Rattle.zone_reload.proofs.ReloadLemmas.{accepted_none, replaces_all}
 use Rattle.zone_reload.proofs.reload.replace_all.Goals as goal
 
 pub returns-in_default-clause-replaces : goal.returns-in_default-clause-replaces
@@ -16,13 +16,7 @@ returns-in_default-clause-replaces g c = record {
 pub returns-clause-replaces : goal.returns-clause-replaces
 returns-clause-replaces g c =
     let origin = c.args.origin.now in
-    let zone = c.args.zone.pairs in
     let old = c.args.transaction.now.locked.now.working in
     let new = c.execute.new.transaction.locked.now.working in
-    let operations = map operation_view c.in-Ok.operations.items in
-    let edited = subst (λ (l : List Operation). Edited origin (changes (map operation_view l)) c.execute.result old new) c.deref.ensures.value c.execute.ensures.executes in
-    record {
-      differs = λ before shown. replaces_as origin before zone operations c.execute.result old new (c.in-Ok.ensures.list before shown) edited;
-      accepted = λ before shown h k. accepted_as origin before zone operations c.execute.result old new (c.in-Ok.ensures.list before shown) h k edited;
-      made = λ before shown h k. became_as origin before zone operations c.execute.result old new (c.in-Ok.ensures.list before shown) h k edited;
-    }
+    replaces_all origin (g.V.Reading.holds c.args.version.now) c.args.zone.pairs (map operation_view c.in-Ok.operations.items) c.execute.result old new c.in-Ok.ensures.list
+    (subst (λ (l : List Operation). Edited origin (changes (map operation_view l)) c.execute.result old new) c.deref.ensures.value c.execute.ensures.executes)
