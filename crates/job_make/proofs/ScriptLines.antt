@@ -53,8 +53,7 @@ digit_no_escape : (c : ℕ) → is_ascii_digit c ≡ true → eqb c 92 ≡ false
 digit_no_escape c h = grind (arith, nat_tests)
 
 both : (a b : Bool) → (a && b) ≡ true → (a ≡ true) × (b ≡ true)
-both true b h = (refl, h)
-both false b h = absurd cc
+both a b h = (grind arith, grind arith)
 
 -- digits go on with a label
 digits_label : (label digits : List ℕ) (at : ℕ) → 0 < length label → length label + length digits ≤ 63 → list_all is_ascii_digit digits ≡ true → labels_from label (pieces_from 0 at digits) ≡ Ok ((label ++ digits) ∷ [], false)
@@ -130,27 +129,25 @@ room_of n h = grind (arith, nat_tests)
 
 -- ---- the line of a question
 
-regroup_get : (g s n a : List ℕ) → (g ++ s) ++ ((n ++ s) ++ a) ≡ ((g ++ s) ++ n) ++ (s ++ a)
-regroup_get g s n a = simp append_assoc
+regroup : (v s n a : List ℕ) → (v ++ s) ++ ((n ++ s) ++ a) ≡ ((v ++ s) ++ n) ++ (s ++ a)
+regroup v s n a = simp append_assoc
 
-get_spelled : (n i : ℕ) → i < 1000000 → Spells n [] (codes "get " ++ name_text i ++ codes " A") (plain (word n (codes "get") ∷ word n (name_text i) ∷ word n (codes "A") ∷ []))
-get_spelled n i h =
-    subst (λ (t : List ℕ). Spells n [] t (plain (word n (codes "get") ∷ word n (name_text i) ∷ word n (codes "A") ∷ []))) (regroup_get (codes "get") (codes " ") (name_text i) (codes "A"))
-    (three_words n (codes "get") (name_text i) (codes "A") (omega arith) (alphabetic_word (codes "get") refl) (name_some i) (name_shows i h) (omega arith) (alphabetic_word (codes "A") refl))
+-- a word, a name, and the type of addresses
+address_spelled : (n i : ℕ) (verb : List ℕ) → 0 < length verb → Shows stops_word verb → i < 1000000 → Spells n [] (verb ++ codes " " ++ name_text i ++ codes " A") (plain (word n verb ∷ word n (name_text i) ∷ word n (codes "A") ∷ []))
+address_spelled n i verb some shows h =
+    subst (λ (t : List ℕ). Spells n [] t (plain (word n verb ∷ word n (name_text i) ∷ word n (codes "A") ∷ []))) (regroup verb (codes " ") (name_text i) (codes "A"))
+    (three_words n verb (name_text i) (codes "A") some shows (name_some i) (name_shows i h) (omega arith) (alphabetic_word (codes "A") refl))
 
 get_line : (n i : ℕ) (es : List (List Command)) (cs : List Command) → i < 1000000 → length cs < 10000 → script_line made_origin n (codes "get " ++ name_text i ++ codes " A") (between es cs) ≡ Ok (between es (cs ++ Ask (Get (owner i) 1) ∷ []))
 unfolding phrase_of asked_of type_named
 get_line n i es cs h few =
-    tokens_said n (codes "get " ++ name_text i ++ codes " A") (word n (codes "get") ∷ word n (name_text i) ∷ word n (codes "A") ∷ []) (between es cs) (get_spelled n i h)
+    tokens_said n (codes "get " ++ name_text i ++ codes " A") (word n (codes "get") ∷ word n (name_text i) ∷ word n (codes "A") ∷ []) (between es cs) (address_spelled n i (codes "get") (omega arith) (alphabetic_word (codes "get") refl) h)
     ∙ rw (room_of (length cs) few) (rw (name_said i h) refl)
-
-find_spelled : (n i : ℕ) → i < 1000000 → Spells n [] (codes "find " ++ name_text i) (plain (word n (codes "find") ∷ word n (name_text i) ∷ []))
-find_spelled n i h = two_words n (codes "find") (name_text i) (omega arith) (alphabetic_word (codes "find") refl) (name_some i) (name_shows i h)
 
 find_line : (n i : ℕ) (es : List (List Command)) (cs : List Command) → i < 1000000 → length cs < 10000 → script_line made_origin n (codes "find " ++ name_text i) (between es cs) ≡ Ok (between es (cs ++ Ask (Find (owner i)) ∷ []))
 unfolding phrase_of asked_of
 find_line n i es cs h few =
-    tokens_said n (codes "find " ++ name_text i) (word n (codes "find") ∷ word n (name_text i) ∷ []) (between es cs) (find_spelled n i h)
+    tokens_said n (codes "find " ++ name_text i) (word n (codes "find") ∷ word n (name_text i) ∷ []) (between es cs) (two_words n (codes "find") (name_text i) (omega arith) (alphabetic_word (codes "find") refl) (name_some i) (name_shows i h))
     ∙ rw (room_of (length cs) few) (rw (name_said i h) refl)
 
 -- ---- the lines of a block
@@ -167,15 +164,13 @@ update_line n es cs few =
     tokens_said n (codes "update") (word n (codes "update") ∷ []) (between es cs) (spell_word n (codes "update") (omega arith) (alphabetic_word (codes "update") refl).run)
     ∙ rw (room_of (length cs) few) refl
 
-commit_light : (n m : ℕ) (es : List (List Command)) (cs : List Command) (operations : List Operation) → script_line made_origin n (codes "commit") (inside_block es cs (record { start = m; weight = Light; asked = asks operations })) ≡ Ok (between es (cs ++ Block Light (asks operations) Commit ∷ []))
-unfolding phrase_of asked_of
-commit_light n m es cs operations =
-    tokens_said n (codes "commit") (word n (codes "commit") ∷ []) (inside_block es cs (record { start = m; weight = Light; asked = asks operations })) (spell_word n (codes "commit") (omega arith) (alphabetic_word (codes "commit") refl).run)
+commit_spelled : (n : ℕ) → Spells n [] (codes "commit") (plain (word n (codes "commit") ∷ []))
+commit_spelled n = spell_word n (codes "commit") (omega arith) (alphabetic_word (codes "commit") refl).run
 
-commit_heavy : (n m : ℕ) (es : List (List Command)) (cs : List Command) (operations : List Operation) → script_line made_origin n (codes "commit") (inside_block es cs (record { start = m; weight = Heavy; asked = asks operations })) ≡ Ok (between es (cs ++ Block Heavy (asks operations) Commit ∷ []))
+commit_line : (n m : ℕ) (es : List (List Command)) (cs : List Command) (how : Weight) (operations : List Operation) → script_line made_origin n (codes "commit") (inside_block es cs (record { start = m; weight = how; asked = asks operations })) ≡ Ok (between es (cs ++ Block how (asks operations) Commit ∷ []))
 unfolding phrase_of asked_of
-commit_heavy n m es cs operations =
-    tokens_said n (codes "commit") (word n (codes "commit") ∷ []) (inside_block es cs (record { start = m; weight = Heavy; asked = asks operations })) (spell_word n (codes "commit") (omega arith) (alphabetic_word (codes "commit") refl).run)
+commit_line n m es cs Light operations = tokens_said n (codes "commit") (word n (codes "commit") ∷ []) (inside_block es cs (record { start = m; weight = Light; asked = asks operations })) (commit_spelled n)
+commit_line n m es cs Heavy operations = tokens_said n (codes "commit") (word n (codes "commit") ∷ []) (inside_block es cs (record { start = m; weight = Heavy; asked = asks operations })) (commit_spelled n)
 
 owner_under : (i : ℕ) → is_under (owner i) made_origin ≡ true
 owner_under i = ends_under (name_text i ∷ []) made_origin
@@ -187,15 +182,10 @@ removal_line n m i es cs how h =
     (two_words n (codes "del") (name_text i) (omega arith) (alphabetic_word (codes "del") refl) (name_some i) (name_shows i h))
     ∙ rw (name_said i h) (rw (owner_under i) refl)
 
-del_spelled : (n i : ℕ) → i < 1000000 → Spells n [] (codes "del " ++ name_text i ++ codes " A") (plain (word n (codes "del") ∷ word n (name_text i) ∷ word n (codes "A") ∷ []))
-del_spelled n i h =
-    subst (λ (t : List ℕ). Spells n [] t (plain (word n (codes "del") ∷ word n (name_text i) ∷ word n (codes "A") ∷ []))) (regroup_get (codes "del") (codes " ") (name_text i) (codes "A"))
-    (three_words n (codes "del") (name_text i) (codes "A") (omega arith) (alphabetic_word (codes "del") refl) (name_some i) (name_shows i h) (omega arith) (alphabetic_word (codes "A") refl))
-
 del_line : (n m i : ℕ) (es : List (List Command)) (cs : List Command) → i < 1000000 → script_line made_origin n (codes "del " ++ name_text i ++ codes " A") (inside_block es cs (record { start = m; weight = Light; asked = no_changes })) ≡ Ok (inside_block es cs (record { start = m; weight = Light; asked = asks (DeleteSet (owner i) 1 ∷ []) }))
 unfolding phrase_of asked_of deletion_of type_named
 del_line n m i es cs h =
-    tokens_said n (codes "del " ++ name_text i ++ codes " A") (word n (codes "del") ∷ word n (name_text i) ∷ word n (codes "A") ∷ []) (inside_block es cs (record { start = m; weight = Light; asked = no_changes })) (del_spelled n i h)
+    tokens_said n (codes "del " ++ name_text i ++ codes " A") (word n (codes "del") ∷ word n (name_text i) ∷ word n (codes "A") ∷ []) (inside_block es cs (record { start = m; weight = Light; asked = no_changes })) (address_spelled n i (codes "del") (omega arith) (alphabetic_word (codes "del") refl) h)
     ∙ rw (name_said i h) (rw (owner_under i) refl)
 
 -- ---- an address
@@ -278,23 +268,14 @@ record OfTurns (So : Command → Type 0) (i : ℕ) : Type 0 where
   removal : So (Block Heavy (asks (DeleteName (owner i) ∷ [])) Commit)
   move : (c : ℕ) → So (Block Light (asks (moved i c)) Commit)
 
-get_reads : (So : Command → Type 0) (n i : ℕ) (es : List (List Command)) (cs : List Command) → OfTurns So i → i < 1000000 → length cs < 10000 → Reads So n (turn_lines (Gets i)) es cs 1
-get_reads So n i es cs o h few =
-    record {
-      after = cs ++ Ask (Get (owner i) 1) ∷ [];
-      many = length-append cs (Ask (Get (owner i) 1) ∷ []);
-      each = λ all. all_push So cs (Ask (Get (owner i) 1)) all (o.get);
-      read = λ rest. step_read n (codes "get " ++ name_text i ++ codes " A") rest (between es cs) (between es (cs ++ Ask (Get (owner i) 1) ∷ [])) (get_line n i es cs h few);
-    }
-
-find_reads : (So : Command → Type 0) (n i : ℕ) (es : List (List Command)) (cs : List Command) → OfTurns So i → i < 1000000 → length cs < 10000 → Reads So n (turn_lines (Finds i)) es cs 1
-find_reads So n i es cs o h few =
-    record {
-      after = cs ++ Ask (Find (owner i)) ∷ [];
-      many = length-append cs (Ask (Find (owner i)) ∷ []);
-      each = λ all. all_push So cs (Ask (Find (owner i))) all (o.find);
-      read = λ rest. step_read n (codes "find " ++ name_text i) rest (between es cs) (between es (cs ++ Ask (Find (owner i)) ∷ [])) (find_line n i es cs h few);
-    }
+-- one line that says a command
+line_reads : (So : Command → Type 0) (n : ℕ) (line : List ℕ) (command : Command) (es : List (List Command)) (cs : List Command) → So command → script_line made_origin n line (between es cs) ≡ Ok (between es (cs ++ command ∷ [])) → Reads So n (line ∷ []) es cs 1
+line_reads So n line command es cs so e = record {
+  after = cs ++ command ∷ [];
+  many = length-append cs (command ∷ []);
+  each = λ all. all_push So cs command all so;
+  read = λ rest. step_read n line rest (between es cs) (between es (cs ++ command ∷ [])) e;
+}
 
 removal_reads : (So : Command → Type 0) (n i : ℕ) (es : List (List Command)) (cs : List Command) → OfTurns So i → i < 1000000 → length cs < 10000 → Reads So n (turn_lines (Removes i)) es cs 1
 removal_reads So n i es cs o h few =
@@ -305,7 +286,7 @@ removal_reads So n i es cs o h few =
       read = λ rest.
           step_read n (codes "update") ((codes "del " ++ name_text i) ∷ codes "commit" ∷ rest) (between es cs) _ (update_line n es cs few)
           ∙ step_read (n + 1) (codes "del " ++ name_text i) (codes "commit" ∷ rest) _ _ (removal_line (n + 1) n i es cs Heavy h)
-          ∙ step_read (n + 1 + 1) (codes "commit") rest _ _ (commit_heavy (n + 1 + 1) n es cs (DeleteName (owner i) ∷ []))
+          ∙ step_read (n + 1 + 1) (codes "commit") rest _ _ (commit_line (n + 1 + 1) n es cs Heavy (DeleteName (owner i) ∷ []))
           ∙ ap (λ (k : ℕ). script_from made_origin k rest (between es (cs ++ Block Heavy (asks (DeleteName (owner i) ∷ [])) Commit ∷ []))) (let e : n + 1 + 1 + 1 ≡ n + 3 = omega arith in e);
     }
 
@@ -320,7 +301,7 @@ move_reads So n i c es cs o h few =
           step_read n (codes "write") ((codes "del " ++ name_text i ++ codes " A") ∷ (codes "add " ++ name_text i ++ codes " 300 A " ++ address_text c) ∷ codes "commit" ∷ rest) (between es cs) _ (write_line n es cs few)
           ∙ step_read (n + 1) (codes "del " ++ name_text i ++ codes " A") ((codes "add " ++ name_text i ++ codes " 300 A " ++ address_text c) ∷ codes "commit" ∷ rest) _ _ (del_line (n + 1) n i es cs h)
           ∙ step_read (n + 1 + 1) (codes "add " ++ name_text i ++ codes " 300 A " ++ address_text c) (codes "commit" ∷ rest) _ _ (add_line (n + 1 + 1) n i c es cs h)
-          ∙ step_read (n + 1 + 1 + 1) (codes "commit") rest _ _ (commit_light (n + 1 + 1 + 1) n es cs (moved i c))
+          ∙ step_read (n + 1 + 1 + 1) (codes "commit") rest _ _ (commit_line (n + 1 + 1 + 1) n es cs Light (moved i c))
           ∙ ap (λ (k : ℕ). script_from made_origin k rest (between es (cs ++ Block Light (asks (moved i c)) Commit ∷ []))) (let e : n + 1 + 1 + 1 + 1 ≡ n + 4 = omega arith in e);
     }
 
@@ -330,9 +311,9 @@ either_reads So false t u n es cs h k = k
 
 turn_reads : (So : Command → Type 0) (n a i c : ℕ) (es : List (List Command)) (cs : List Command) → OfTurns So i → i < 1000000 → length cs < 10000 → Reads So n (turn_lines (turn_of a i c)) es cs 1
 turn_reads So n a i c es cs o h few =
-    either_reads So (eqb (a % 4) 0) (Gets i) (cond (eqb (a % 4) 1) (Moves i c) (cond (eqb (a % 4) 2) (Removes i) (Finds i))) n es cs (get_reads So n i es cs o h few)
+    either_reads So (eqb (a % 4) 0) (Gets i) (cond (eqb (a % 4) 1) (Moves i c) (cond (eqb (a % 4) 2) (Removes i) (Finds i))) n es cs (line_reads So n (codes "get " ++ name_text i ++ codes " A") (Ask (Get (owner i) 1)) es cs o.get (get_line n i es cs h few))
     (either_reads So (eqb (a % 4) 1) (Moves i c) (cond (eqb (a % 4) 2) (Removes i) (Finds i)) n es cs (move_reads So n i c es cs o h few)
-    (either_reads So (eqb (a % 4) 2) (Removes i) (Finds i) n es cs (removal_reads So n i es cs o h few) (find_reads So n i es cs o h few)))
+    (either_reads So (eqb (a % 4) 2) (Removes i) (Finds i) n es cs (removal_reads So n i es cs o h few) (line_reads So n (codes "find " ++ name_text i) (Ask (Find (owner i))) es cs o.find (find_line n i es cs h few))))
 
 no_lines_read : (So : Command → Type 0) (n : ℕ) (es : List (List Command)) (cs : List Command) → Reads So n [] es cs 0
 no_lines_read So n es cs =
@@ -379,12 +360,10 @@ abbrev pub IsOwn : ℕ → ℕ → Command → Type 0
 IsOwn workers remainder command = (name : Name) → changes name command ≡ true → IsOwner workers remainder name
 
 one_of : (a : Bool) → (a || false) ≡ true → a ≡ true
-one_of true h = refl
-one_of false h = h
+one_of a h = grind arith
 
 either_of : (a : Bool) → (a || (a || false)) ≡ true → a ≡ true
-either_of true h = refl
-either_of false h = h
+either_of a h = grind arith
 
 of_own : (workers remainder q : ℕ) → remainder < workers → remainder + workers * q < 1000000 → OfTurns (IsOwn workers remainder) (remainder + workers * q)
 unfolding moved

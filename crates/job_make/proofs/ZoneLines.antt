@@ -28,6 +28,7 @@ use Rattle.zone_model.specs.declared.ZoneKind.{ZoneKind}
 use Rattle.zone_model.specs.declared.ZoneKind.TheVariants.{OutsideZone}
 use Rattle.zone_model.proofs.GrammarLemmas.{Agrees, line_read}
 use Rattle.zone_model.proofs.OrderLemmas.{ends_under}
+use Rattle.dns_name.proofs.BodyLemmas.{all_append as each_append}
 use Rattle.rr_data.proofs.FormLemmas.{all_append}
 use Rattle.rr_data.proofs.PrintedFieldLemmas.{no_stop}
 use Rattle.rr_data.proofs.PrintedWordLemmas.{Shows, alphabetic_word, hex_word, is_shown, shows_append, shows_one}
@@ -45,16 +46,14 @@ not_carriage [] i h = refl
 not_carriage (c ∷ text) zero h = let f = both (is_shown c) (list_all is_shown text) h in shown_apart c f.0
   where
     both : (a b : Bool) → (a && b) ≡ true → (a ≡ true) × (b ≡ true)
-    both true b h = (refl, h)
-    both false b h = absurd cc
+    both a b h = (grind arith, grind arith)
 
     shown_apart : (c : ℕ) → is_shown c ≡ true → eqb c 13 ≡ false
     shown_apart c h = grind (arith, nat_tests)
 not_carriage (c ∷ text) (suc i) h = not_carriage text i (behind (is_shown c) (list_all is_shown text) h)
   where
     behind : (a b : Bool) → (a && b) ≡ true → b ≡ true
-    behind true b h = h
-    behind false b h = absurd cc
+    behind a b h = grind arith
 
 parts_more : (line : List ℕ) (parts : List (List ℕ)) → 0 < length parts → lines_of_parts (line ∷ parts) ≡ strip_carriage_return line ∷ lines_of_parts parts
 parts_more line [] h = absurd (omega arith)
@@ -76,8 +75,7 @@ lines_back [] h = refl
 lines_back (l ∷ ls) h = ap lines_of (append_assoc l (codes "\n") (flat_map line_text ls)) ∙ shown_line l (flat_map line_text ls) h.0 ∙ ap (λ (t : List (List ℕ)). l ∷ t) (lines_back ls h.1)
 
 shown_append : (xs ys : List (List ℕ)) → AllShown xs → AllShown ys → AllShown (xs ++ ys)
-shown_append [] ys h k = k
-shown_append (x ∷ xs) ys h k = (h.0, shown_append xs ys h.1 k)
+shown_append = each_append (λ (l : List ℕ). list_all is_shown l ≡ true)
 
 name_shown : (i : ℕ) → i < 1000000 → list_all is_shown (name_text i) ≡ true
 name_shown i h = (name_shows i h).shown
@@ -141,8 +139,7 @@ any_append [] ys h k = k
 any_append (x ∷ xs) ys h k = go (is_cut x) (list_any is_cut xs) (list_any is_cut (xs ++ ys)) h (λ e. any_append xs ys e k)
   where
     go : (a b c : Bool) → (a || b) ≡ false → (b ≡ false → c ≡ false) → (a || c) ≡ false
-    go true b c h f = absurd cc
-    go false b c h f = f h
+    go a b c h f = grind arith
 
 names_uncut : (names : ℕ) → list_any is_cut (names_lines names) ≡ false
 unfolding names_lines
