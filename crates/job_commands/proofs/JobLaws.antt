@@ -1,5 +1,5 @@
 -- What all workers together have come to.
-use Rattle.std.proofs.Common.{◌≡◌, ◌∙◌, ◌≢◌, ◌⊎◌, inl, inr, ⊎_elim, ℕ, zero, suc, ◌+◌, ◌-◌, ◌<◌, ◌≤◌, Bool, true, false, cond, ◌&&◌, eqb, List, [], ◌∷◌, ◌++◌, length, Option, Some, None, refl, sym, ap, subst, arith, append-nil, length-append, Ok, eq-eqb}
+use Rattle.std.proofs.Common.{◌≡◌, ◌∙◌, ◌≢◌, ◌⊎◌, inl, inr, ⊎_elim, ℕ, zero, suc, ◌+◌, ◌-◌, ◌<◌, ◌≤◌, Bool, true, false, cond, ◌&&◌, eqb, List, [], ◌∷◌, ◌++◌, length, map, Option, Some, None, refl, sym, ap, subst, arith, append-nil, length-append, Ok, eq-eqb}
 use Rattle.std.specs.Prelude.{Contains}
 use Rattle.std.proofs.lemmas.Bool.Decides.{nat_tests}
 use Rattle.std.proofs.lemmas.List.{length-map}
@@ -141,6 +141,40 @@ module _ (s : OpenedWith) (history : List Commit) where
       let long = begins_length history (before ++ e ∷ []) begins in
       each_asked (length before + 1) before e pairs begins refl (once (length before + 1) (omega arith) (omega (arith, long, length-append before (e ∷ [])))) r
 
+-- ---- a version was made once, since the numbers of the passes are apart
+
+module _ (history : List Commit) (j : ℕ) where
+  -- how often it was made by passes of these numbers
+  abbrev pub total : List ℕ → ℕ
+  total [] = 0
+  total (n ∷ ns) = times_by n j history + total ns
+
+  none_else : (ns : List ℕ) (a : Author history j) → AllByRecursion (λ n. n ≢ a.commit.author) ns → total ns ≡ 0
+  none_else [] a others = refl
+  none_else (n ∷ ns) a others =
+      let no : eqb a.commit.author n ≡ false = (let m = others.0 in grind (arith, nat_tests)) in
+      let none : times_by n j history ≡ 0 = a.times n ∙ ap (λ (b : Bool). cond b 1 0) no in
+      let rest : total ns ≡ 0 = none_else ns a others.1 in
+      omega (arith, none, rest)
+
+  pub total_one : (ns : List ℕ) (a : Author history j) → Some' (λ n. n ≡ a.commit.author) ns → AreApart ns → total ns ≡ 1
+  total_one [] a one_of apart = absurd one_of
+  total_one (n ∷ ns) a (inl same) apart =
+      let one : times_by n j history ≡ 1 = a.times n ∙ ap (λ (b : Bool). cond b 1 0) (eq-eqb a.commit.author n (sym same)) in
+      let rest : total ns ≡ 0 = none_else ns a (all_weaker (λ k. n ≢ k) (λ k. k ≢ a.commit.author) ns (λ k differ e. differ (same ∙ sym e)) apart.0) in
+      omega (arith, one, rest)
+  total_one (n ∷ ns) a (inr more) apart =
+      let m : n ≢ a.commit.author = differs ns more apart.0 in
+      let no : eqb a.commit.author n ≡ false = grind (arith, nat_tests) in
+      let none : times_by n j history ≡ 0 = a.times n ∙ ap (λ (b : Bool). cond b 1 0) no in
+      let rest : total ns ≡ 1 = total_one ns a more apart.1 in
+      omega (arith, none, rest)
+    where
+      differs : (ks : List ℕ) → Some' (λ k. k ≡ a.commit.author) ks → AllByRecursion (λ k. n ≢ k) ks → n ≢ a.commit.author
+      differs [] one_of others = absurd one_of
+      differs (k ∷ ks) (inl e) others = λ h. others.0 (h ∙ sym e)
+      differs (k ∷ ks) (inr further) others = differs ks further others.1
+
 -- ---- passes, with a second one of a worker or without
 
 rest_all : (P : Known → Type 0) (two : Bool) (second : Known) (others : List Known) (main : Known) → AllByRecursion P ((second_view two second ++ others) ++ main ∷ []) → AllByRecursion P (others ++ main ∷ [])
@@ -169,10 +203,9 @@ pub behind : {s : OpenedWith} (main : Known) (P : Known → Type 0) (w : Worker 
 behind main P w ws all = rest_all P w.has_second w.worker_passes.holds (workers_views ws) main all.1
 
 module _ (s : OpenedWith) (history : List Commit) (namings : List Naming) (main : Known) where
-  -- how often a version was made by passes of these numbers
-  abbrev total : ℕ → List (Worker s) → ℕ
-  total j [] = 0
-  total j (w ∷ ws) = times_by w.numbers.asker j history + total j ws
+  -- the numbers of the passes that may have made versions
+  abbrev askers : List (Worker s) → List ℕ
+  askers ws = map (λ (w : Worker s). w.numbers.asker) ws
 
   abbrev Sees : Known → Type 0
   Sees v = StartsWith history v.seen.history
@@ -189,7 +222,7 @@ module _ (s : OpenedWith) (history : List Commit) (namings : List Naming) (main 
   abbrev Made : List (Worker s) → Pairs
   Made ws = all_pairs (job_pairs (commands_in ws) (outcomes_in ws))
 
-  all_times : (ws : List (Worker s)) (j : ℕ) → AllByRecursion (HasEntries history) (views_of main ws) → AllByRecursion Sees (views_of main ws) → times_made j (Made ws) ≡ total j ws
+  all_times : (ws : List (Worker s)) (j : ℕ) → AllByRecursion (HasEntries history) (views_of main ws) → AllByRecursion Sees (views_of main ws) → times_made j (Made ws) ≡ total history j (askers ws)
   all_times [] j e b = refl
   all_times (w ∷ ws) j e b =
       times-append j (pairs_of w.commands w.outcomes.list.items) (Made ws)
@@ -197,10 +230,7 @@ module _ (s : OpenedWith) (history : List Commit) (namings : List Naming) (main 
       ∙ ap (λ (k : ℕ). times_by w.numbers.asker j history + k) (all_times ws j (behind main (HasEntries history) w ws e) (behind main Sees w ws b))
 
   -- a commit's pass is one of the workers' first passes
-  abbrev Among : ℕ → List (Worker s) → Type 0
-  Among author ws = Some' (λ (w : Worker s). w.numbers.asker ≡ author) ws
-
-  among : (ws : List (Worker s)) (j : ℕ) (a : Author history j) (own : Own) → main.pass ≡ Some own → own.entries ≡ [] → AllByRecursion (HasEntries history) (views_of main ws) → Some' (IsPass a.commit.author) (views_of main ws) → Among a.commit.author ws
+  among : (ws : List (Worker s)) (j : ℕ) (a : Author history j) (own : Own) → main.pass ≡ Some own → own.entries ≡ [] → AllByRecursion (HasEntries history) (views_of main ws) → Some' (IsPass a.commit.author) (views_of main ws) → Some' (λ n. n ≡ a.commit.author) (askers ws)
   among [] j a own is none e (inl pass) = absurd (no_commits history j main own a is none e.0 pass)
   among [] j a own is none e (inr more) = absurd more
   among (w ∷ ws) j a own is none e (inl pass) = inl (sym w.ran.asker ∙ ap number_in (sym w.ran.work.is_asker ∙ pass.1) ∙ pass.2)
@@ -210,49 +240,18 @@ module _ (s : OpenedWith) (history : List Commit) (namings : List Naming) (main 
       (λ (further : Some' (IsPass a.commit.author) (views_of main ws)). inr (among ws j a own is none (behind main (HasEntries history) w ws e) further))
       (rest_some (IsPass a.commit.author) w.has_second w.worker_passes.holds (workers_views ws) main more)
 
-  -- once, since their numbers are apart
-  none_else : (ws : List (Worker s)) (j : ℕ) (a : Author history j) → AllByRecursion (λ (w : Worker s). w.numbers.asker ≢ a.commit.author) ws → total j ws ≡ 0
-  none_else [] j a others = refl
-  none_else (w ∷ ws) j a others =
-      let no : eqb a.commit.author w.numbers.asker ≡ false = (let m = others.0 in grind (arith, nat_tests)) in
-      let none : times_by w.numbers.asker j history ≡ 0 = a.times w.numbers.asker ∙ ap (λ (b : Bool). cond b 1 0) no in
-      let rest : total j ws ≡ 0 = none_else ws j a others.1 in
-      omega (arith, none, rest)
-
-  abbrev Apart : List (Worker s) → Type 0
-  Apart [] = Unit {0}
-  Apart (w ∷ ws) = AllByRecursion (λ (v : Worker s). w.numbers.asker ≢ v.numbers.asker) ws × Apart ws
-
-  total_one : (ws : List (Worker s)) (j : ℕ) (a : Author history j) → Among a.commit.author ws → Apart ws → total j ws ≡ 1
-  total_one [] j a one_of apart = absurd one_of
-  total_one (w ∷ ws) j a (inl same) apart =
-      let one : times_by w.numbers.asker j history ≡ 1 = a.times w.numbers.asker ∙ ap (λ (b : Bool). cond b 1 0) (eq-eqb a.commit.author w.numbers.asker (sym same)) in
-      let rest : total j ws ≡ 0 = none_else ws j a (all_weaker (λ (v : Worker s). w.numbers.asker ≢ v.numbers.asker) (λ (v : Worker s). v.numbers.asker ≢ a.commit.author) ws (λ v differ e. differ (same ∙ sym e)) apart.0) in
-      omega (arith, one, rest)
-  total_one (w ∷ ws) j a (inr more) apart =
-      let m : w.numbers.asker ≢ a.commit.author = differs ws more apart.0 in
-      let no : eqb a.commit.author w.numbers.asker ≡ false = grind (arith, nat_tests) in
-      let none : times_by w.numbers.asker j history ≡ 0 = a.times w.numbers.asker ∙ ap (λ (b : Bool). cond b 1 0) no in
-      let rest : total j ws ≡ 1 = total_one ws j a more apart.1 in
-      omega (arith, none, rest)
-    where
-      differs : (vs : List (Worker s)) → Among a.commit.author vs → AllByRecursion (λ (v : Worker s). w.numbers.asker ≢ v.numbers.asker) vs → w.numbers.asker ≢ a.commit.author
-      differs [] one_of others = absurd one_of
-      differs (v ∷ vs) (inl e) others = λ h. others.0 (h ∙ sym e)
-      differs (v ∷ vs) (inr further) others = differs vs further others.1
-
   -- the numbers of the workers' passes are those of their views
   asker_number : (w : Worker s) → number_of w.worker_passes.asks.pass ≡ w.numbers.asker + 1
   asker_number w = ap number_of w.ran.work.is_asker ∙ ap (λ (i : ℕ). i + 1) w.ran.asker
 
-  others_apart : (w : Worker s) (ws : List (Worker s)) → AllByRecursion (λ (y : ℕ). number_of w.worker_passes.asks.pass ≢ y) (numbers_in (views_of main ws)) → AllByRecursion (λ (v : Worker s). w.numbers.asker ≢ v.numbers.asker) ws
+  others_apart : (w : Worker s) (ws : List (Worker s)) → AllByRecursion (λ (y : ℕ). number_of w.worker_passes.asks.pass ≢ y) (numbers_in (views_of main ws)) → AllByRecursion (λ n. w.numbers.asker ≢ n) (askers ws)
   others_apart w [] b = tt
   others_apart w (v ∷ vs) b = (
     (λ e. b.0 (asker_number w ∙ ap (λ (i : ℕ). i + 1) e ∙ sym (asker_number v))),
     others_apart w vs (rest_numbers (λ (y : ℕ). number_of w.worker_passes.asks.pass ≢ y) v.has_second v.worker_passes.holds (workers_views vs) main b.1),
   )
 
-  apart_numbers : (ws : List (Worker s)) → AreApart (numbers_in (views_of main ws)) → Apart ws
+  apart_numbers : (ws : List (Worker s)) → AreApart (numbers_in (views_of main ws)) → AreApart (askers ws)
   apart_numbers [] a = tt
   apart_numbers (w ∷ ws) a = (
     others_apart w ws (rest_numbers (λ (y : ℕ). number_of w.worker_passes.asks.pass ≢ y) w.has_second w.worker_passes.holds (workers_views ws) main a.0),
@@ -264,11 +263,11 @@ module _ (s : OpenedWith) (history : List Commit) (namings : List Naming) (main 
   pub made_once : (ws : List (Worker s)) (own : Own) → main.pass ≡ Some own → own.entries ≡ [] → Closed (views_of main ws) history namings → (j : ℕ) → 0 < j → j ≤ length history → times_made j (Made ws) ≡ 1
   made_once ws own is none c j some le =
       let a = author_of history j some le in
-      all_times ws j c.entries c.begins ∙ total_one ws j a (among ws j a own is none c.entries (c.authors a.commit a.inside)) (apart_numbers ws c.apart)
+      all_times ws j c.entries c.begins ∙ total_one history j (askers ws) a (among ws j a own is none c.entries (c.authors a.commit a.inside)) (apart_numbers ws c.apart)
 
   -- ---- the history ends with what main has seen
 
-  beyond : (ws : List (Worker s)) (j most : ℕ) → AllByRecursion (HasEntries history) (views_of main ws) → AllByRecursion Sees (views_of main ws) → AllByRecursion (λ (w : Worker s). length w.worker_passes.asks.seen.history ≤ most) ws → most < j → total j ws ≡ 0
+  beyond : (ws : List (Worker s)) (j most : ℕ) → AllByRecursion (HasEntries history) (views_of main ws) → AllByRecursion Sees (views_of main ws) → AllByRecursion (λ (w : Worker s). length w.worker_passes.asks.seen.history ≤ most) ws → most < j → total history j (askers ws) ≡ 0
   beyond [] j most e b l past = refl
   beyond (w ∷ ws) j most e b l past =
       let k = w.ran.work in
@@ -276,7 +275,7 @@ module _ (s : OpenedWith) (history : List Commit) (namings : List Naming) (main 
       let long = l.0 in
       let beyond_it : length k.committed < j = omega (arith, short, long, past) in
       let none : times_by w.numbers.asker j history ≡ 0 = sym (whole_times w j e.0 b.0) ∙ k.made j ∙ times_past k.asker.number j k.committed beyond_it in
-      let rest : total j ws ≡ 0 = beyond ws j most (behind main (HasEntries history) w ws e) (behind main Sees w ws b) l.1 past in
+      let rest : total history j (askers ws) ≡ 0 = beyond ws j most (behind main (HasEntries history) w ws e) (behind main Sees w ws b) l.1 past in
       omega (arith, none, rest)
 
   main_sees : (ws : List (Worker s)) → AllByRecursion Sees (views_of main ws) → Sees main

@@ -27,7 +27,7 @@ use Rattle.job_commands.specs.Works.{AreNew, IsNew, Numbers, Replayed, ended}
 use Rattle.job_commands.specs.Endings.{Measured}
 use Rattle.job_commands.specs.Sittings.{AreBoth, AtWork, ComesTo, EndsAt, Sits, versions_by}
 use Rattle.job_commands.proofs.HistoryLaws.{begins_more, begins_length, by-append, index_last, opened_same, part_same, times_front, times_none, versions_front}
-use Rattle.job_commands.proofs.WorkLaws.{Own, Pairs, WorkerAt, all_both, all_weaker, replayed_more, worker_goes_on, worker_starts}
+use Rattle.job_commands.proofs.WorkLaws.{Own, Pairs, WorkerAt, all_both, all_weaker, replayed_more, worker_back, worker_goes_on, worker_starts}
 use Rattle.job_commands.proofs.JobLaws.{Author, author_of, all_asked, versions_stand}
 use Rattle.job_commands.proofs.CloseLaws.{exact_entries}
 
@@ -228,27 +228,7 @@ work_still s numbers t commands os asks holds held same seen pass hold w =
         opening = ap first_version seen ∙ w.under.opening;
         history = subst (λ x. StartsWith t.asks.seen.history x.history) (sym seen) w.under.history;
       };
-      ran = record {
-        told = w.ran.told;
-        work = record {
-          opened = w.ran.work.opened;
-          along = w.ran.work.along;
-          none_above = w.ran.work.none_above;
-          replayed = w.ran.work.replayed;
-          asker = w.ran.work.asker;
-          is_asker = w.ran.work.is_asker;
-          holder = w.ran.work.holder;
-          is_holder = pass ∙ w.ran.work.is_holder;
-          committed = w.ran.work.committed;
-          front = w.ran.work.front;
-          mine = w.ran.work.mine;
-          made = w.ran.work.made;
-          none_held = w.ran.work.none_held;
-          pinned = w.ran.work.pinned;
-        };
-        asker = w.ran.asker;
-        holder = w.ran.holder;
-      };
+      ran = worker_back s numbers t t.asks holds t.held commands os refl pass w.ran;
     }))
   where
     holds_so : (b : Bool) (v : Option ℕ) → HoldsLast t b v → HoldsLast (record { asks = t.asks; holds = holds; held = t.held }) b v

@@ -277,6 +277,31 @@ pub worker_ran : (s : OpenedWith) (numbers : Numbers) (t : WorkerPasses) (comman
 worker_ran s numbers t commands done ahead os all w =
     subst (λ (l : List Command). WorkerRan s numbers t l os) all (record { told = w.told; work = w.work; asker = w.asker; holder = w.holder })
 
+-- the same commits and pinned versions, whatever else was told to the second pass
+pub worker_back : (s : OpenedWith) (numbers : Numbers) (t : WorkerPasses) (asks holds : Known) (held : Bool) (commands : List Command) (os : List Told_outcome) → asks ≡ t.asks → holds.pass ≡ t.holds.pass → WorkerRan s numbers t commands os
+    → WorkerRan s numbers (record { asks = asks; holds = holds; held = held }) commands os
+worker_back s numbers t asks holds held commands os same pass r = subst (λ (v : Known). WorkerRan s numbers (record { asks = v; holds = holds; held = held }) commands os) (sym same) (record {
+  told = r.told;
+  work = record {
+    opened = r.work.opened;
+    along = r.work.along;
+    none_above = r.work.none_above;
+    replayed = r.work.replayed;
+    asker = r.work.asker;
+    is_asker = r.work.is_asker;
+    holder = r.work.holder;
+    is_holder = pass ∙ r.work.is_holder;
+    committed = r.work.committed;
+    front = r.work.front;
+    mine = r.work.mine;
+    made = r.work.made;
+    none_held = r.work.none_held;
+    pinned = r.work.pinned;
+  };
+  asker = r.asker;
+  holder = r.holder;
+})
+
 -- two passes that have done nothing, and no snapshot is held
 pub worker_starts : (s : OpenedWith) (numbers : Numbers) (asks spare : Known) (commands : List Command) → Begins s numbers asks spare → InTurn false commands → WorkerAt s numbers (ended asks spare) [] commands []
 worker_starts s numbers asks spare commands b turn = record {

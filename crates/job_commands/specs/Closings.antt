@@ -9,7 +9,7 @@ use Rattle.shared_cells.specs.History.{StartsWith, entries_by}
 use Rattle.shared_cells.specs.Views.{number_of}
 use Rattle.qp_multi.specs.declared.meaning.Operation.{Operation}
 use Rattle.qp_multi.specs.Passes.{Known, first_version}
-use Rattle.job_commands.specs.Histories.{OpenedWith, Commit}
+use Rattle.job_commands.specs.Histories.{OpenedWith, Commit, Entries}
 use Rattle.job_commands.specs.Steps.{WorkerPasses}
 use Rattle.job_commands.specs.Works.{Numbers, WorkerRan}
 
@@ -83,18 +83,22 @@ pub record MainSees {s : OpenedWith} (main : Known) (ws : List (Worker s)) : Typ
   pub pinned : (v : ℕ) → Contains own.pinned v → v ≡ length main.seen.history
   pub learnt : AllByRecursion (λ w. StartsWith main.seen.history w.worker_passes.asks.seen.history) ws
 
--- Passes that have asked and committed nothing were given to workers, and one to main. All are back: there are as many, their
--- numbers are those that there were, and main, which knows of version 0, has learnt what the workers' first passes have seen.
+-- Passes that have asked and committed nothing were given to workers, and one to main. All are back: there are as many, and their
+-- numbers are those that there were. Main, which knows of version 0, has learnt what each worker's first pass has seen.
+pub record Handed {W : Type 0} (opening : Entries) (first : W → Known) (before views : List Known) (main : Known) (done : List W) : Type 0 where
+  pub as_many : length before ≡ length views + 1
+  pub all_back : (m : ℕ) → Contains (numbers_in before) m → Contains (numbers_in (views ++ main ∷ [])) m
+  pub own : PassView (List Operation)
+  pub is_own : main.pass ≡ Some own
+  pub none : own.entries ≡ []
+  pub unpinned : own.pinned ≡ []
+  pub opened : first_version main.seen ≡ opening
+  pub learnt : AllByRecursion (λ w. StartsWith main.seen.history (first w).seen.history) done
+
+-- So these workers had them, and ran these commands.
 pub record Gathers (s : OpenedWith) (before : List Known) (ws : List (List Command)) (os : List Outcomes) (views : List Known) (main : Known) : Type 0 where
   pub done : List (Worker s)
   pub commands_are : ws ≡ commands_in done
   pub outcomes_are : os ≡ outcomes_in done
   pub views_are : views ≡ workers_views done
-  pub as_many : length before ≡ length views + 1
-  pub all_back : (m : ℕ) → Contains (numbers_in before) m → Contains (numbers_in (views_of main done)) m
-  pub own : PassView (List Operation)
-  pub is_own : main.pass ≡ Some own
-  pub none : own.entries ≡ []
-  pub unpinned : own.pinned ≡ []
-  pub opened : first_version main.seen ≡ s.opening
-  pub learnt : AllByRecursion (λ w. StartsWith main.seen.history w.worker_passes.asks.seen.history) done
+  pub handed : Handed s.opening (λ (w : Worker s). w.worker_passes.asks) before views main done

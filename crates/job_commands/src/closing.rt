@@ -3,9 +3,9 @@ ghost use Rattle.std.specs.Prelude.{◌≡◌, All, IsSome, IfOk, map};
 ghost use Rattle.job_commands.specs.Prelude.{known_at, EndsRun};
 
 use crate::law::ZoneLaw;
+use crate::measuring::measure;
 use qp_multi::{Index, Named, Pass};
 use std::alloc::AllocError;
-use trie_read::Reading;
 
 /// How the last version is.
 #[derive(Clone, Copy)]
@@ -25,15 +25,8 @@ pub fn close_index<N: Named>(
     requires here { All (λ p. (IsSome p.seat) × (p.place ≡ index.place)) passes.items }
     ensures { IfOk result (λ l. EndsRun index.shared.table.shared.key.passes (map (λ p. known_at p.seat) passes.items) (known_at main.seat) l) }
 {
-    let mut query = main.query(&index);
-    let names = query.count();
-    let nodes = query.nodes();
-    drop(query);
+    let mut last = measure(&index, &mut main);
     passes.push(main)?;
-    let version = index.close(passes);
-    Ok(Last {
-        version,
-        names,
-        nodes,
-    })
+    last.version = index.close(passes);
+    Ok(last)
 }
