@@ -1,10 +1,7 @@
 -- Workers with two passes that are done, one after another.
-use Rattle.std.proofs.Common.{true, ◌≡◌, ◌∙◌, ⊎_elim, ℕ, ◌+◌, ◌*◌, List, [], ◌∷◌, ◌++◌, length, map, Result, Ok, Err, IfOk, refl, sym, ap, subst, arith, append_assoc}
-use Rattle.std.specs.Prelude.{Contains}
+use Rattle.std.proofs.Common.{true, ◌≡◌, ◌∙◌, List, [], ◌∷◌, map, Result, Ok, Err, IfOk, refl, sym, ap, subst, ℕ}
 use Rattle.std.specs.List.{All}
-use Rattle.std.proofs.lemmas.List.{map-append}
 use Rattle.std.proofs.lemmas.List.Elements.{All-cons}
-use Rattle.pin_core.proofs.Lists.{contains_cases}
 use Rattle.zone_model.specs.Names.{Name}
 use Rattle.job_model.specs.Commands.{Command}
 use Rattle.job_report.specs.declared.outcomes.Outcomes.{Outcomes}
@@ -15,27 +12,20 @@ use Rattle.job_commands.specs.Histories.{OpenedWith}
 use Rattle.job_commands.specs.Commands.{IsIndex, IsOpenedWith}
 use Rattle.job_commands.specs.Works.{AreNew, Begins, Numbers, WorkerRan, ended}
 use Rattle.job_commands.specs.Closings.{Gathers}
-use Rattle.job_commands.proofs.JobLaws.{here, there}
-use Rattle.job_commands.proofs.GatherLaws.{gathers_main, gathers_with, new_split}
+use Rattle.job_commands.proofs.GatherLaws.{gathers_with, number_kept}
 
--- no worker is left, and of the passes main's alone
-pub gathers_start : {A B : Type 0} (passes front : List A) (asks : A) (known : A → Known) (workers : List B) (view : B → List Command) (s : OpenedWith) (os : List Outcomes) → passes ≡ front ++ asks ∷ [] → length passes ≡ 2 * length workers + 1 → length workers ≡ 0 → os ≡ [] → AreNew s.opening (map known passes)
-    → Gathers s (map known passes) (map view workers) os (map known front) (known asks)
-gathers_start passes front asks known [] view s os is long none no_outcomes new = gathers_main passes front asks known s [] os is long refl no_outcomes new
-gathers_start passes front asks known (w ∷ workers) view s os is long none no_outcomes new = absurd (omega (arith, none))
-
--- another worker, whose passes were the last two
-pub gathers_more : (s : OpenedWith) (before : List Known) (spare asks : Known) (ws : List (List Command)) (os : List Outcomes) (views : List Known) (main after spare' asks' : Known) (n : Numbers) (w : List Command) (o : Outcomes)
-    → Gathers s before ws os views main → WorkerRan s n (ended asks' spare') w o.list.items → number_of asks.pass ≡ number_of asks'.pass → number_of spare.pass ≡ number_of spare'.pass → is_told main.seen.opening ≡ true → Learnt main after asks'.seen
-    → Gathers s (before ++ spare ∷ asks ∷ []) (w ∷ ws) (o ∷ os) (asks' ∷ spare' ∷ views) after
-gathers_more s before spare asks ws os views main after spare' asks' n w o g r same_asks same_spare told l =
-    gathers_with s before (spare ∷ asks ∷ []) ws os views main after (record { numbers = n; worker_passes = ended asks' spare'; has_second = true; commands = w; outcomes = o; ran = r }) g refl
-    (λ m c. ⊎_elim
-    (λ (is : number_of spare.pass ≡ m). there (number_of asks'.pass) m (number_of spare'.pass ∷ []) (subst (λ (k : ℕ). Contains (number_of spare'.pass ∷ []) k) (sym same_spare ∙ is) (here (number_of spare'.pass) [])))
-    (λ (more : Contains (number_of asks.pass ∷ []) m). ⊎_elim
-    (λ (is : number_of asks.pass ≡ m). subst (λ (k : ℕ). Contains (number_of asks'.pass ∷ number_of spare'.pass ∷ []) k) (sym same_asks ∙ is) (here (number_of asks'.pass) (number_of spare'.pass ∷ [])))
-    (λ (none : Contains [] m). absurd (let lt = none.1 in omega arith)) (contains_cases (number_of asks.pass) m [] more))
-    (contains_cases (number_of spare.pass) m (number_of asks.pass ∷ []) c)) told l
+-- another worker, whose passes were the first two
+pub gathers_worker : (s : OpenedWith) (origin : Name) (size : TableSize) → IsIndex s origin size → (all before : List Known) (asks spare : Known) (ws : List (List Command)) (os : List Outcomes) (views : List Known) (main after asks' spare' : Known) (w : List Command) (o : Outcomes)
+    → all ≡ asks ∷ spare ∷ before → AreNew s.opening all → (AreNew s.opening before → Gathers s before ws os views main) → ((n : Numbers) → IsOpenedWith s origin size asks → Begins s n asks spare → WorkerRan s n (ended asks' spare') w o.list.items) → is_told main.seen.opening ≡ true → Learnt main after asks'.seen
+    → Gathers s all (w ∷ ws) (o ∷ os) (asks' ∷ spare' ∷ views) after
+gathers_worker s origin size index all before asks spare ws os views main after asks' spare' w o is new rest runs told l =
+    let n = subst (AreNew s.opening) is new in
+    let numbers : Numbers = record { asker = n.0.0; holder = n.1.0.0 } in
+    let r = runs numbers (record { index = index; opening = n.0.1.opened }) (record { asker = n.0.1; holder = n.1.0.1 }) in
+    subst (λ (vs : List Known). Gathers s vs (w ∷ ws) (o ∷ os) (asks' ∷ spare' ∷ views) after) (sym is)
+    (gathers_with s before (asks ∷ spare ∷ []) ws os views main after (record { numbers = numbers; worker_passes = ended asks' spare'; has_second = true; commands = w; outcomes = o; ran = r }) (rest n.1.1) refl
+    (ap (λ (k : ℕ). k ∷ number_of spare.pass ∷ []) (number_kept s.opening n.0.0 asks asks' r.work.asker n.0.1 r.work.is_asker r.asker)
+    ∙ ap (λ (k : ℕ). number_of asks'.pass ∷ k ∷ []) (number_kept s.opening n.1.0.0 spare spare' r.work.holder n.1.0.1 r.work.is_holder r.holder)) told l)
 
 -- ---- passes put in in front of a list
 
@@ -44,35 +34,6 @@ two_more x y xs more most P is_more is_most px py all = subst (All P) (sym (is_m
 
 pub two_views : {A : Type 0} (x y : A) (xs more most : List A) (known : A → Known) (old : Known) → more ≡ y ∷ xs → most ≡ x ∷ more → known x ≡ old → map known most ≡ old ∷ known y ∷ map known xs
 two_views x y xs more most known old is_more is_most same = ap (map known) (is_most ∙ ap (λ (l : List _). x ∷ l) is_more) ∙ ap (λ (v : Known). v ∷ known y ∷ map known xs) same
-
--- ---- one more worker, of all passes
-
-module _ {A : Type 0} (passes front rest : List A) (spare asks : A) (known : A → Known) (s : OpenedWith) (last : passes ≡ front ++ asks ∷ []) (next : front ≡ rest ++ spare ∷ []) (new : AreNew s.opening (map known passes)) where
-  views_are : map known passes ≡ map known rest ++ known spare ∷ known asks ∷ []
-  views_are =
-      ap (map known) (last ∙ ap (λ (l : List A). l ++ asks ∷ []) next ∙ append_assoc rest (spare ∷ []) (asks ∷ []))
-      ∙ map-append known rest (spare ∷ asks ∷ [])
-
-  parts : AreNew s.opening (map known rest) × AreNew s.opening (known spare ∷ known asks ∷ [])
-  parts = new_split s.opening (map known rest) (known spare ∷ known asks ∷ []) (subst (AreNew s.opening) views_are new)
-
-  pub others_new : AreNew s.opening (map known rest)
-  others_new = parts.0
-
-  abbrev numbers : Numbers
-  numbers = record { asker = parts.1.1.0.0; holder = parts.1.0.0 }
-
-  pub gathers_worker : (origin : Name) (size : TableSize) → IsIndex s origin size → (ws : List (List Command)) (os : List Outcomes) (views : List Known) (main after spare' asks' : Known) (w : List Command) (o : Outcomes) → Gathers s (map known rest) ws os views main
-      → ((n : Numbers) → IsOpenedWith s origin size (known asks) → Begins s n (known asks) (known spare) → WorkerRan s n (ended asks' spare') w o.list.items) → is_told main.seen.opening ≡ true → Learnt main after asks'.seen
-      → Gathers s (map known passes) (w ∷ ws) (o ∷ os) (asks' ∷ spare' ∷ views) after
-  gathers_worker origin size index ws os views main after spare' asks' w o g runs told l =
-      let asker = parts.1.1.0.1 in
-      let holder = parts.1.0.1 in
-      let r = runs numbers (record { index = index; opening = asker.opened }) (record { asker = asker; holder = holder }) in
-      subst (λ (vs : List Known). Gathers s vs (w ∷ ws) (o ∷ os) (asks' ∷ spare' ∷ views) after) (sym views_are)
-      (gathers_more s (map known rest) (known spare) (known asks) ws os views main after spare' asks' numbers w o g r
-      (ap number_of asker.is_own ∙ ap (λ (n : ℕ). n + 1) (asker.numbered ∙ sym r.asker) ∙ sym (ap number_of r.work.is_asker))
-      (ap number_of holder.is_own ∙ ap (λ (n : ℕ). n + 1) (holder.numbered ∙ sym r.holder) ∙ sym (ap number_of r.work.is_holder)) told l)
 
 -- ---- what it comes to
 

@@ -6,10 +6,9 @@ use Rattle.job_script.specs.Views.{command_view}
 use Rattle.job_script.specs.declared.commands.Command.{Command as Said}
 use Rattle.job_report.specs.declared.outcomes.Outcome.{Outcome as Told_outcome}
 use Rattle.shared_cells.specs.Views.{is_told}
-use Rattle.qp_multi.specs.Passes.{Known}
 use Rattle.job_commands.specs.Histories.{OpenedWith}
 use Rattle.job_commands.specs.Steps.{WorkerPasses, Step}
-use Rattle.job_commands.specs.Works.{Numbers, WorkerRan, ended}
+use Rattle.job_commands.specs.Works.{Numbers}
 use Rattle.job_commands.proofs.HistoryLaws.{opened_same}
 use Rattle.job_commands.proofs.WorkLaws.{WorkerAt, worker_goes_on, drop_here, take_here}
 
@@ -37,27 +36,3 @@ worker_next s numbers old new commands i here os o after lt is pushed told w ste
     subst (λ (l : List Told_outcome). WorkerAt s numbers new (map command_view (take (i + 1) commands)) (map command_view (drop (i + 1) commands)) l) (sym pushed)
     (subst (λ (l : List Command). WorkerAt s numbers new l (map command_view (drop (i + 1) commands)) (os ++ o ∷ [])) (sym (take_here command_view commands i here lt is))
     (worker_goes_on s numbers old new (map command_view (take i commands)) (command_view here) (map command_view (drop (i + 1) commands)) os o (opened_same new.asks.seen old.asks.seen told step.asks) ahead step))
-
--- the same commits and pinned versions, at a pass that has left its snapshot
-pub worker_back : (s : OpenedWith) (numbers : Numbers) (t : WorkerPasses) (asks spare : Known) (commands : List Command) (os : List Told_outcome) → asks ≡ t.asks → spare.pass ≡ t.holds.pass → WorkerRan s numbers t commands os → WorkerRan s numbers (ended asks spare) commands os
-worker_back s numbers t asks spare commands os same pass r = subst (λ (v : Known). WorkerRan s numbers (ended v spare) commands os) (sym same) (record {
-  told = r.told;
-  work = record {
-    opened = r.work.opened;
-    along = r.work.along;
-    none_above = r.work.none_above;
-    replayed = r.work.replayed;
-    asker = r.work.asker;
-    is_asker = r.work.is_asker;
-    holder = r.work.holder;
-    is_holder = pass ∙ r.work.is_holder;
-    committed = r.work.committed;
-    front = r.work.front;
-    mine = r.work.mine;
-    made = r.work.made;
-    none_held = r.work.none_held;
-    pinned = r.work.pinned;
-  };
-  asker = r.asker;
-  holder = r.holder;
-})

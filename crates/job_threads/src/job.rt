@@ -1,6 +1,6 @@
 //! All workers of a job, each in a thread of its own where one can be started.
-ghost use Rattle.std.specs.Prelude.{◌≡◌, ◌+◌, ◌*◌, ◌∷◌, IfOk, None, length, map};
-ghost use Rattle.job_threads.specs.Prelude.{IsSync, Version, passes_for, command_view, job_view, worker_view};
+ghost use Rattle.std.specs.Prelude.{◌≡◌, ◌+◌, ◌*◌, ◌∷◌, IfOk, length};
+ghost use Rattle.job_threads.specs.Prelude.{IsSync, Version, passes_for, job_view, worker_view};
 ghost use Rattle.job_threads.specs.Prelude.{workers_view, known_at, Learnt, AreAll, OpenedWith, StandsAs, AreNew, Begins, Numbers};
 ghost use Rattle.job_threads.specs.Prelude.{AllHeard, AreHeard, IsIndex, IsOpenedWith, IsRun, table_size, known_in, WorkerEndRan, AreGathered};
 ghost use Rattle.job_threads.specs.Prelude.{IsBack, AreBack, CanStart, AreReady, CanBeRun};
@@ -10,7 +10,7 @@ use crew::Turnstile;
 use dns_name::Name;
 use job_commands::{Gate, ZoneLaw, close_index};
 use job_report::Outcomes;
-use job_script::{Command, Job, Worker};
+use job_script::{Job, Worker};
 use qp_multi::{Index, Named, Pass};
 use std::alloc::{AllocError, Global};
 use std::sync::Wait;
@@ -68,22 +68,7 @@ fn with_done<N: Named>(
     })
 }
 
-// A worker's way to its commands.
-fn turnstile_of<'a, R: Wait, G: Gate>(
-    rt: &'a R,
-    gate: &'a G,
-    number: u32,
-    worker: &'a Worker,
-) -> Turnstile<'a, R, Command, G>
-    ensures gate { result.gate.now ≡ gate.now }
-    ensures number { result.worker ≡ number }
-    ensures commands { map command_view result.commands.now ≡ worker_view worker.now }
-    ensures fresh { (result.entered ≡ None) × (result.told ≡ 0) }
-{
-    Turnstile::new(rt, gate, number, &worker.commands)
-}
-
-// Runs the workers beside each other, from the one of a number on. Each has two of the passes, from the end on, and main the first.
+// Runs the workers beside each other, from the one of a number on. Each has the next two of the passes, and main the last.
 #[cycle(workers)]
 fn run_workers<R: Threads + Wait + Sync, N: Named + Send + Sync, G: Gate>(
     rt: &R,
@@ -101,10 +86,7 @@ fn run_workers<R: Threads + Wait + Sync, N: Named + Send + Sync, G: Gate>(
         → IfOk result (AreGathered s (known_in passes.items) (workers_view workers.now)) }
     ensures heard { IfOk result (λ _. AllHeard (G.hears gate.now) number (workers_view workers.now)) }
 {
-    let Some(asks) = passes.pop() else {
-        // There are two for each worker, and one.
-        unreachable!();
-    };
+    let asks = passes.remove(0);
     let Some((worker, others)) = workers.split_first() else {
         return Ok(Gathered {
             outcomes: Vec::new(alloc),
@@ -112,10 +94,7 @@ fn run_workers<R: Threads + Wait + Sync, N: Named + Send + Sync, G: Gate>(
             main: asks,
         });
     };
-    let Some(spare) = passes.pop() else {
-        // A worker's second one.
-        unreachable!();
-    };
+    let spare = passes.remove(0);
     let next = number.saturating_add(1);
     let first = move || -> Result<WorkerEnd<N>, AllocError>
         requires ready { AreReady origin.now index.now.place asks spare }
@@ -126,7 +105,7 @@ fn run_workers<R: Threads + Wait + Sync, N: Named + Send + Sync, G: Gate>(
             → IfOk result (WorkerEndRan s numbers (worker_view worker.entry.now)) }
         ensures heard { IfOk result (λ _. AreHeard (G.hears gate.entry.now) number (length (worker_view worker.entry.now))) }
     {
-        let mut turnstile = turnstile_of(rt, gate, number, worker);
+        let mut turnstile = Turnstile::new(rt, gate, number, &worker.commands);
         run_worker(alloc, origin, index, &mut turnstile, asks, spare)
     };
     let rest = move || -> Result<Gathered<N>, AllocError>

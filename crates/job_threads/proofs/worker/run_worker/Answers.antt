@@ -1,4 +1,4 @@
-use Rattle.std.proofs.Common.{rules, ◌≡◌, ◌∙◌, ◌≤◌, ◌<◌, ◌+◌, ℕ, List, [], ◌∷◌, Some, length, length-append, take, map, refl, sym, ap, subst, arith}
+use Rattle.std.proofs.Common.{rules, false, ◌≡◌, ◌∙◌, ◌≤◌, ◌<◌, ◌+◌, ℕ, List, [], ◌∷◌, Some, length, length-append, take, map, refl, sym, ap, subst, arith}
 use Rattle.std.specs.Prelude.{slice_get}
 use Rattle.std.proofs.lemmas.List.{take_all, length-map}
 use Rattle.std.proofs.lemmas.Option.{get_or_from_slice_get, slice_get_within}
@@ -13,8 +13,8 @@ use Rattle.job_commands.specs.Works.{ended}
 use Rattle.job_commands.proofs.ShowLaws.{seat_told}
 use Rattle.job_commands.proofs.CallLaws.{one_more}
 use Rattle.crew.proofs.CallLaws.{same_told}
-use Rattle.job_commands.proofs.WorkLaws.{WorkerAt, worker_starts, worker_ran}
-use Rattle.job_threads.proofs.WorkerLaws.{worker_next, worker_back, turn_here, turn_next, said_here}
+use Rattle.job_commands.proofs.WorkLaws.{WorkerAt, worker_back, worker_starts, worker_ran}
+use Rattle.job_threads.proofs.WorkerLaws.{worker_next, turn_here, turn_next, said_here}
 use Rattle.job_threads.proofs.worker.run_worker.Goals as goal
 
 pub loop-place-init : goal.loop-place-init
@@ -106,7 +106,7 @@ returns-clause-ran g c = λ s numbers opened_with begins.
     let w = c.loop-place.invariant.at s numbers opened_with begins in
     let passes = c.loop-place.passes in
     let at = worker_passes passes.asks.seat (option_map (λ p. p.seat) passes.spare) (option_map (λ h. h.seat) passes.held) in
-    worker_back s numbers at (known_at c.second_pass-asks.result.0.seat) (known_at c.second_pass-asks.result.1.seat) (map command_view commands) c.loop-place.list.items (ap (λ p. known_at p.seat) c.second_pass-asks.ensures.same) c.second_pass-asks.ensures.second.pass
+    worker_back s numbers at (known_at c.second_pass-asks.result.0.seat) (known_at c.second_pass-asks.result.1.seat) false (map command_view commands) c.loop-place.list.items (ap (λ p. known_at p.seat) c.second_pass-asks.ensures.same) c.second_pass-asks.ensures.second.pass
     (worker_ran s numbers at (map command_view commands) (map command_view (take c.loop-place.place commands)) _ c.loop-place.list.items (ap (map command_view) (take_all c.loop-place.place commands past)) w)
 
 pub returns-clause-heard : goal.returns-clause-heard

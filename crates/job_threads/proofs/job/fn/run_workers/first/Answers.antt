@@ -1,7 +1,7 @@
-use Rattle.std.proofs.Common.{rules, List, ℕ, IfOk, length, subst}
+use Rattle.std.proofs.Common.{rules, ◌∙◌, List, ℕ, IfOk, length, map, ap, subst}
 use Rattle.std.proofs.lemmas.Result.{IfOk-weaker}
 use Rattle.job_model.specs.Commands.{Command}
-use Rattle.job_script.specs.Views.{worker_view}
+use Rattle.job_script.specs.Views.{command_view, worker_view}
 use Rattle.job_commands.specs.Calls.{AreHeard}
 use Rattle.job_threads.proofs.job.fn.run_workers.first.Goals as goal
 
@@ -9,11 +9,12 @@ pub returns : goal.returns
 returns g c =
     let hears = g.G.Gate.hears in
     let worker = worker_view c.captures.worker.now in
-    let turnstile = c.turnstile_of-turnstile in
+    let turnstile = c.new-turnstile in
+    let commands = ap (map command_view) (turnstile.ensures.commands ∙ c.deref.ensures.value) in
     record {
       back = search rules;
       ran = search rules;
       heard = subst (λ gate. IfOk c.run_worker.result (λ _. AreHeard (hears gate) c.captures.number (length worker))) turnstile.ensures.gate
-          (subst (λ (n : ℕ). IfOk c.run_worker.result (λ _. AreHeard (hears turnstile.result.gate.now) n (length worker))) turnstile.ensures.number
-          (subst (λ (l : List Command). IfOk c.run_worker.result (λ _. AreHeard (hears turnstile.result.gate.now) turnstile.result.worker (length l))) turnstile.ensures.commands (IfOk-weaker c.run_worker.result _ _ (λ _ h. h.0) c.run_worker.ensures.heard)));
+          (subst (λ (n : ℕ). IfOk c.run_worker.result (λ _. AreHeard (hears turnstile.result.gate.now) n (length worker))) turnstile.ensures.worker
+          (subst (λ (l : List Command). IfOk c.run_worker.result (λ _. AreHeard (hears turnstile.result.gate.now) turnstile.result.worker (length l))) commands (IfOk-weaker c.run_worker.result _ _ (λ _ h. h.0) c.run_worker.ensures.heard)));
     }
