@@ -88,12 +88,9 @@ impl Session {
             → StepsTo (went_on number s (script_view script)) self.new number result }
     {
         let Script {
-            listing: _,
-            earlier: _,
-            begun: _,
             commands,
-            held: _,
             block,
+            ..
         } = script;
         self.held = held_behind(self.held, &commands);
         self.block = block;

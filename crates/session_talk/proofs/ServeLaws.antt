@@ -2,8 +2,7 @@
 use Rattle.std.proofs.Common.{◌≡◌, ◌∙◌, ◌⊎◌, ℕ, ◌+◌, ◌<◌, ◌≤◌, ◌^◌, suc, zero-add, Bool, true, false, List, [], ◌∷◌, ◌++◌, length, take, drop, Option, Some, None, refl, sym, ap, arith, subst, inl, inr, append_assoc, append-nil, length-append}
 use Rattle.std.proofs.lemmas.Grind.{common_steps}
 use Rattle.std.proofs.Common.{cond, eqb, ltb}
-use Rattle.std.specs.List.{position, position_or_len}
-use Rattle.std.specs.Option.{option_map}
+use Rattle.std.specs.List.{position_or_len}
 use Rattle.std.proofs.lemmas.Bool.Decides.{nat_tests}
 use Rattle.std.proofs.lemmas.List.{get_or-take, length-take-le}
 use Rattle.std.proofs.lemmas.List.Sums.{fails_before_first, position_or_len_is}
@@ -182,14 +181,6 @@ last_done way given held ran ran' s s' p p' lines lines' pending w h = record { 
 
 -- ---- more is asked for
 
--- no whole line is there
-pub no_line : (bytes : List ℕ) → line_end bytes ≡ None → IsUnbroken bytes
-no_line bytes e = by_place (position (λ b. eqb b 10) bytes) refl e
-  where
-    by_place : (place : Option ℕ) → position (λ b. eqb b 10) bytes ≡ place → option_map (λ n. n + 1) place ≡ None → position (λ b. eqb b 10) bytes ≡ None
-    by_place None p e = p
-    by_place (Some n) p e = absurd cc
-
 not_below : (n : ℕ) → ltb n n ≡ false
 not_below n = grind (arith, nat_tests)
 
@@ -286,9 +277,6 @@ pub err_left : {A E : Type 0} (P Q : Type 0) (r : Result A E) → OnErr r P → 
 err_left P Q (Ok x) p = tt
 err_left P Q (Err e) p = inl p
 
--- the first line, which is there whole, is short; or so few bytes are there
-pub short_line : (bytes now : List ℕ) (count : ℕ) → now ≡ bytes → line_end bytes ≡ Some count → count ≤ 2 ^ 24 → NextIsShort now
-short_line bytes now count same e le = inl (count, ap line_end same ∙ e, le)
-
+-- so few bytes are there
 pub few_bytes : (bytes now : List ℕ) → now ≡ bytes → length bytes ≤ 2 ^ 24 → NextIsShort now
 few_bytes bytes now same le = inr (let n = ap {B = ℕ} (λ l. length l) same in omega (arith, n, le))

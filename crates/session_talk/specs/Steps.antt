@@ -129,17 +129,6 @@ module _ {Y : Type 0} (has_run : Y → Opened → List Command → List Outcome 
       pub stands : (way : Way) (given : List ℕ) → way.opened.origin ≡ a.origin.now → IsAtWork has_run a way given held old.bytes
           → Stands way given held → Stands way given held_now
 
-    -- All whole lines are answered.
-    pub record AnswersWhole : Type 0 where
-      pub ok : (way : Way) (given : List ℕ) → way.opened.origin ≡ a.origin.now → IsAtWork has_run a way given held old.bytes
-          → OnOk result (IsAtWork has_run a_now way given held_now new.bytes)
-      -- a front of what is due lies in the sink, also where that fails
-      pub stands : (way : Way) (given : List ℕ) → way.opened.origin ≡ a.origin.now → IsAtWork has_run a way given held old.bytes
-          → Stands way given held → Stands way given held_now
-      -- the replies to those before a line that is too long do
-      pub too_long : (way : Way) (given : List ℕ) → way.opened.origin ≡ a.origin.now → IsAtWork has_run a way given held old.bytes
-          → IsErrOf result stop.TooLong → IsTooLong way given held_now
-
     -- All whole lines are answered, and the replies lie in the sink.
     pub record AnswersDue : Type 0 where
       pub ok : (way : Way) (given : List ℕ) → way.opened.origin ≡ a.origin.now → IsAtWork has_run a way given held old.bytes

@@ -3,7 +3,7 @@ ghost use Rattle.std.specs.Prelude.{◌≡◌, ◌≤◌, ◌+◌, ◌^◌, Err,
 ghost use Rattle.session_talk.specs.Prelude.{Blames, Rose, printing, session_view};
 ghost use Rattle.session_talk.specs.Between.{CanGoOn, MayGoOn};
 ghost use Rattle.session_talk.specs.Serving.{LeftOpen};
-ghost use Rattle.session_talk.specs.Steps.{AnswersDue, AnswersNext, AnswersWhole, CanAnswerLines, CanAnswerNext, CanFinish, EndsBehind, EndsThere};
+ghost use Rattle.session_talk.specs.Steps.{AnswersDue, AnswersNext, CanAnswerLines, CanAnswerNext, CanFinish, EndsBehind, EndsThere};
 ghost use Rattle.session_talk.specs.Steps.{GoesOn, GoesOnBehind, StaysAtWork, TakesLines, TakesNext};
 ghost use Rattle.session_talk.specs.Talking.{CanTurn, HasTurned, ServesOn, TellsTurn};
 
@@ -97,28 +97,6 @@ fn answer_next<W: Worker, K: Sink>(
     flush(answering, sink)
 }
 
-// Answers the whole lines that were taken.
-fn answer_lines<W: Worker, K: Sink>(
-    answering: &mut Answering<'_, W>,
-    intake: &mut Intake,
-    sink: &mut K,
-) -> Result<(), Stop>
-    requires { CanAnswerLines W.is_ready W.origin W.holds answering.old intake.old }
-    ensures goes_on { OnOk result (GoesOnBehind W.is_ready W.origin W.holds answering.old answering.new intake.old intake.new) }
-    ensures takes { TakesLines result intake.old intake.new }
-    ensures sink { Blames result Stop.Sink (K.faults sink.old) (K.faults sink.new) }
-    ensures answers { AnswersWhole W.has_run result answering.old answering.new (K.held sink.old) (K.held sink.new) intake.old intake.new }
-{
-    'lines: while let Some(count) = intake.next_line() {
-        if count > LONGEST {
-            answering.put(sink)?;
-            return Err(Stop::TooLong);
-        }
-        answer_next(answering, intake, count, sink)?;
-    }
-    Ok(())
-}
-
 // A transaction that is open where no more lines come is refused.
 fn push_left_open(session: &Session, replies: &mut Replies) -> Result<(), AllocError>
     ensures { OnOk result (LeftOpen (session_view session.now) (printing replies.old) (printing replies.new)) }
@@ -137,13 +115,10 @@ fn end<W: Worker, K: Sink>(answering: Answering<'_, W>, sink: &mut K) -> Result<
     ensures ends { EndsThere W.has_run result answering.entry (K.held sink.old) (K.held sink.new) }
 {
     let Answering {
-        alloc: _,
-        origin: _,
         mut worker,
         session,
         mut replies,
-        lines: _,
-        lent: _,
+        ..
     } = answering;
     push_left_open(&session, &mut replies)?;
     let last = worker.end();
@@ -189,7 +164,13 @@ pub fn answer_due<W: Worker, K: Sink>(
     ensures sink { Blames result Stop.Sink (K.faults sink.old) (K.faults sink.new) }
     ensures answers { AnswersDue W.has_run result answering.old answering.new (K.held sink.old) (K.held sink.new) intake.old intake.new }
 {
-    answer_lines(answering, intake, sink)?;
+    'lines: while let Some(count) = intake.next_line() {
+        if count > LONGEST {
+            answering.put(sink)?;
+            return Err(Stop::TooLong);
+        }
+        answer_next(answering, intake, count, sink)?;
+    }
     answering.put(sink)?;
     Ok(())
 }

@@ -3,7 +3,7 @@ use Rattle.session_lines.specs.Printing.{printing}
 use Rattle.session_lines.specs.Views.{session_view}
 use Rattle.session_talk.specs.Answering.{IsSound, Way}
 use Rattle.session_talk.specs.Serving.{AtWork, Stands}
-use Rattle.session_talk.proofs.serving.answer_lines.Given as goal
+use Rattle.session_talk.proofs.serving.answer_due.Given as goal
 
 abbrev pub invariant-lines : goal.invariant-lines
 invariant-lines g l = record {
