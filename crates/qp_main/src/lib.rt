@@ -9,7 +9,6 @@ mod dumping;
 mod feeding;
 mod input;
 mod items;
-mod line;
 mod living;
 mod needs;
 mod program;

@@ -1,8 +1,9 @@
 //! The line of a refusal.
-ghost use Rattle.std.specs.Prelude.{◌≡◌, ◌≤◌, ◌++◌, ℕ, List, IfOk, length, codes, decimal};
+ghost use Rattle.std.specs.Prelude.{◌≡◌, ◌≤◌, ◌+◌, ◌++◌, IfOk, length, codes, decimal};
 ghost use Rattle.qp_main.specs.Prelude.{pieces_text, zone_kind_text, script_kind_text, refusal_text};
 
-use crate::line::{Line, refusal_line};
+use dns_name::Octets;
+use itoa::Buffer;
 use job_model::ScriptKind;
 use job_report::{Pieces, push_pair};
 use session_lines::script_kind_name;
@@ -35,15 +36,31 @@ fn zone_kind_name(kind: ZoneKind) -> &'static [u8]
     }
 }
 
+// The line of a refusal. It lies in place, and takes no memory.
+fn refusal_line(what: &[u8], number: u64, kind: &[u8]) -> Octets
+    requires short { length what.now + length kind.now ≤ 20 }
+    ensures { result ≡ refusal_text what.now number kind.now }
+{
+    let mut digits = Buffer::new();
+    let mut line = Octets::new();
+    line.append(what);
+    line.append(b" refused line ");
+    line.append(digits.format(number).as_bytes());
+    line.append(b" ");
+    line.append(kind);
+    line.append(b"\n");
+    line
+}
+
 /// The line of a refusal of a zone, or of several.
-pub fn zone_refused(line: u32, kind: ZoneKind) -> Line
+pub fn zone_refused(line: u32, kind: ZoneKind) -> Octets
     ensures { result ≡ refusal_text (codes "zone") line (zone_kind_text kind) }
 {
     refusal_line(b"zone", u64::from(line), zone_kind_name(kind))
 }
 
 /// The line of a script's refusal.
-pub fn script_refused(line: u32, kind: ScriptKind) -> Line
+pub fn script_refused(line: u32, kind: ScriptKind) -> Octets
     ensures { result ≡ refusal_text (codes "script") line (script_kind_text kind) }
 {
     refusal_line(b"script", u64::from(line), script_kind_name(kind))

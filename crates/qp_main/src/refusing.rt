@@ -2,9 +2,9 @@
 ghost use Rattle.std.specs.Prelude.{◌≡◌};
 ghost use Rattle.qp_main.specs.Stops.{ScriptStopsFor, ZoneStopsFor};
 
-use crate::line::Line;
 use crate::refusal_lines::{script_refused, zone_refused};
 use crate::status::Status;
+use dns_name::Octets;
 use job_model::ScriptKind;
 use master_file::Zone;
 use std::alloc::AllocError;
@@ -15,7 +15,7 @@ use zone_text::ZoneRefusal;
 #[derive(Drop)]
 pub enum Stop {
     /// It is refused, which is told by this status and this line. They take no memory.
-    Refused(Status, Line),
+    Refused(Status, Octets),
     Memory,
 }
 
