@@ -40,7 +40,7 @@ returns-in-Err-clause-ran g c = λ s opened_with.
     (stopped_on c.args.origin.now asked old (seat_told c.args.pass.now.seat c.requires.here) c.args.number c.requires.makes c.update-update.result.locked.now.working c.update-update.ensures.begins c.version-base.result c.version-base.ensures
     s opened_with.opening opened_with.index.origin_is c.drop-update-in-Err.new.self.0.seat second c.if-base-number.false c.drop-update-in-Err.ensures.back c.kept.result c.kept.ensures
     (full_chunks g.N.Named.tables c.args.index.now.place c.execute.new.transaction.locked.now.place s.chunks c.args.index.now.shared.table.shared.table_id c.execute.new.transaction.locked.now.shared.now.table.shared.table_id second
-    c.args.index.now.here c.execute.new.transaction.locked.now.named (c.execute.ensures.place ∙ c.update-update.ensures.place) (ap (λ n. 4161 + 2048 * n) opened_with.index.chunks ∙ c.args.index.now.shared.wide) c.execute.new.transaction.locked.now.here)
+    c.args.index.now.here c.execute.new.transaction.locked.now.named (c.execute.ensures.of_same.place ∙ c.update-update.ensures.place) (ap (λ n. 4161 + 2048 * n) opened_with.index.chunks ∙ c.args.index.now.shared.wide) c.execute.new.transaction.locked.now.here)
     (has_passes s _ _ opened_with.index.passes (begun_of _ _ _ c.update-update.result.locked.now.working c.update-update.ensures.kind).passes) c.in-Err.refusal c.in-Err.ensures.executes c.stopped.result c.stopped.ensures)
 
 pub commit-requires-clause-works : goal.commit-requires-clause-works
