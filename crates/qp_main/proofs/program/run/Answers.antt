@@ -1,16 +1,16 @@
-use Rattle.std.proofs.Common.{rules, ◌≡◌, ◌∙◌, ℕ, [], Option, Some, None, ap, append-nil, codes, map, refl, subst, sym}
+use Rattle.std.proofs.Common.{rules, ◌≡◌, ℕ, Option, None, ap, codes, map, refl, subst, sym}
 use Rattle.zone_model.specs.Names.{Name}
 use Rattle.std.specs.Option.{option_map}
 use Rattle.std.specs.String.{string_bytes}
-use Rattle.command_line.specs.Invocations.{Invocation, IsUnder}
+use Rattle.command_line.specs.Invocations.{IsUnder}
 use Rattle.command_line.specs.Words.{invocation_of}
 use Rattle.command_line.specs.Views.{invocation_view, verb_view}
 use Rattle.command_line.proofs.OriginLemmas.{AllUnder, words_under}
 use Rattle.qp_main.specs.declared.status.Status.TheVariants as status
-use Rattle.qp_main.specs.Due.{CutShort, Due, GaveFor, IsWritten, Written}
-use Rattle.qp_main.specs.Heard.{HasRun, Heard}
-use Rattle.qp_main.specs.Serving.{EndsRun}
-use Rattle.qp_main.specs.Sessions.{SaysSession, SessionRan}
+use Rattle.qp_main.specs.Due.{Due}
+use Rattle.qp_main.specs.Heard.{HasRun}
+use Rattle.qp_main.specs.Sessions.{SessionRan}
+use Rattle.qp_main.proofs.GivenLemmas.{unread_given}
 use Rattle.qp_main.proofs.HeardLemmas.{run_written}
 use Rattle.qp_main.proofs.DueLemmas.{nothing_yet, short_is, some_words}
 use Rattle.qp_main.proofs.SessionLemmas.{says_always, unbegun}
@@ -28,19 +28,13 @@ returns-in-Ok-None-clause-ends g c = record {
       grew = search (rules, c.write_due.ensures.front (short_is _ c.write_due.result short c.write_due.ensures.only.1));
     };
     given_short = λ short some.
-        let given = g.S.Source.given c.args.source.now in
-        let is : option_map invocation_view None ≡ invocation_of (map string_bytes c.args.words.now) = sym (ap (option_map invocation_view) c.in-Ok-None.field-0-is) ∙ c.in-Ok-None.ensures.says in
-        subst (λ (o : Option Invocation). GaveFor o given given (g.S.Source.ended c.args.source.now) (λ left. CutShort (Due o left) (g.K.Sink.held c.args.sink.now) (g.K.Sink.held c.write_due.new.sink))) is (record {
-          bytes = [];
-          gave = sym (append-nil given);
-          whole = λ reads within. absurd reads;
-          holds = record {
-            status = status.WordsRefused;
-            text = codes "words refused\n";
-            is_due = (refl, refl);
-            grew = search (rules, c.write_due.ensures.front (short_is _ c.write_due.result short c.write_due.ensures.only.1));
-          };
-        });
+        let says = rw c.in-Ok-None.field-0-is at c.in-Ok-None.ensures.says in
+        rw (← says) (unread_given None _ _ _ (λ reads. reads) (record {
+          status = status.WordsRefused;
+          text = codes "words refused\n";
+          is_due = (refl, refl);
+          grew = search (rules, c.write_due.ensures.front (short_is _ c.write_due.result short c.write_due.ensures.only.1));
+        }));
   };
   sink = search rules;
   source = search rules;
@@ -54,24 +48,17 @@ returns-in-Ok-None-clause-ends g c = record {
 
 pub returns-in-Ok-None-clause-given : goal.returns-in-Ok-None-clause-given
 returns-in-Ok-None-clause-given g c = λ w.
-    let given = g.S.Source.given c.args.source.now in
-    let is : option_map invocation_view None ≡ invocation_of (map string_bytes c.args.words.now) = sym (ap (option_map invocation_view) c.in-Ok-None.field-0-is) ∙ c.in-Ok-None.ensures.says in
+    let says = rw c.in-Ok-None.field-0-is at c.in-Ok-None.ensures.says in
     let whole = c.write_due.ensures.whole w in
-    subst (λ (o : Option Invocation). GaveFor o given given (g.S.Source.ended c.args.source.now) (λ left. Written (Due o left) (g.K.Sink.held c.args.sink.now) (g.K.Sink.held c.write_due.new.sink) c.write_due.result)) is (record {
-      bytes = [];
-      gave = sym (append-nil given);
-      whole = λ reads within. absurd reads;
-      holds = record { text = codes "words refused\n"; is_due = (whole.0, refl); grew = search (rules, whole.1) };
-    })
+    rw (← says) (unread_given None _ _ _ (λ reads. reads) (record { text = codes "words refused\n"; is_due = (whole.0, refl); grew = search (rules, whole.1) }))
 
 pub returns-in-Ok-None-clause-heard : goal.returns-in-Ok-None-clause-heard
 returns-in-Ok-None-clause-heard g c = λ ran. absurd (subst HasRun (c.write_due.ensures.whole (run_written c.write_due.result ran)).0 ran)
 
 pub returns-in-Ok-None-clause-session : goal.returns-in-Ok-None-clause-session
 returns-in-Ok-None-clause-session g c =
-    let given = g.S.Source.given c.args.source.now in
-    let is : option_map invocation_view None ≡ invocation_of (map string_bytes c.args.words.now) = sym (ap (option_map invocation_view) c.in-Ok-None.field-0-is) ∙ c.in-Ok-None.ensures.says in
-    subst (λ (o : Option Invocation). SaysSession o (λ (asked : Option ℕ) (origin : Name). SessionRan asked origin given given (g.S.Source.ended c.args.source.now) (g.K.Sink.held c.args.sink.now) (g.K.Sink.held c.write_due.new.sink) c.write_due.result)) is tt
+    let says = rw c.in-Ok-None.field-0-is at c.in-Ok-None.ensures.says in
+    rw (← says) tt
 
 -- ---- an invocation
 
@@ -83,28 +70,28 @@ serve_invocation-requires g c =
 
 pub returns-in-Ok-Some-clause-written : goal.returns-in-Ok-Some-clause-written
 returns-in-Ok-Some-clause-written g c =
-    let is : option_map invocation_view (Some c.in-Ok-Some.invocation) ≡ invocation_of (map string_bytes c.args.words.now) = sym (ap (option_map invocation_view) c.in-Ok-Some.field-0-is) ∙ c.in-Ok-Some.ensures.says in
-    subst (λ (o : Option Invocation). IsWritten c.serve_invocation.result → Written (Due o (g.S.Source.left c.args.source.now)) (g.K.Sink.held c.args.sink.now) (g.K.Sink.held c.serve_invocation.new.sink) c.serve_invocation.result) is c.serve_invocation.ensures.due.written
+    let says = rw c.in-Ok-Some.field-0-is at c.in-Ok-Some.ensures.says in
+    rw (← says) c.serve_invocation.ensures.due.written
 
 pub returns-in-Ok-Some-clause-given : goal.returns-in-Ok-Some-clause-given
 returns-in-Ok-Some-clause-given g c =
-    let is : option_map invocation_view (Some c.in-Ok-Some.invocation) ≡ invocation_of (map string_bytes c.args.words.now) = sym (ap (option_map invocation_view) c.in-Ok-Some.field-0-is) ∙ c.in-Ok-Some.ensures.says in
-    subst (λ (o : Option Invocation). IsWritten c.serve_invocation.result → GaveFor o (g.S.Source.given c.args.source.now) (g.S.Source.given c.serve_invocation.new.source) (g.S.Source.ended c.serve_invocation.new.source) (λ left. Written (Due o left) (g.K.Sink.held c.args.sink.now) (g.K.Sink.held c.serve_invocation.new.sink) c.serve_invocation.result)) is c.serve_invocation.ensures.due.given
+    let says = rw c.in-Ok-Some.field-0-is at c.in-Ok-Some.ensures.says in
+    rw (← says) c.serve_invocation.ensures.due.given
 
 pub returns-in-Ok-Some-clause-ends : goal.returns-in-Ok-Some-clause-ends
 returns-in-Ok-Some-clause-ends g c =
-    let is : option_map invocation_view (Some c.in-Ok-Some.invocation) ≡ invocation_of (map string_bytes c.args.words.now) = sym (ap (option_map invocation_view) c.in-Ok-Some.field-0-is) ∙ c.in-Ok-Some.ensures.says in
-    subst (λ (o : Option Invocation). EndsRun o g.S.Source.left g.S.Source.given g.S.Source.ended g.S.Source.faults g.K.Sink.held g.K.Sink.faults c.args.source.now c.serve_invocation.new.source c.args.sink.now c.serve_invocation.new.sink c.serve_invocation.result) is c.serve_invocation.ensures.ends
+    let says = rw c.in-Ok-Some.field-0-is at c.in-Ok-Some.ensures.says in
+    rw (← says) c.serve_invocation.ensures.ends
 
 pub returns-in-Ok-Some-clause-heard : goal.returns-in-Ok-Some-clause-heard
 returns-in-Ok-Some-clause-heard g c =
-    let is : option_map invocation_view (Some c.in-Ok-Some.invocation) ≡ invocation_of (map string_bytes c.args.words.now) = sym (ap (option_map invocation_view) c.in-Ok-Some.field-0-is) ∙ c.in-Ok-Some.ensures.says in
-    subst (λ (o : Option Invocation). HasRun c.serve_invocation.result → GaveFor o (g.S.Source.given c.args.source.now) (g.S.Source.given c.serve_invocation.new.source) (g.S.Source.ended c.serve_invocation.new.source) (λ left. Heard (g.G.Gate.hears c.args.gate.now) o left)) is c.serve_invocation.ensures.heard
+    let says = rw c.in-Ok-Some.field-0-is at c.in-Ok-Some.ensures.says in
+    rw (← says) c.serve_invocation.ensures.heard
 
 pub returns-in-Ok-Some-clause-session : goal.returns-in-Ok-Some-clause-session
 returns-in-Ok-Some-clause-session g c =
-    let is : option_map invocation_view (Some c.in-Ok-Some.invocation) ≡ invocation_of (map string_bytes c.args.words.now) = sym (ap (option_map invocation_view) c.in-Ok-Some.field-0-is) ∙ c.in-Ok-Some.ensures.says in
-    subst (λ (o : Option Invocation). SaysSession o (λ (asked : Option ℕ) (origin : Name). SessionRan asked origin (g.S.Source.given c.args.source.now) (g.S.Source.given c.serve_invocation.new.source) (g.S.Source.ended c.serve_invocation.new.source) (g.K.Sink.held c.args.sink.now) (g.K.Sink.held c.serve_invocation.new.sink) c.serve_invocation.result)) is c.serve_invocation.ensures.session
+    let says = rw c.in-Ok-Some.field-0-is at c.in-Ok-Some.ensures.says in
+    rw (← says) c.serve_invocation.ensures.session
 
 -- ---- no memory for the words
 

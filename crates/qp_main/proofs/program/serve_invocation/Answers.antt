@@ -1,4 +1,4 @@
-use Rattle.std.proofs.Common.{rules, ℕ, List, [], Option, Some, sym, subst, append-nil}
+use Rattle.std.proofs.Common.{rules, ℕ, List, [], Option, Some, sym, subst}
 use Rattle.zone_model.specs.Names.{Name}
 use Rattle.command_line.specs.Views.{invocation_view, verb_view}
 use Rattle.command_line.specs.declared.invocation.Verb.{Verb}
@@ -6,6 +6,7 @@ use Rattle.qp_main.specs.Due.{AnswersLines, CutShort, Due, MakesInput, Written, 
 use Rattle.qp_main.specs.Heard.{Heard}
 use Rattle.qp_main.specs.Sessions.{SaysOf, SessionRan}
 use Rattle.qp_main.proofs.DueLemmas.{short_is}
+use Rattle.qp_main.proofs.GivenLemmas.{unread_given}
 use Rattle.qp_main.proofs.SessionLemmas.{by_sink, ran_given, ran_short, ran_written, some_not_none, unheard, unsaid}
 use Rattle.qp_main.proofs.program.serve_invocation.Goals as goal
 
@@ -14,24 +15,14 @@ use Rattle.qp_main.proofs.program.serve_invocation.Goals as goal
 pub returns-in-Make-clause-due : goal.returns-in-Make-clause-due
 returns-in-Make-clause-due g c = record {
   written = search rules;
-  given = λ w. record {
-    bytes = [];
-    gave = sym (append-nil _);
-    whole = λ reads within. absurd (reads.0 (subst (λ (v : Verb). MakesInput (verb_view v)) (sym c.in-Make.is) tt));
-    holds = c.serve_made.ensures.due.written (Some []) w;
-  };
+  given = λ w. unread_given _ _ _ _ (λ reads. reads.0 (subst (λ (v : Verb). MakesInput (verb_view v)) (sym c.in-Make.is) tt)) (c.serve_made.ensures.due.written (Some []) w);
 }
 
 pub returns-in-Make-clause-ends : goal.returns-in-Make-clause-ends
 returns-in-Make-clause-ends g c = record {
   short = record {
     cut_short = search rules;
-    given_short = λ short some. record {
-      bytes = [];
-      gave = sym (append-nil _);
-      whole = λ reads within. absurd (reads.0 (subst (λ (v : Verb). MakesInput (verb_view v)) (sym c.in-Make.is) tt));
-      holds = c.serve_made.ensures.due.cut_short (Some []) (short_is (is_streamed (verb_view c.args.invocation.now.verb)) c.serve_made.result short (λ e. some (c.serve_made.ensures.due.unwritten e)));
-    };
+    given_short = λ short some. unread_given _ _ _ _ (λ reads. reads.0 (subst (λ (v : Verb). MakesInput (verb_view v)) (sym c.in-Make.is) tt)) (c.serve_made.ensures.due.cut_short (Some []) (short_is (is_streamed (verb_view c.args.invocation.now.verb)) c.serve_made.result short (λ e. some (c.serve_made.ensures.due.unwritten e))));
   };
   sink = search rules;
   source = search rules;
@@ -44,12 +35,7 @@ returns-in-Make-clause-ends g c = record {
 }
 
 pub returns-in-Make-clause-heard : goal.returns-in-Make-clause-heard
-returns-in-Make-clause-heard g c = λ ran. record {
-  bytes = [];
-  gave = sym (append-nil _);
-  whole = λ reads within. absurd (reads.0 (subst (λ (v : Verb). MakesInput (verb_view v)) (sym c.in-Make.is) tt));
-  holds = c.serve_made.ensures.heard (Some []) ran;
-}
+returns-in-Make-clause-heard g c = λ ran. unread_given _ _ _ _ (λ reads. reads.0 (subst (λ (v : Verb). MakesInput (verb_view v)) (sym c.in-Make.is) tt)) (c.serve_made.ensures.heard (Some []) ran)
 
 -- ---- a session has no input that is read before its answers
 
