@@ -105,9 +105,13 @@ some_fits : (b : Bool) (chunks : ℕ) (zone : Version) (F : Status → List ℕ 
 some_fits true chunks zone F due = due
 some_fits false chunks zone F due = (status.DoesNotFit, no_room_text chunks zone, (refl, refl))
 
-pub some_dump : (chunks : ℕ) (style : Style) (origin : Name) (r : Result Version (Refused ZoneKind)) → (s : Status) × (text : List ℕ) × Dumps chunks style origin r s text
+some_dump : (chunks : ℕ) (style : Style) (origin : Name) (r : Result Version (Refused ZoneKind)) → (s : Status) × (text : List ℕ) × Dumps chunks style origin r s text
 some_dump chunks style origin (Ok zone) = some_fits (fits chunks zone) chunks zone (Ends status.Done (dump style origin zone)) (status.Done, dump style origin zone, (refl, refl))
 some_dump chunks style origin (Err e) = (status.ZoneRefused, refusal_text (codes "zone") e.line (zone_kind_text e.kind), (refl, refl))
+
+-- nothing was written yet of a dump
+pub none_dumped : (chunks : ℕ) (style : Style) (origin : Name) (r : Result Version (Refused ZoneKind)) (held : Held) → CutShort (Dumps chunks style origin r) held held
+none_dumped chunks style origin r held = nothing_yet (Dumps chunks style origin r) held (some_dump chunks style origin r)
 
 some_input : (verb : Verb) (chunks : ℕ) (origin : Name) (bytes : List ℕ) → is_streamed verb ≡ true → (s : Status) × (text : List ℕ) × DueInput verb chunks origin bytes s text
 some_input Run chunks origin bytes e = absurd cc
@@ -139,12 +143,13 @@ some_words (Some i) left e = some_due i left e
 pub whole_dump : (chunks : ℕ) (style : Style) (origin : Name) (zone : Version) → cell_count zone ≤ room_in chunks → Dumps chunks style origin (Ok zone) status.Done (dump style origin zone)
 whole_dump chunks style origin zone le = fitting chunks zone (Ends status.Done (dump style origin zone)) status.Done (dump style origin zone) (fits_room (cell_count zone) (room_in chunks) le) (refl, refl)
 
-pub front_dump : (chunks : ℕ) (style : Style) (origin : Name) (zone : Version) (before now : Held) → cell_count zone ≤ room_in chunks → GrowsByFront before now (dump style origin zone) → CutShort (Dumps chunks style origin (Ok zone)) before now
-front_dump chunks style origin zone before now le front = record {
+pub front_dump : (chunks : ℕ) (style : Style) (origin of : Name) (zone : Version) (before now : Held) (counted limit : ℕ) → counted ≡ cell_count zone → limit ≡ room_in chunks → counted ≤ limit → of ≡ origin
+    → GrowsByFront before now (dump style of zone) → CutShort (Dumps chunks style origin (Ok zone)) before now
+front_dump chunks style origin of zone before now counted limit is_count is_limit le same front = record {
   status = status.Done;
   text = dump style origin zone;
-  is_due = whole_dump chunks style origin zone le;
-  grew = front;
+  is_due = whole_dump chunks style origin zone (omega (arith, is_count, is_limit, le));
+  grew = subst (λ (o : Name). GrowsByFront before now (dump style o zone)) same front;
 }
 
 no_room_left : (n m : ℕ) → m < n → leb n m ≡ false

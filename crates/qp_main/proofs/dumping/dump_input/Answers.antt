@@ -3,7 +3,7 @@ use Rattle.zone_model.specs.MasterFile.{zone_of}
 use Rattle.job_model.specs.Jobs.{zone_lines}
 use Rattle.qp_main.specs.Due.{Dumps}
 use Rattle.qp_main.specs.Stops.{IsStop}
-use Rattle.qp_main.proofs.DueLemmas.{nothing_yet, short_is, some_dump}
+use Rattle.qp_main.proofs.DueLemmas.{none_dumped, short_is}
 use Rattle.qp_main.proofs.StopLemmas.{dump_stops}
 use Rattle.qp_main.proofs.dumping.dump_input.Goals as goal
 
@@ -27,9 +27,6 @@ pub returns-in-Err-Memory-clause-due : goal.returns-in-Err-Memory-clause-due
 returns-in-Err-Memory-clause-due g c =
     record {
       written = search rules;
-      cut_short = λ short.
-          let i = c.args.invocation.now in
-          let zone = zone_of i.origin (zone_lines c.args.input) in
-          nothing_yet (Dumps i.chunks c.args.style i.origin zone) (g.K.Sink.held c.args.sink.now) (some_dump i.chunks c.args.style i.origin zone);
+      cut_short = λ short. none_dumped c.args.invocation.now.chunks c.args.style c.args.invocation.now.origin (zone_of c.args.invocation.now.origin (zone_lines c.args.input)) _;
       others = search rules;
     }

@@ -1,13 +1,8 @@
-use Rattle.std.proofs.Common.{rules, ◌≡◌, ◌≤◌, Ok, arith, subst, true}
-use Rattle.outer_io.specs.Bytes.{GrowsByFront}
-use Rattle.zone_model.specs.Names.{Name}
-use Rattle.zone_model.specs.Dumps.{dump}
-use Rattle.job_model.specs.Sizes.{cell_count, trie_entries}
+use Rattle.std.proofs.Common.{rules, Ok, arith, true}
+use Rattle.job_model.specs.Sizes.{trie_entries}
 use Rattle.job_report.specs.Pieces.{pieces_text}
-use Rattle.qp_multi.specs.Openings.{room_in}
-use Rattle.qp_main.specs.Due.{Dumps}
 use Rattle.qp_main.specs.declared.status.Status.TheVariants as status
-use Rattle.qp_main.proofs.DueLemmas.{front_dump, nothing_yet, refused_dump, short_is, some_dump}
+use Rattle.qp_main.proofs.DueLemmas.{front_dump, none_dumped, refused_dump, short_is}
 use Rattle.qp_main.proofs.SizingLemmas.{zone_entries_rise}
 use Rattle.qp_main.proofs.dumping.write_zone.Goals as goal
 
@@ -18,10 +13,7 @@ pub returns-in_default-clause-due : goal.returns-in_default-clause-due
 returns-in_default-clause-due g c =
     record {
       written = search rules;
-      cut_short = λ short.
-          let i = c.args.invocation.now in
-          let zone = c.args.zone.now.pairs in
-          nothing_yet (Dumps i.chunks c.args.style i.origin (Ok zone)) (g.K.Sink.held c.args.sink.now) (some_dump i.chunks c.args.style i.origin (Ok zone));
+      cut_short = λ short. none_dumped c.args.invocation.now.chunks c.args.style c.args.invocation.now.origin (Ok c.args.zone.now.pairs) _;
       others = search rules;
     }
 
@@ -48,10 +40,7 @@ pub returns-in-Err-clause-due : goal.returns-in-Err-clause-due
 returns-in-Err-clause-due g c =
     record {
       written = search rules;
-      cut_short = λ short.
-          let i = c.args.invocation.now in
-          let zone = c.args.zone.now.pairs in
-          nothing_yet (Dumps i.chunks c.args.style i.origin (Ok zone)) (g.K.Sink.held c.args.sink.now) (some_dump i.chunks c.args.style i.origin (Ok zone));
+      cut_short = λ short. none_dumped c.args.invocation.now.chunks c.args.style c.args.invocation.now.origin (Ok c.args.zone.now.pairs) _;
       others = search rules;
     }
 
@@ -62,10 +51,8 @@ returns-in-Err-Fault-clause-due g c =
       cut_short = λ short.
           let i = c.args.invocation.now in
           let zone = c.args.zone.now.pairs in
-          let counted : c.cells-cells.result ≡ cell_count zone = c.cells-cells.ensures (trie_entries zone) c.in-Ok.ensures in
-          let fits : cell_count zone ≤ room_in i.chunks = omega (arith, counted, c.room_in-limit.ensures, c.if-cells-limit.false) in
-          front_dump i.chunks c.args.style i.origin zone (g.K.Sink.held c.args.sink.now) (g.K.Sink.held c.dump_zone.new.sink) fits
-          (subst (λ (o : Name). GrowsByFront (g.K.Sink.held c.args.sink.now) (g.K.Sink.held c.dump_zone.new.sink) (dump c.args.style o zone)) c.requires.origin c.in-Err-Fault.ensures.err);
+          front_dump i.chunks c.args.style i.origin c.args.zone.now.origin zone _ _ _ _ (c.cells-cells.ensures (trie_entries zone) c.in-Ok.ensures) c.room_in-limit.ensures (omega (arith, c.if-cells-limit.false)) c.requires.origin
+          c.in-Err-Fault.ensures.err;
       others = search rules;
     }
 
@@ -76,9 +63,7 @@ returns-in-Err-Memory-clause-due g c =
       cut_short = λ short.
           let i = c.args.invocation.now in
           let zone = c.args.zone.now.pairs in
-          let counted : c.cells-cells.result ≡ cell_count zone = c.cells-cells.ensures (trie_entries zone) c.in-Ok.ensures in
-          let fits : cell_count zone ≤ room_in i.chunks = omega (arith, counted, c.room_in-limit.ensures, c.if-cells-limit.false) in
-          front_dump i.chunks c.args.style i.origin zone (g.K.Sink.held c.args.sink.now) (g.K.Sink.held c.dump_zone.new.sink) fits
-          (subst (λ (o : Name). GrowsByFront (g.K.Sink.held c.args.sink.now) (g.K.Sink.held c.dump_zone.new.sink) (dump c.args.style o zone)) c.requires.origin c.in-Err-Memory.ensures.err);
+          front_dump i.chunks c.args.style i.origin c.args.zone.now.origin zone _ _ _ _ (c.cells-cells.ensures (trie_entries zone) c.in-Ok.ensures) c.room_in-limit.ensures (omega (arith, c.if-cells-limit.false)) c.requires.origin
+          c.in-Err-Memory.ensures.err;
       others = search rules;
     }
