@@ -119,8 +119,8 @@ fn with_served<N: Named>(
     })
 }
 
-// Runs the workers beside each other, from the one of a number on, one for each seat. Each has one of the passes, from the end on, and
-// main the first. The first of them runs in the thread that calls.
+// Runs the workers beside each other, from the one of a number on, one for each seat. Each has the next of the passes, and main the
+// last. The first of them runs in the thread that calls.
 #[cycle(serving)]
 fn serve_all<R: Threads + Wait + Sync, N: Named + Send + Sync, G: Gate>(
     rt: &R,
@@ -140,10 +140,7 @@ fn serve_all<R: Threads + Wait + Sync, N: Named + Send + Sync, G: Gate>(
         → IfOk result (AreGathered s (known_in passes.items) (map command_view commands.now)) }
     ensures heard { IfOk result (λ g. FedHeard (G.hears gate.now) worker g.served.items) }
 {
-    let Some(pass) = passes.pop() else {
-        // There is one for each seat, and one.
-        unreachable!();
-    };
+    let pass = passes.remove(0);
     let Some(seat) = seats.pop() else {
         return Ok(FedGathered {
             served: Vec::new(alloc),
