@@ -11,7 +11,7 @@ use Rattle.shared_cells.specs.Views.{is_told}
 use Rattle.qp_multi.specs.declared.commit.Receipt.{Receipt}
 use Rattle.qp_multi.specs.declared.meaning.Operation.{Operation}
 use Rattle.qp_multi.specs.Operations.{applied}
-use Rattle.qp_multi.specs.Passes.{Known, first_version}
+use Rattle.qp_multi.specs.Passes.{Known}
 use Rattle.job_commands.proofs.HistoryLaws.{part_more}
 use Rattle.zone_table.specs.declared.change.TableRefusal.{TableRefusal}
 use Rattle.zone_table.specs.declared.change.TableRefusal.TheVariants as refusal
@@ -24,22 +24,6 @@ use Rattle.zones_threads.specs.Steps.{Changes, ChangeRan, IsOrNot, Stays, operat
 
 abbrev Own : Type 0
 Own = PassView (List Operation)
-
--- a change that was made
-made : (attaches : Bool) (meets : List Entry → Type 0) (origin : Name) (old new : Known) (number : ℕ) → (c : IsChanged meets old new (operation_for attaches origin) number) → ((es : List Entry) → meets es → IsOrNot (other attaches) es origin)
-    → (own : Own) → old.pass ≡ Some own → Changes attaches origin number own old new
-made attaches meets origin old new number c says own is =
-    let same : c.own ≡ own = (let e : Some c.own ≡ Some own = sym c.by ∙ is in cc) in
-    subst (λ (o : Own). Changes attaches origin number o old new) same (record {
-      base = c.base.history;
-      before = c.grows.history;
-      mine = c.mine;
-      history = c.history;
-      pass = c.pass;
-      numbered = c.number_is ∙ ap length c.history ∙ length-append c.base.history (entry_of c.own.number (operation_for attaches origin ∷ []) ∷ []);
-      was = says (version_after applied (first_version new.seen) c.base.history)
-          (subst meets (ap (λ (o : Option (List Entry)). version_after applied (unwrap_or o []) c.base.history) (sym c.opening)) c.met);
-    })
 
 -- who knows of no less knows of the opening
 opened_told : (all part : Seen (List Entry) (List Operation)) → is_told part.opening ≡ true → IsPartOf all part → is_told all.opening ≡ true
@@ -66,13 +50,27 @@ changed_grows meets old new o number told c = part_more new.seen c.base old.seen
 
 -- ---- attached or detached, or not
 
-pub attach_ran : (origins : List Name) (zone : ℕ) (origin : Name) (old new : Known) (r : Result Receipt TableRefusal) → slice_get origins zone ≡ Some origin → is_told old.seen.opening ≡ true → Attaches origin old new r → ChangeRan origins true zone (version_told r) (cause_told r) old new
-attach_ran origins zone origin old new (Ok receipt) there told c = record {
+-- it was made
+made : (attaches : Bool) (origins : List Name) (zone : ℕ) (origin : Name) (old new : Known) (number : ℕ) → slice_get origins zone ≡ Some origin → is_told old.seen.opening ≡ true → IsChanged (λ es. IsOrNot (other attaches) es origin) old new (operation_for attaches origin) number → ChangeRan origins attaches zone number None old new
+made attaches origins zone origin old new number there told c = record {
   origin = origin;
   there = there;
-  grows = changed_grows (λ es. IsAttached es origin → ⊥) old new (operation_for true origin) receipt.version told c;
-  ends = λ own is. made true (λ es. IsAttached es origin → ⊥) origin old new receipt.version c (λ es h. h) own is;
+  grows = changed_grows (λ es. IsOrNot (other attaches) es origin) old new (operation_for attaches origin) number told c;
+  ends = λ own is.
+      let same : c.own ≡ own = (let e : Some c.own ≡ Some own = sym c.by ∙ is in cc) in
+      subst (λ (o : Own). Changes attaches origin number o old new) same (record {
+        base = c.base.history;
+        before = c.grows.history;
+        mine = c.mine;
+        history = c.history;
+        pass = c.pass;
+        numbered = c.number_is ∙ ap length c.history ∙ length-append c.base.history (entry_of c.own.number (operation_for attaches origin ∷ []) ∷ []);
+        was = subst (λ es. IsOrNot (other attaches) es origin) (ap (λ (o : Option (List Entry)). version_after applied (unwrap_or o []) c.base.history) (sym c.opening)) c.met;
+      });
 }
+
+pub attach_ran : (origins : List Name) (zone : ℕ) (origin : Name) (old new : Known) (r : Result Receipt TableRefusal) → slice_get origins zone ≡ Some origin → is_told old.seen.opening ≡ true → Attaches origin old new r → ChangeRan origins true zone (version_told r) (cause_told r) old new
+attach_ran origins zone origin old new (Ok receipt) there told c = made true origins zone origin old new receipt.version there told c
 attach_ran origins zone origin old new (Err (refusal.Exists number)) there told u =
     record { origin = origin; there = there; grows = u.grows; ends = (stays (λ es. IsAttached es origin) old new number u, refl, u.met) }
 attach_ran origins zone origin old new (Err (refusal.Missing number)) there told u = absurd u
@@ -80,12 +78,7 @@ attach_ran origins zone origin old new (Err (refusal.Spent number)) there told u
     record { origin = origin; there = there; grows = u.0.grows; ends = (stays (λ es. IsAttached es origin → ⊥) old new number u.0, u.1, u.0.met) }
 
 pub detach_ran : (origins : List Name) (zone : ℕ) (origin : Name) (old new : Known) (r : Result Receipt TableRefusal) → slice_get origins zone ≡ Some origin → is_told old.seen.opening ≡ true → Detaches origin old new r → ChangeRan origins false zone (version_told r) (cause_told r) old new
-detach_ran origins zone origin old new (Ok receipt) there told c = record {
-  origin = origin;
-  there = there;
-  grows = changed_grows (λ es. IsAttached es origin) old new (operation_for false origin) receipt.version told c;
-  ends = λ own is. made false (λ es. IsAttached es origin) origin old new receipt.version c (λ es h. h) own is;
-}
+detach_ran origins zone origin old new (Ok receipt) there told c = made false origins zone origin old new receipt.version there told c
 detach_ran origins zone origin old new (Err (refusal.Exists number)) there told u = absurd u
 detach_ran origins zone origin old new (Err (refusal.Missing number)) there told u =
     record { origin = origin; there = there; grows = u.grows; ends = (stays (λ es. IsAttached es origin → ⊥) old new number u, refl, u.met) }

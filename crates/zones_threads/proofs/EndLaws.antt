@@ -1,28 +1,19 @@
 -- How a run over several zones ends.
-use Rattle.std.proofs.Common.{◌≡◌, ◌∙◌, ℕ, ◌+◌, true, List, [], ◌∷◌, ◌++◌, length, map, Option, Some, refl, sym, ap, subst, arith, length-append}
-use Rattle.std.specs.Prelude.{Contains}
+use Rattle.std.proofs.Common.{◌≡◌, ◌∙◌, ℕ, true, List, [], ◌∷◌, ◌++◌, length, Some, refl, sym, ap, subst, arith}
 use Rattle.std.specs.List.{AllByRecursion, slice_get}
-use Rattle.std.proofs.lemmas.List.{map-append}
 use Rattle.std.proofs.lemmas.Option.{slice_get_within, get_or_from_slice_get}
 use Rattle.zone_model.specs.MasterFile.{Zone}
 use Rattle.zone_model.specs.Names.{Name}
 use Rattle.job_model.specs.Outcomes as one
-use Rattle.trie_model.specs.Shape.{nodes, keys_of}
-use Rattle.shared_cells.specs.declared.view.PassView.{PassView}
-use Rattle.shared_cells.specs.declared.view.Progress.TheVariants as progress
-use Rattle.shared_cells.specs.History.{StartsWith}
-use Rattle.shared_cells.specs.Views.{number_of, is_told, with_pinned, with_progress}
-use Rattle.qp_multi.specs.declared.meaning.Operation.{Operation}
+use Rattle.shared_cells.specs.Views.{is_told}
 use Rattle.qp_multi.specs.Closings.{AllSeen, AreAll, Ends}
 use Rattle.qp_multi.specs.Passes.{Known, Pinned, version_seen}
-use Rattle.job_commands.specs.Closings.{numbers_in}
-use Rattle.job_commands.specs.Histories.{IsLawful, OpenedWith, StandsAs}
+use Rattle.job_commands.specs.declared.closing.Last.{Last as Size}
+use Rattle.job_commands.specs.Closings.{Handed}
+use Rattle.job_commands.specs.Endings.{Measured}
+use Rattle.job_commands.specs.Histories.{OpenedWith, StandsAs}
 use Rattle.job_commands.specs.Runs.{IsRun}
-use Rattle.job_commands.proofs.CloseLaws.{in_map}
-use Rattle.job_commands.proofs.EndLaws.{job_ends, number_with, numbers_same, out_of}
-use Rattle.job_commands.proofs.HistoryLaws.{begins_more, opened_same}
-use Rattle.job_commands.proofs.JobLaws.{there}
-use Rattle.job_commands.proofs.WorkLaws.{all_weaker}
+use Rattle.job_commands.proofs.EndLaws.{handed_in, job_ends}
 use Rattle.zones_model.specs.Commands.{Command, origins_of}
 use Rattle.zones_model.specs.Outcomes as model
 use Rattle.zones_model.specs.Outcomes.{Last}
@@ -43,47 +34,32 @@ use Rattle.zones_threads.proofs.ZoneCloseLaws.{zone_lawful, zone_names, zone_tel
 
 -- ---- the table
 
-entries_with : (p : Option (PassView (List Operation))) (own : PassView (List Operation)) (n : ℕ) → p ≡ Some own → with_pinned p n ≡ Some (record own { pinned = own.pinned ++ n ∷ [] })
-entries_with p own n e = ap (λ (x : Option (PassView (List Operation))). with_pinned x n) e
-
 -- Main has asked for the table's last version, and all passes were handed in.
 pub table_ends : (b : TableOpenedWith) (before : List Known) (dones : List (List model.CommandEnd)) (views : List Known) (main after : Known) (number count version : ℕ) (last : AllSeen) → TableGathers b before dones views main → is_told main.seen.opening ≡ true → Pinned IsAmong main after number → AreApart b.origins
     → IsTable b.origins b.opening → length before ≡ count → AreAll count before → Ends count (views ++ after ∷ []) version last → TableEnd b.origins dones version (length (version_seen after.seen))
 table_ends b before dones views main after number count version last g told p apart table counted all ends =
-    let own : PassView (List Operation) = record g.own { pinned = g.own.pinned ++ number ∷ [] } in
-    let is_own : after.pass ≡ Some own = p.pass ∙ entries_with main.pass g.own number g.is_own in
+    let first = λ (w : TableWorker b). w.view in
+    let back = subst (λ (vs : List Known). Handed b.opening first before vs main g.done) g.views_are g.handed in
+    let h = handed_in b.opening first before (worker_views g.done) main after count number g.done back told p.grows p.pass counted all in
     let ended : Ends count (worker_views g.done ++ after ∷ []) version last = subst (λ (vs : List Known). Ends count (vs ++ after ∷ []) version last) g.views_are ends in
-    let as_many = g.as_many in
-    let views_long : length views ≡ length (worker_views g.done) = ap length g.views_are in
-    let long : length (worker_views g.done ++ after ∷ []) ≡ count = omega (arith, length-append (worker_views g.done) (after ∷ []), views_long, as_many, counted) in
-    let same : number_of main.pass ≡ number_of after.pass = sym (ap number_of p.pass ∙ number_with main.pass number) in
-    let every : AreAll count (worker_views g.done ++ after ∷ []) = λ n lt.
-    let a = all n lt in
-    let inside : Contains (numbers_in before) (n + 1) = subst (Contains (numbers_in before)) a.2 (in_map (λ (v : Known). number_of v.pass) before a.0 a.1) in
-    let back : Contains (numbers_in (worker_views g.done ++ after ∷ [])) (n + 1) = subst (λ (ks : List ℕ). Contains ks (n + 1)) (numbers_same (worker_views g.done) main after same) (g.all_back (n + 1) inside) in
-    out_of (λ (v : Known). number_of v.pass) (worker_views g.done ++ after ∷ []) (n + 1) back in
-    let c = table_closed b last after count version g.done own is_own g.none ended every long in
-    let learnt = all_weaker (λ (w : TableWorker b). StartsWith main.seen.history w.view.seen.history) (λ (w : TableWorker b). StartsWith after.seen.history w.view.seen.history) g.done
-    (λ w s. begins_more after.seen.history main.seen.history w.view.seen.history p.grows.history s) g.learnt in
-    let there' = ends_there b last.history after g.done own is_own g.none learnt c in
-    let opened = opened_same after.seen main.seen told p.grows ∙ g.opened in
-    let many = table_count b last.history after apart g.done own is_own g.none table c there' opened p.good in
+    let c = table_closed b last after count version g.done h.own h.is_own h.none ended h.all h.many in
+    let there' = ends_there b last.history after g.done h.own h.is_own h.none h.learnt c in
+    let many = table_count b last.history after apart g.done h.own h.is_own h.none table c there' h.opened p.good in
     subst (λ (ds : List (List model.CommandEnd)). TableEnd b.origins ds version (length (version_seen after.seen))) (sym g.dones_are)
-    (subst (λ (n : ℕ). TableEnd b.origins (dones_in g.done) n (length (version_seen after.seen))) (sym ended.version_is) (record { lawful = table_lawful b last.history after apart g.done own is_own g.none table c; attached_are = many }))
+    (subst (λ (n : ℕ). TableEnd b.origins (dones_in g.done) n (length (version_seen after.seen))) (sym ended.version_is) (record { lawful = table_lawful b last.history after apart g.done h.own h.is_own h.none table c; attached_are = many }))
 
 -- ---- a zone
 
 -- Main has asked for its last version, and all passes were handed in.
-pub zone_ends : (s : OpenedWith) (zone : Zone) (number : ℕ) (before : List Known) (ws : List (List Command)) (ds : List CommandEnds) (views : List Known) (main pinned after : Known) (asked count version names : ℕ) (last : AllSeen) → AllAreOf ws ds → ZoneGathers s number before ws ds views main
-    → is_told main.seen.opening ≡ true → Pinned IsLawful main pinned asked → after ≡ with_progress pinned progress.Idle → s.origin ≡ zone.origin → StandsAs s.opening zone.pairs → length before ≡ count → AreAll count before → Ends count (views ++ after ∷ []) version last
-    → names ≡ length (version_seen pinned.seen) → ZoneEnd s.chunks s.passes zone number version names ws ds
-zone_ends s zone number before ws ds views main pinned after asked count version names last are g told p left origin opens counted all ends names_are =
-    let run = job_ends s before (zone_commands number ws ds) g.outcomes views main pinned after asked g.gathers told p left zone.pairs count version names (nodes (keys_of (version_seen pinned.seen))) last opens counted all ends names_are refl in
-    let alone = subst (λ (o : Name). IsRun s.chunks s.passes o zone.pairs (zone_commands number ws ds) g.outcomes version names (nodes (keys_of (version_seen pinned.seen)))) origin run in
+pub zone_ends : (s : OpenedWith) (zone : Zone) (number : ℕ) (before : List Known) (ws : List (List Command)) (ds : List CommandEnds) (views : List Known) (main after : Known) (asked : Size) (count version : ℕ) (last : AllSeen) → AllAreOf ws ds → ZoneGathers s number before ws ds views main → is_told main.seen.opening ≡ true
+    → Measured main after asked → s.origin ≡ zone.origin → StandsAs s.opening zone.pairs → length before ≡ count → AreAll count before → Ends count (views ++ after ∷ []) version last → ZoneEnd s.chunks s.passes zone number version asked.names ws ds
+zone_ends s zone number before ws ds views main after asked count version last are g told m origin opens counted all ends =
+    let run = job_ends s before (zone_commands number ws ds) g.outcomes views main after asked g.gathers told m zone.pairs count version last opens counted all ends in
+    let alone = subst (λ (o : Name). IsRun s.chunks s.passes o zone.pairs (zone_commands number ws ds) g.outcomes version asked.names asked.nodes) origin run in
     record {
-      lawful = zone_lawful s.chunks s.passes zone.origin zone.pairs number version names (nodes (keys_of (version_seen pinned.seen))) ws ds g.outcomes are g.outcomes_are alone;
-      names_are = zone_names s.chunks s.passes zone.origin zone.pairs number version names (nodes (keys_of (version_seen pinned.seen))) ws ds g.outcomes are g.outcomes_are alone;
-      tells = zone_tells s.chunks s.passes zone.origin zone.pairs number version names (nodes (keys_of (version_seen pinned.seen))) ws ds g.outcomes are g.outcomes_are alone;
+      lawful = zone_lawful s.chunks s.passes zone.origin zone.pairs number version asked.names asked.nodes ws ds g.outcomes are g.outcomes_are alone;
+      names_are = zone_names s.chunks s.passes zone.origin zone.pairs number version asked.names asked.nodes ws ds g.outcomes are g.outcomes_are alone;
+      tells = zone_tells s.chunks s.passes zone.origin zone.pairs number version asked.names asked.nodes ws ds g.outcomes are g.outcomes_are alone;
     }
 
 -- ---- all of it
@@ -121,9 +97,3 @@ zones_run chunks zones ws ds last attached names are said table many named each 
       let e = each number zone there version count at is in
       e.names_are ∙ ap (λ (z : Zone). length (model.version_of z number (all_dones_view ws ds) version)) (sym (get_or_from_slice_get zones number zone no_zone there));
 }
-
--- ---- passes that are handed in
-
--- what is left and main's
-pub with_main : {A : Type 0} (known : A → Known) (passes all : List A) (main : A) → all ≡ passes ++ main ∷ [] → map known all ≡ map known passes ++ known main ∷ []
-with_main known passes all main is = ap (map known) is ∙ map-append known passes (main ∷ [])

@@ -1,11 +1,9 @@
 -- Workers that are done, one after another.
-use Rattle.std.proofs.Common.{◌≡◌, ◌∙◌, ⊎_elim, ℕ, ◌+◌, ◌<◌, ◌≤◌, Bool, true, false, cond, eqb, List, [], ◌∷◌, ◌++◌, length, map, Option, Some, None, Result, Ok, Err, IfOk, refl, sym, ap, subst, arith, length-append}
-use Rattle.std.specs.Prelude.{Contains, Vec}
+use Rattle.std.proofs.Common.{◌≡◌, ◌∙◌, ℕ, ◌+◌, ◌<◌, ◌≤◌, Bool, true, false, cond, eqb, List, [], ◌∷◌, ◌++◌, length, map, Option, Some, None, Result, Ok, Err, IfOk, refl, sym, ap, subst, arith, length-append}
+use Rattle.std.specs.Prelude.{Vec}
 use Rattle.std.specs.Global.{Global}
 use Rattle.std.specs.List.{slice_get}
-use Rattle.std.proofs.lemmas.List.{map-append, length-map}
-use Rattle.std.proofs.lemmas.List.Elements.{Contains-append_cases}
-use Rattle.pin_core.proofs.Lists.{contains_cases}
+use Rattle.std.proofs.lemmas.List.{length-map}
 use Rattle.zone_model.specs.Names.{Name}
 use Rattle.job_model.specs.Commands as jobs
 use Rattle.job_model.specs.declared.Question.{Question}
@@ -13,18 +11,14 @@ use Rattle.job_model.specs.declared.Question.TheVariants as question
 use Rattle.job_report.specs.declared.outcomes.Outcome.{Outcome}
 use Rattle.job_report.specs.declared.outcomes.Outcomes.{Outcomes}
 use Rattle.shared_cells.specs.declared.view.TableSize.{TableSize}
-use Rattle.shared_cells.specs.History.{StartsWith}
-use Rattle.shared_cells.specs.Views.{number_of, is_told}
+use Rattle.shared_cells.specs.Views.{is_told}
 use Rattle.qp_multi.specs.declared.meaning.Named.{Ghosts}
 use Rattle.qp_multi.specs.Passes.{Known, known_at, Learnt}
-use Rattle.job_commands.specs.Histories.{OpenedWith, Entries}
+use Rattle.job_commands.specs.Histories.{OpenedWith}
 use Rattle.job_commands.specs.Commands.{IsIndex, IsOpenedWith}
-use Rattle.job_commands.specs.Closings.{numbers_in}
+use Rattle.job_commands.specs.Closings.{Handed}
 use Rattle.job_commands.specs.Works.{only, IsNew, AreNew, WorkerRan, ended}
-use Rattle.job_commands.proofs.HistoryLaws.{begins_more, opened_same}
-use Rattle.job_commands.proofs.JobLaws.{here, there}
-use Rattle.job_commands.proofs.WorkLaws.{all_weaker}
-use Rattle.job_commands.proofs.GatherLaws.{gathers_main, gathers_server, numbers_append, numbers_main}
+use Rattle.job_commands.proofs.GatherLaws.{gathers_main, gathers_server, handed_main, handed_more, number_kept}
 use Rattle.zones_model.specs.Commands as model
 use Rattle.zones_model.specs.Commands.{Command}
 use Rattle.zones_model.specs.Outcomes as model_outcomes
@@ -37,7 +31,7 @@ use Rattle.zones_report.specs.declared.outcomes.Answer.{Answer}
 use Rattle.zones_report.specs.declared.outcomes.CommandEnd.{CommandEnd}
 use Rattle.zones_report.specs.declared.outcomes.CommandEnd.TheVariants as done
 use Rattle.zones_report.specs.declared.outcomes.CommandEnds.{CommandEnds}
-use Rattle.zones_threads.specs.Closings.{TableGathers, TableWorker, ZoneGathers, worker_views, zone_commands}
+use Rattle.zones_threads.specs.Closings.{TableGathers, TableWorker, ZoneGathers, zone_commands}
 use Rattle.zones_threads.specs.Views.{Part, answer_part, commands_of, outcomes_of, part_in, parts_in}
 use Rattle.zones_threads.specs.Works.{TableOpenedWith, TableWork}
 use Rattle.zone_table.proofs.PassLaws.{zone_seat}
@@ -88,22 +82,23 @@ zone_list zone w d = outcomes_from d.list (outcomes_of (parts_in zone w d.list.i
 
 -- ---- a zone's workers
 
-pub zone_starts : {A : Type 0} (passes front : List A) (main : A) (known : A → Known) (s : OpenedWith) (zone : ℕ) (ws : List (List Command)) (ds : List CommandEnds) → passes ≡ front ++ main ∷ [] → length passes ≡ 1 → ws ≡ [] → AreNew s.opening (map known passes)
-    → ZoneGathers s zone (map known passes) ws ds (map known front) (known main)
-zone_starts passes front main known s zone ws ds is long none new =
-    subst (λ (l : List (List Command)). ZoneGathers s zone (map known passes) l ds (map known front) (known main)) (sym none)
-    (record { outcomes = []; outcomes_are = refl; gathers = gathers_main passes front main known s [] [] is long refl refl new })
+pub zone_starts : (s : OpenedWith) (zone : ℕ) (before views : List Known) (main : Known) (ws : List (List Command)) (ds : List CommandEnds) → before ≡ main ∷ views → length before ≡ 1 → ws ≡ [] → AreNew s.opening before → ZoneGathers s zone before ws ds views main
+zone_starts s zone before views main ws ds is long none new =
+    subst (λ (l : List (List Command)). ZoneGathers s zone before l ds views main) (sym none)
+    (record { outcomes = []; outcomes_are = refl; gathers = gathers_main s before views main [] [] is long refl refl new })
 
-module _ {A : Type 0} (passes front : List A) (pass : A) (known : A → Known) (s : OpenedWith) (last : passes ≡ front ++ pass ∷ []) (new : AreNew s.opening (map known passes)) where
-  pub zone_more : (zone : ℕ) (origin : Name) (size : TableSize) → IsIndex s origin size → (ws : List (List Command)) (ds : List CommandEnds) (views : List Known) (main after pass' : Known) (w : List Command) (d : CommandEnds) → ZoneGathers s zone (map known front) ws ds views main
-      → ((n : ℕ) → IsOpenedWith s origin size (known pass) → IsNew n s.opening (known pass) → WorkerRan s (only n) (ended pass' (known pass)) (commands_of (parts_in zone w d.list.items)) (outcomes_of (parts_in zone w d.list.items))) → is_told main.seen.opening ≡ true → Learnt main after pass'.seen
-      → ZoneGathers s zone (map known passes) (w ∷ ws) (d ∷ ds) (pass' ∷ views) after
-  unfolding zone_list outcomes_from
-  zone_more zone origin size index ws ds views main after pass' w d g runs told l = record {
-    outcomes = zone_list zone w d ∷ g.outcomes;
-    outcomes_are = ap (λ (os : List (List Outcome)). outcomes_of (parts_in zone w d.list.items) ∷ os) g.outcomes_are;
-    gathers = gathers_server passes front pass known s last new origin size index (zone_commands zone ws ds) g.outcomes views main after pass' (commands_of (parts_in zone w d.list.items)) (zone_list zone w d) g.gathers runs told l;
-  }
+pub zone_more : (s : OpenedWith) (zone : ℕ) (origin : Name) (size : TableSize) → IsIndex s origin size → (all before : List Known) (pass : Known) (ws : List (List Command)) (ds : List CommandEnds) (views : List Known) (main after pass' : Known) (w : List Command) (d : CommandEnds) → all ≡ pass ∷ before → AreNew s.opening all
+    → (AreNew s.opening before → ZoneGathers s zone before ws ds views main)
+    → ((n : ℕ) → IsOpenedWith s origin size pass → IsNew n s.opening pass → WorkerRan s (only n) (ended pass' pass) (commands_of (parts_in zone w d.list.items)) (outcomes_of (parts_in zone w d.list.items))) → is_told main.seen.opening ≡ true → Learnt main after pass'.seen
+    → ZoneGathers s zone all (w ∷ ws) (d ∷ ds) (pass' ∷ views) after
+unfolding zone_list outcomes_from
+zone_more s zone origin size index all before pass ws ds views main after pass' w d is new rest runs told l =
+    let g = rest (subst (AreNew s.opening) is new).1 in
+    record {
+      outcomes = zone_list zone w d ∷ g.outcomes;
+      outcomes_are = ap (λ (os : List (List Outcome)). outcomes_of (parts_in zone w d.list.items) ∷ os) g.outcomes_are;
+      gathers = gathers_server s origin size index all before pass (zone_commands zone ws ds) g.outcomes views main after pass' (commands_of (parts_in zone w d.list.items)) (zone_list zone w d) is new (λ those. g.gathers) runs told l;
+    }
 
 -- by what was told of them
 pub zone_done : (s : OpenedWith) (zone : ℕ) (before : List Known) (ws : List (List Command)) (ds ds' : List CommandEnds) (views views' : List Known) (after : Known) → ds' ≡ ds → views' ≡ views → ZoneGathers s zone before ws ds views after
@@ -113,77 +108,26 @@ zone_done s zone before ws ds ds' views views' after is_done is_views gathers =
 
 -- ---- the table's workers
 
-pub table_starts : {A : Type 0} (passes front : List A) (main : A) (known : A → Known) (b : TableOpenedWith) (dones : List (List model_outcomes.CommandEnd)) → passes ≡ front ++ main ∷ [] → length passes ≡ 1 → dones ≡ [] → AreNew b.opening (map known passes)
-    → TableGathers b (map known passes) dones (map known front) (known main)
-table_starts passes [] main known b dones is long none new =
-    let first = subst (λ (l : List _). AreNew b.opening (map known l)) is new in
-    subst (λ (l : List _). TableGathers b (map known l) dones [] (known main)) (sym is)
-    (record {
-      done = [];
-      dones_are = none;
-      views_are = refl;
-      as_many = refl;
-      all_back = λ m c. c;
-      own = first.0.1.own;
-      is_own = first.0.1.is_own;
-      none = first.0.1.none;
-      opened = first.0.1.opened;
-      learnt = tt;
-    })
-table_starts passes (p ∷ front) main known b dones is long none new = absurd (omega (arith, long, ap length is, length-append front (main ∷ [])))
+pub table_starts : (b : TableOpenedWith) (before views : List Known) (main : Known) (dones : List (List model_outcomes.CommandEnd)) → before ≡ main ∷ views → length before ≡ 1 → dones ≡ [] → AreNew b.opening before → TableGathers b before dones views main
+table_starts b before views main dones is long none new =
+    let h = handed_main b.opening (λ (w : TableWorker b). w.view) before views main is long new in record { done = []; dones_are = none; views_are = h.0; handed = h.1 }
 
--- another worker, whose pass was the last one
-table_one : (b : TableOpenedWith) (before : List Known) (pass : Known) (dones : List (List model_outcomes.CommandEnd)) (views : List Known) (main after pass' : Known) (number : ℕ) (d : List model_outcomes.CommandEnd)
-    → TableGathers b before dones views main → TableWork b number pass' d → number_of pass.pass ≡ number_of pass'.pass → is_told main.seen.opening ≡ true → Learnt main after pass'.seen
-    → TableGathers b (before ++ pass ∷ []) (d ∷ dones) (pass' ∷ views) after
-table_one b before pass dones views main after pass' number d g work same told l =
+-- another worker, whose pass was the first one
+pub table_more : (b : TableOpenedWith) (all before : List Known) (pass : Known) (dones : List (List model_outcomes.CommandEnd)) (views : List Known) (main after pass' : Known) (d : List model_outcomes.CommandEnd) → all ≡ pass ∷ before → AreNew b.opening all → (AreNew b.opening before → TableGathers b before dones views main)
+    → ((n : ℕ) → IsNew n b.opening pass → TableWork b n pass' d) → is_told main.seen.opening ≡ true → Learnt main after pass'.seen → TableGathers b all (d ∷ dones) (pass' ∷ views) after
+table_more b all before pass dones views main after pass' d is new rest runs told l =
+    let n = subst (AreNew b.opening) is new in
+    let g = rest n.1 in
+    let work = runs n.0.0 n.0.1 in
+    let worker : TableWorker b = record { number = n.0.0; view = pass'; done = d; work = work } in
     record {
-      done = record { number = number; view = pass'; done = d; work = work } ∷ g.done;
+      done = worker ∷ g.done;
       dones_are = ap (λ (ls : List (List model_outcomes.CommandEnd)). d ∷ ls) g.dones_are;
       views_are = ap (λ (vs : List Known). pass' ∷ vs) g.views_are;
-      as_many = (let many = g.as_many in omega (arith, many, length-append before (pass ∷ [])));
-      all_back = λ m c.
-          ⊎_elim
-          (λ (old : Contains (numbers_in before) m).
-          there (number_of pass'.pass) m (numbers_in (worker_views g.done ++ after ∷ [])) (subst (λ (ks : List ℕ). Contains ks m) (numbers_main main after l.pass (worker_views g.done)) (g.all_back m old)))
-          (λ (new : Contains (number_of pass.pass ∷ []) m). ⊎_elim
-          (λ (is : number_of pass.pass ≡ m). subst (λ (k : ℕ). Contains (number_of pass'.pass ∷ numbers_in (worker_views g.done ++ after ∷ [])) k) (sym same ∙ is) (here (number_of pass'.pass) (numbers_in (worker_views g.done ++ after ∷ []))))
-          (λ (none : Contains [] m). absurd (let lt = none.1 in omega arith)) (contains_cases (number_of pass.pass) m [] new))
-          (Contains-append_cases (numbers_in before) (number_of pass.pass ∷ []) m (subst (λ (ks : List ℕ). Contains ks m) (numbers_append before (pass ∷ [])) c));
-      own = g.own;
-      is_own = l.pass ∙ g.is_own;
-      none = g.none;
-      opened = opened_same after.seen main.seen told l.grows ∙ g.opened;
-      learnt = (
-        l.learns.history,
-        all_weaker (λ (u : TableWorker b). StartsWith main.seen.history u.view.seen.history) (λ (u : TableWorker b). StartsWith after.seen.history u.view.seen.history) g.done
-            (λ u h. begins_more after.seen.history main.seen.history u.view.seen.history l.grows.history h) g.learnt,
-      );
+      handed = subst (λ (vs : List Known). Handed b.opening (λ (w : TableWorker b). w.view) vs (pass' ∷ views) after (worker ∷ g.done)) (sym is)
+          (handed_more b.opening (λ (w : TableWorker b). w.view) before views (pass ∷ []) (pass' ∷ []) main after g.done worker g.handed refl
+          (ap (λ (k : ℕ). k ∷ []) (number_kept b.opening n.0.0 pass pass' work.asker n.0.1 work.is_asker work.numbered)) told l);
     }
-
-new_split : (opening : Entries) (xs ys : List Known) → AreNew opening (xs ++ ys) → AreNew opening xs × AreNew opening ys
-new_split opening [] ys new = (tt, new)
-new_split opening (x ∷ xs) ys new = let more = new_split opening xs ys new.1 in ((new.0, more.0), more.1)
-
-module _ {A : Type 0} (passes front : List A) (pass : A) (known : A → Known) (opening : Entries) (last : passes ≡ front ++ pass ∷ []) (new : AreNew opening (map known passes)) where
-  views_with : map known passes ≡ map known front ++ known pass ∷ []
-  views_with = ap (map known) last ∙ map-append known front (pass ∷ [])
-
-  parts_with : AreNew opening (map known front) × AreNew opening (known pass ∷ [])
-  parts_with = new_split opening (map known front) (known pass ∷ []) (subst (AreNew opening) views_with new)
-
-  pub front_new : AreNew opening (map known front)
-  front_new = parts_with.0
-
-  pub table_more : (b : TableOpenedWith) → b.opening ≡ opening → (dones : List (List model_outcomes.CommandEnd)) (views : List Known) (main after pass' : Known) (d : List model_outcomes.CommandEnd) → TableGathers b (map known front) dones views main
-      → ((n : ℕ) → IsNew n b.opening (known pass) → TableWork b n pass' d) → is_told main.seen.opening ≡ true → Learnt main after pass'.seen → TableGathers b (map known passes) (d ∷ dones) (pass' ∷ views) after
-  table_more b opens dones views main after pass' d g runs told l =
-      let number = parts_with.1.0.0 in
-      let one = parts_with.1.0.1 in
-      let work = runs number (subst (λ (o : Entries). IsNew number o (known pass)) (sym opens) one) in
-      subst (λ (vs : List Known). TableGathers b vs (d ∷ dones) (pass' ∷ views) after) (sym views_with)
-      (table_one b (map known front) (known pass) dones views main after pass' number d g work
-      (ap number_of one.is_own ∙ ap (λ (n : ℕ). n + 1) (one.numbered ∙ sym work.numbered) ∙ sym (ap number_of work.is_asker)) told l)
 
 pub table_done : (b : TableOpenedWith) (before : List Known) (ds ds' : List (List model_outcomes.CommandEnd)) (views views' : List Known) (after : Known) → ds' ≡ ds → views' ≡ views → TableGathers b before ds views after → TableGathers b before ds' views' after
 table_done b before ds ds' views views' after is_done is_views gathers =

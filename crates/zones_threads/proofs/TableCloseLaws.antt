@@ -1,5 +1,5 @@
 -- What all workers together have made of the table.
-use Rattle.std.proofs.Common.{◌≡◌, ◌∙◌, ◌≢◌, inl, inr, ℕ, zero, suc, ◌+◌, ◌-◌, ◌<◌, ◌≤◌, Bool, true, false, cond, eqb, List, [], ◌∷◌, ◌++◌, length, Option, Some, None, refl, sym, ap, subst, arith, eq-eqb}
+use Rattle.std.proofs.Common.{◌≡◌, ◌∙◌, ◌≢◌, inl, inr, ℕ, zero, suc, ◌+◌, ◌-◌, ◌<◌, ◌≤◌, Bool, true, false, cond, eqb, List, [], ◌∷◌, ◌++◌, length, map, Option, Some, None, refl, sym, ap, subst, arith}
 use Rattle.std.specs.Prelude.{Contains}
 use Rattle.std.specs.Option.{option_map}
 use Rattle.std.specs.List.{AllByRecursion, slice_get}
@@ -16,7 +16,7 @@ use Rattle.job_commands.specs.Closings.{Some', AreApart as NumbersApart, IsPass,
 use Rattle.job_commands.specs.Histories.{Commit, Entries, index_at, times_by}
 use Rattle.job_commands.proofs.CloseLaws.{all_rec, apart, none_entries, part_entries, pass_of, seen_all, some_of}
 use Rattle.job_commands.proofs.HistoryLaws.{begins_more, begins_length, index_last, times_front, times_past}
-use Rattle.job_commands.proofs.JobLaws.{Author, HasEntries, all-append, author_of, no_commits, nothing_past, number_in}
+use Rattle.job_commands.proofs.JobLaws.{Author, HasEntries, all-append, author_of, no_commits, nothing_past, number_in, total, total_one}
 use Rattle.job_commands.proofs.WorkLaws.{all_weaker}
 use Rattle.zones_model.specs.Outcomes as model
 use Rattle.zones_model.specs.Tables.{Change, Attaches, Detaches, attached_after, attached_count}
@@ -70,9 +70,8 @@ module _ (b : TableOpenedWith) (history : List Commit) (main : Known) where
   abbrev Sees : Known → Type 0
   Sees v = StartsWith history v.seen.history
 
-  abbrev total : ℕ → List (TableWorker b) → ℕ
-  total t [] = 0
-  total t (w ∷ ws) = times_by w.number t history + total t ws
+  abbrev numbers : List (TableWorker b) → List ℕ
+  numbers ws = map (λ (w : TableWorker b). w.number) ws
 
   abbrev Made : List (TableWorker b) → List model.CommandEnd
   Made ws = model.all_done (dones_in ws)
@@ -85,71 +84,38 @@ module _ (b : TableOpenedWith) (history : List Commit) (main : Known) where
       ∙ sym (times_front k.asker.number t history k.committed (begins_more history w.view.seen.history k.committed sees k.front) (sym all ∙ k.mine))
       ∙ ap (λ (m : ℕ). times_by m t history) k.numbered
 
-  all_times : (ws : List (TableWorker b)) (t : ℕ) → AllByRecursion (HasEntries history) (Views ws) → AllByRecursion Sees (Views ws) → model.times_made t (Made ws) ≡ total t ws
+  all_times : (ws : List (TableWorker b)) (t : ℕ) → AllByRecursion (HasEntries history) (Views ws) → AllByRecursion Sees (Views ws) → model.times_made t (Made ws) ≡ total history t (numbers ws)
   all_times [] t e s = refl
   all_times (w ∷ ws) t e s =
       times-append t w.done (Made ws)
       ∙ ap (λ (k : ℕ). k + model.times_made t (Made ws)) (whole_times w t e.0 s.0)
       ∙ ap (λ (k : ℕ). times_by w.number t history + k) (all_times ws t e.1 s.1)
 
-  abbrev Among : ℕ → List (TableWorker b) → Type 0
-  Among author ws = Some' (λ (w : TableWorker b). w.number ≡ author) ws
-
-  among : (ws : List (TableWorker b)) (t : ℕ) (a : Author history t) (own : Own) → main.pass ≡ Some own → own.entries ≡ [] → AllByRecursion (HasEntries history) (Views ws) → Some' (IsPass a.commit.author) (Views ws) → Among a.commit.author ws
+  among : (ws : List (TableWorker b)) (t : ℕ) (a : Author history t) (own : Own) → main.pass ≡ Some own → own.entries ≡ [] → AllByRecursion (HasEntries history) (Views ws) → Some' (IsPass a.commit.author) (Views ws) → Some' (λ n. n ≡ a.commit.author) (numbers ws)
   among [] t a own is none e (inl pass) = absurd (no_commits history t main own a is none e.0 pass)
   among [] t a own is none e (inr more) = absurd more
   among (w ∷ ws) t a own is none e (inl pass) = inl (sym w.work.numbered ∙ ap number_in (sym w.work.is_asker ∙ pass.1) ∙ pass.2)
   among (w ∷ ws) t a own is none e (inr more) = inr (among ws t a own is none e.1 more)
 
-  none_else : (ws : List (TableWorker b)) (t : ℕ) (a : Author history t) → AllByRecursion (λ (w : TableWorker b). w.number ≢ a.commit.author) ws → total t ws ≡ 0
-  none_else [] t a others = refl
-  none_else (w ∷ ws) t a others =
-      let no : eqb a.commit.author w.number ≡ false = (let m = others.0 in grind (arith, nat_tests)) in
-      let none : times_by w.number t history ≡ 0 = a.times w.number ∙ ap (λ (x : Bool). cond x 1 0) no in
-      let rest : total t ws ≡ 0 = none_else ws t a others.1 in
-      omega (arith, none, rest)
-
-  abbrev Apart : List (TableWorker b) → Type 0
-  Apart [] = Unit {0}
-  Apart (w ∷ ws) = AllByRecursion (λ (v : TableWorker b). w.number ≢ v.number) ws × Apart ws
-
-  differs : (number author : ℕ) (vs : List (TableWorker b)) → Among author vs → AllByRecursion (λ (v : TableWorker b). number ≢ v.number) vs → number ≢ author
-  differs number author [] one_of others = absurd one_of
-  differs number author (v ∷ vs) (inl e) others = λ h. others.0 (h ∙ sym e)
-  differs number author (v ∷ vs) (inr further) others = differs number author vs further others.1
-
-  total_one : (ws : List (TableWorker b)) (t : ℕ) (a : Author history t) → Among a.commit.author ws → Apart ws → total t ws ≡ 1
-  total_one [] t a one_of apart = absurd one_of
-  total_one (w ∷ ws) t a (inl same) apart =
-      let one : times_by w.number t history ≡ 1 = a.times w.number ∙ ap (λ (x : Bool). cond x 1 0) (eq-eqb a.commit.author w.number (sym same)) in
-      let rest : total t ws ≡ 0 = none_else ws t a (all_weaker (λ (v : TableWorker b). w.number ≢ v.number) (λ (v : TableWorker b). v.number ≢ a.commit.author) ws (λ v differ e. differ (same ∙ sym e)) apart.0) in
-      omega (arith, one, rest)
-  total_one (w ∷ ws) t a (inr more) apart =
-      let m : w.number ≢ a.commit.author = differs w.number a.commit.author ws more apart.0 in
-      let no : eqb a.commit.author w.number ≡ false = grind (arith, nat_tests) in
-      let none : times_by w.number t history ≡ 0 = a.times w.number ∙ ap (λ (x : Bool). cond x 1 0) no in
-      let rest : total t ws ≡ 1 = total_one ws t a more apart.1 in
-      omega (arith, none, rest)
-
   worker_number : (w : TableWorker b) → number_of w.view.pass ≡ w.number + 1
   worker_number w = ap number_of w.work.is_asker ∙ ap (λ (i : ℕ). i + 1) w.work.numbered
 
-  others_apart : (w : TableWorker b) (ws : List (TableWorker b)) → AllByRecursion (λ (y : ℕ). number_of w.view.pass ≢ y) (numbers_in (Views ws)) → AllByRecursion (λ (v : TableWorker b). w.number ≢ v.number) ws
+  others_apart : (w : TableWorker b) (ws : List (TableWorker b)) → AllByRecursion (λ (y : ℕ). number_of w.view.pass ≢ y) (numbers_in (Views ws)) → AllByRecursion (λ n. w.number ≢ n) (numbers ws)
   others_apart w [] a = tt
   others_apart w (v ∷ vs) a = ((λ e. a.0 (worker_number w ∙ ap (λ (i : ℕ). i + 1) e ∙ sym (worker_number v))), others_apart w vs a.1)
 
-  apart_numbers : (ws : List (TableWorker b)) → NumbersApart (numbers_in (Views ws)) → Apart ws
+  apart_numbers : (ws : List (TableWorker b)) → NumbersApart (numbers_in (Views ws)) → NumbersApart (numbers ws)
   apart_numbers [] a = tt
   apart_numbers (w ∷ ws) a = (others_apart w ws a.0, apart_numbers ws a.1)
 
   pub made_once : (ws : List (TableWorker b)) (own : Own) → main.pass ≡ Some own → own.entries ≡ [] → TableClosed (Views ws) history → (t : ℕ) → 0 < t → t ≤ length history → model.times_made t (Made ws) ≡ 1
   made_once ws own is none c t some le =
       let a = author_of history t some le in
-      all_times ws t c.entries c.begins ∙ total_one ws t a (among ws t a own is none c.entries (c.authors a.commit a.inside)) (apart_numbers ws c.apart)
+      all_times ws t c.entries c.begins ∙ total_one history t (numbers ws) a (among ws t a own is none c.entries (c.authors a.commit a.inside)) (apart_numbers ws c.apart)
 
   -- ---- the history ends with what main has seen
 
-  beyond : (ws : List (TableWorker b)) (t most : ℕ) → AllByRecursion (HasEntries history) (Views ws) → AllByRecursion Sees (Views ws) → AllByRecursion (λ (w : TableWorker b). length w.view.seen.history ≤ most) ws → most < t → total t ws ≡ 0
+  beyond : (ws : List (TableWorker b)) (t most : ℕ) → AllByRecursion (HasEntries history) (Views ws) → AllByRecursion Sees (Views ws) → AllByRecursion (λ (w : TableWorker b). length w.view.seen.history ≤ most) ws → most < t → total history t (numbers ws) ≡ 0
   beyond [] t most e s l past = refl
   beyond (w ∷ ws) t most e s l past =
       let k = w.work in
@@ -157,7 +123,7 @@ module _ (b : TableOpenedWith) (history : List Commit) (main : Known) where
       let long = l.0 in
       let beyond_it : length k.committed < t = omega (arith, short, long, past) in
       let none : times_by w.number t history ≡ 0 = sym (whole_times w t e.0 s.0) ∙ k.made t ∙ times_past k.asker.number t k.committed beyond_it in
-      let rest : total t ws ≡ 0 = beyond ws t most e.1 s.1 l.1 past in
+      let rest : total history t (numbers ws) ≡ 0 = beyond ws t most e.1 s.1 l.1 past in
       omega (arith, none, rest)
 
   main_sees : (ws : List (TableWorker b)) → AllByRecursion Sees (Views ws) → Sees main

@@ -1,16 +1,12 @@
 -- What is known when all workers of several zones are done.
-use Rattle.std.specs.Prelude.{◌≡◌, ℕ, ◌+◌, List, [], ◌∷◌, ◌++◌, length, map, Some, Contains}
-use Rattle.std.specs.List.{AllByRecursion}
+use Rattle.std.specs.Prelude.{◌≡◌, ℕ, List, [], ◌∷◌, map}
 use Rattle.job_model.specs.Commands as jobs
 use Rattle.job_report.specs.declared.outcomes.Outcome.{Outcome}
 use Rattle.job_report.specs.declared.outcomes.Outcomes.{Outcomes}
-use Rattle.shared_cells.specs.declared.view.PassView.{PassView}
-use Rattle.shared_cells.specs.History.{StartsWith}
 use Rattle.qp_multi.specs.declared.meaning.Named.{Ghosts}
-use Rattle.qp_multi.specs.declared.meaning.Operation.{Operation}
-use Rattle.qp_multi.specs.Passes.{Known, first_version}
+use Rattle.qp_multi.specs.Passes.{Known}
 use Rattle.job_commands.specs.Histories.{OpenedWith}
-use Rattle.job_commands.specs.Closings.{Gathers, numbers_in}
+use Rattle.job_commands.specs.Closings.{Gathers, Handed}
 use Rattle.zones_model.specs.Commands.{Command}
 use Rattle.zones_model.specs.Outcomes as model
 use Rattle.zone_table.specs.declared.pass.ZonesPass.{ZonesPass}
@@ -62,16 +58,9 @@ worker_views ws = map (λ w. w.view) ws
 abbrev pub dones_in : {b : TableOpenedWith} → List (TableWorker b) → List (List model.CommandEnd)
 dones_in ws = map (λ w. w.done) ws
 
--- Passes of the table were given to workers, and one to main. All are back, and main has changed nothing and has learnt what the others have
--- seen.
+-- Workers had passes of the table, and their commands came to this.
 pub record TableGathers (b : TableOpenedWith) (before : List Known) (dones : List (List model.CommandEnd)) (views : List Known) (main : Known) : Type 0 where
   pub done : List (TableWorker b)
   pub dones_are : dones ≡ dones_in done
   pub views_are : views ≡ worker_views done
-  pub as_many : length before ≡ length views + 1
-  pub all_back : (m : ℕ) → Contains (numbers_in before) m → Contains (numbers_in (worker_views done ++ main ∷ [])) m
-  pub own : PassView (List Operation)
-  pub is_own : main.pass ≡ Some own
-  pub none : own.entries ≡ []
-  pub opened : first_version main.seen ≡ b.opening
-  pub learnt : AllByRecursion (λ (w : TableWorker b). StartsWith main.seen.history w.view.seen.history) done
+  pub handed : Handed b.opening (λ (w : TableWorker b). w.view) before views main done

@@ -1,26 +1,11 @@
 //! How large each zone is, when all workers are done.
-ghost use Rattle.std.specs.Prelude.{◌≡◌, ◌≢◌, ◌<◌, ℕ, Some, IfOk, IsSome, length, slice_get};
-ghost use Rattle.zones_threads.specs.Prelude.{known_at, IsPassOf, table_known, zone_known, Counted};
+ghost use Rattle.std.specs.Prelude.{◌≡◌, ◌≢◌, ◌<◌, ℕ, Some, IfOk, length, slice_get};
+ghost use Rattle.zones_threads.specs.Prelude.{IsPassOf, table_known, zone_known, Counted};
 
-use job_commands::ZoneLaw;
-use qp_multi::{Index, Named, Pass};
+use job_commands::{ZoneLaw, measure};
+use qp_multi::Named;
 use std::alloc::{AllocError, Global};
-use trie_read::Reading;
 use zone_table::{Zones, ZonesPass};
-
-// How many names the current version has. It is pinned meanwhile.
-fn count_names<N: Named>(index: &Index<ZoneLaw, N>, pass: &mut Pass<N>) -> u64
-    requires here { IsSome pass.old.seat }
-    requires place { pass.old.place ≡ index.now.place }
-    ensures here { IsSome pass.new.seat }
-    ensures place { pass.new.place ≡ pass.old.place }
-    ensures counted { Counted (known_at pass.old.seat) (known_at pass.new.seat) result }
-{
-    let mut query = pass.query(index);
-    let names = query.count();
-    drop(query);
-    names
-}
 
 // How many names the current version of a zone has.
 fn names_in<N: Named>(zones: &Zones<ZoneLaw, N>, pass: &mut ZonesPass<N>, zone: u32) -> u64
@@ -32,7 +17,7 @@ fn names_in<N: Named>(zones: &Zones<ZoneLaw, N>, pass: &mut ZonesPass<N>, zone: 
 {
     let index = zones.zone(zone);
     let place = pass.zone(zones, zone);
-    count_names(index, place)
+    measure(index, place).names
 }
 
 /// How many names the current version of each zone has, in the order of their numbers.

@@ -1,9 +1,9 @@
 //! All workers, each in a thread of its own where one can be started.
-ghost use Rattle.std.specs.Prelude.{◌≡◌, ◌<◌, ℕ, List, All, IfOk, None, Some, length, map, slice_get};
+ghost use Rattle.std.specs.Prelude.{◌≡◌, ◌<◌, ℕ, List, All, IfOk, Some, length, slice_get};
 ghost use Rattle.zones_threads.specs.Prelude.{Zone, origins_of, IsSync, Learnt, AreHeard, IsPassOf};
 ghost use Rattle.zones_threads.specs.Prelude.{table_known, zone_known, AllHeard, table_views, zone_views, AreGathered};
 ghost use Rattle.zones_threads.specs.Prelude.{HasWorked, MayRun, MayWork, last_of, IsZonesRun, TableBegins, ZoneBegins};
-ghost use Rattle.zones_threads.specs.Prelude.{IsSite, Site, command_view, worker_view, workers_view, AreApart, CanStart, StandsInFront};
+ghost use Rattle.zones_threads.specs.Prelude.{IsSite, Site, worker_view, workers_view, AreApart, CanStart, StandsInFront};
 
 use crate::ending::close_zones;
 use crate::worker::{Ended, run_worker};
@@ -15,7 +15,7 @@ use std::sync::Wait;
 use std::thread::{Threads, join};
 use zone_table::{Zones, ZonesPass};
 use zones_report::{CommandEnds, ZonesFinished};
-use zones_script::{Command, Worker};
+use zones_script::Worker;
 
 // What became of workers. All passes are back; main's has learnt what they have seen.
 #[derive(Drop)]
@@ -56,22 +56,7 @@ fn with_ended<N: Named>(
     Ok(Gathered { done, passes, main })
 }
 
-// A worker's way to its commands.
-fn turnstile_of<'a, R: Wait, G: Gate>(
-    rt: &'a R,
-    gate: &'a G,
-    number: u32,
-    worker: &'a Worker,
-) -> Turnstile<'a, R, Command, G>
-    ensures gate { result.gate.now ≡ gate.now }
-    ensures number { result.worker ≡ number }
-    ensures commands { map command_view result.commands.now ≡ worker_view worker.now }
-    ensures fresh { (result.entered ≡ None) × (result.told ≡ 0) }
-{
-    Turnstile::new(rt, gate, number, &worker.commands)
-}
-
-// Runs the workers beside each other, from the one of a number on. Each has one of the passes, from the end on, and main the first.
+// Runs the workers beside each other, from the one of a number on. Each has the next of the passes, and main the last.
 #[cycle(workers)]
 fn run_workers<R: Threads + Wait + Sync, N: Named + Send + Sync, G: Gate>(
     rt: &R,
@@ -86,10 +71,7 @@ fn run_workers<R: Threads + Wait + Sync, N: Named + Send + Sync, G: Gate>(
     ensures gathered { IfOk result (λ g. AreGathered zones.now passes.items (workers_view workers.now) g.done.items g.passes.items g.main) }
     ensures heard { IfOk result (λ _. AllHeard (G.hears gate.now) number (workers_view workers.now)) }
 {
-    let Some(pass) = passes.pop() else {
-        // There is one for each worker, and one.
-        unreachable!();
-    };
+    let pass = passes.remove(0);
     let Some((worker, others)) = workers.split_first() else {
         return Ok(Gathered {
             done: Vec::new(alloc),
@@ -103,7 +85,7 @@ fn run_workers<R: Threads + Wait + Sync, N: Named + Send + Sync, G: Gate>(
         ensures done { IfOk result (λ e. HasWorked zones.entry.now pass e.pass (worker_view worker.entry.now) e.done.list.items) }
         ensures heard { IfOk result (λ _. AreHeard (G.hears gate.entry.now) number (length (worker_view worker.entry.now))) }
     {
-        let mut turnstile = turnstile_of(rt, gate, number, worker);
+        let mut turnstile = Turnstile::new(rt, gate, number, &worker.commands);
         run_worker(alloc, zones, &mut turnstile, pass)
     };
     let rest = move || -> Result<Gathered<N>, AllocError>

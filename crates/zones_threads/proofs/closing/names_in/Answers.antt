@@ -8,10 +8,10 @@ pub returns : goal.returns
 returns g c =
     let origins = c.args.zones.now.origins.items in
     let seat = c.zone-place.result.now in
-    let next = c.count_names.new.pass in
-    let w = went origins c.args.pass.now c.args.zone seat next c.requires.pass c.zone-place.ensures.value c.count_names.ensures.here c.count_names.ensures.place in
+    let next = c.measure.new.pass in
+    let w = went origins c.args.pass.now c.args.zone seat next c.requires.pass c.zone-place.ensures.value c.measure.ensures.here c.measure.ensures.place in
     record {
       pass = w.pass;
       others = (refl {a = table_known c.args.pass.now}, w.others);
-      counted = went_as (λ v x. Counted v x c.count_names.result) origins c.args.pass.now c.args.zone seat next w c.zone-place.ensures.known c.count_names.ensures.counted;
+      counted = went_as (λ v x. Counted v x c.measure.result.names) origins c.args.pass.now c.args.zone seat next w c.zone-place.ensures.known (c.measure.result, c.measure.ensures.measured, refl);
     }

@@ -4,14 +4,14 @@ use Rattle.std.specs.List.{slice_get}
 use Rattle.std.proofs.lemmas.Option.{slice_get_within}
 use Rattle.qp_multi.specs.Closings.{AreAll, Ends}
 use Rattle.qp_multi.specs.Passes.{Known, Pinned, known_at, version_seen}
-use Rattle.job_commands.proofs.EndLaws.{all_handed}
+use Rattle.job_commands.proofs.EndLaws.{all_handed, with_main}
 use Rattle.zone_table.specs.Passes.{IsPassOf, table_known, zone_known}
 use Rattle.zone_table.specs.Tables.{IsAmong}
 use Rattle.zone_table.proofs.KnownLaws.{seat_told}
 use Rattle.zones_threads.specs.Closings.{table_views, zone_views}
-use Rattle.zones_threads.specs.Endings.{TableEnd}
+use Rattle.zones_threads.specs.Endings.{TableEnd, ZoneEnd}
 use Rattle.zones_threads.specs.Visits.{Counted}
-use Rattle.zones_threads.proofs.EndLaws.{table_ends, zone_ends, with_main}
+use Rattle.zones_threads.proofs.EndLaws.{table_ends, zone_ends}
 use Rattle.zone_table.proofs.PassLaws.{zone_told}
 use Rattle.zones_threads.proofs.ending.close_zones.Goals as goal
 
@@ -45,8 +45,8 @@ returns-clause-zones g c = λ site version names is at counted_at s zone before 
     let count = is.index.shared.table.shared.key.passes in
     let ended = c.in_ok-numbers.ensures.zones n is.index is.there in
     let same : version ≡ slice_index c.in_ok-numbers.numbers (n + 1) = c.in_ok-versions.ensures.each n version at in
-    zone_ends s zone n before ws ds (zone_views n c.args.passes.items) (zone_known c.args.main n) visit.pinned (zone_known main n) visit.number count version names ended.0 are gathers
-    (zone_told origins c.args.main c.requires.main n lt) visit.took visit.left origin opens (counted ∙ ap (λ z. z.passes) is.size) (subst (λ z. AreAll z.passes before) is.size all)
+    subst (λ (m : ℕ). ZoneEnd s.chunks s.passes zone n version m ws ds) visit.2
+    (zone_ends s zone n before ws ds (zone_views n c.args.passes.items) (zone_known c.args.main n) (zone_known main n) visit.0 count version ended.0 are gathers
+    (zone_told origins c.args.main c.requires.main n lt) visit.1 origin opens (counted ∙ ap (λ z. z.passes) is.size) (subst (λ z. AreAll z.passes before) is.size all)
     (subst (λ (m : ℕ). Ends count (zone_views n c.args.passes.items ++ zone_known main n ∷ []) m ended.0) (sym same)
-    (subst (λ (vs : List Known). Ends count vs (slice_index c.in_ok-numbers.numbers (n + 1)) ended.0) views ended.1))
-    visit.names_are
+    (subst (λ (vs : List Known). Ends count vs (slice_index c.in_ok-numbers.numbers (n + 1)) ended.0) views ended.1)))
