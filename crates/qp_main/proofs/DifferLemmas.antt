@@ -1,5 +1,5 @@
 -- What makes of a zone another one is due.
-use Rattle.std.proofs.Common.{◌≡◌, ◌∙◌, ℕ, ◌+◌, ◌^◌, ◌≤◌, Bool, true, false, cond, eqb, List, [], ◌∷◌, length, map, sym, ap, subst, arith, Result, Ok, Err}
+use Rattle.std.proofs.Common.{◌≡◌, ◌∙◌, ℕ, ◌+◌, ◌^◌, ◌≤◌, Bool, true, false, cond, eqb, List, [], ◌∷◌, length, sym, ap, subst, arith, Result, Ok}
 use Rattle.std.specs.List.{position_or_len, slice_split}
 use Rattle.std.specs.Str.Lines.{lines_of_parts}
 use Rattle.std.proofs.lemmas.List.{length-drop, length-take}
@@ -14,13 +14,10 @@ use Rattle.zone_model.specs.MasterFile.{zone_of}
 use Rattle.job_model.specs.Jobs.{is_cut, list_of, script_lines, script_start, zone_lines}
 use Rattle.master_file.specs.Rows.{CanBeDumped}
 use Rattle.zone_diff.specs.Blocks.{blocks}
-use Rattle.zone_diff.specs.Commands.{committed}
 use Rattle.zone_diff.specs.Differences.{difference, made}
 use Rattle.zone_diff.specs.Texts.{text_in}
 use Rattle.zone_diff.specs.declared.DiffStyle.{DiffStyle}
-use Rattle.zone_diff.specs.declared.DiffStyle.TheVariants.{Script}
 use Rattle.zone_diff.specs.declared.Serial.{Serial}
-use Rattle.zone_diff.specs.declared.Serial.TheVariants.{Keep}
 use Rattle.zone_diff.proofs.BlockLaws.{all_taken}
 use Rattle.zone_diff.proofs.CountLemmas.{blocks_few, difference_few, in_version}
 use Rattle.zone_diff.proofs.ReadCounts.{zone_few}

@@ -1,12 +1,10 @@
 -- What an input of several zones says, as files of octets say it.
-use Rattle.std.proofs.Common.{◌≡◌, ◌+◌, ℕ, Bool, true, false, cond, eqb, ltb, List, [], ◌∷◌, ◌++◌, length, Option, Some, None, Result, Ok, Err, IfOk, refl, ap, subst, arith}
+use Rattle.std.proofs.Common.{◌≡◌, ◌+◌, ℕ, Bool, true, false, cond, eqb, ltb, List, [], ◌∷◌, ◌++◌, length, Option, Some, None, Result, Ok, Err, IfOk, refl, subst, arith}
 use Rattle.std.specs.List.{AllByRecursion, list_any}
 use Rattle.zone_model.specs.Names.{Name, IsName, same_name}
 use Rattle.zone_model.specs.Lines.{lines_of}
-use Rattle.zone_model.specs.Refusals.{Refused}
 use Rattle.zone_model.specs.Tokens.{EntryTokens, Scan, Token, entry_from, entry_of, fresh, line_tokens, refused}
 use Rattle.zone_model.specs.MasterFile.{Zone, zone_at, name_word, required}
-use Rattle.zone_model.specs.declared.ZoneKind.{ZoneKind}
 use Rattle.zone_model.specs.declared.ZoneKind.TheVariants.{BadName, BadToken, OpenParen, Repeated, TooManyZones}
 use Rattle.dns_name.proofs.BodyLemmas.{all_push}
 use Rattle.report_laws.specs.Octets.{AllOctets}

@@ -1,5 +1,5 @@
 -- What is so of a session, by why it ended early and what was written then.
-use Rattle.std.proofs.Common.{◌≡◌, ◌⊎◌, ℕ, Bool, true, false, cond, List, [], ◌++◌, append-nil, Option, Some, None, Result, Ok, Err, refl, sym, ap, inl, inr, subst}
+use Rattle.std.proofs.Common.{◌≡◌, ℕ, Bool, true, false, cond, List, [], ◌++◌, append-nil, Option, Some, None, refl, sym, inl, inr, subst}
 use Rattle.zone_model.specs.Names.{Name}
 use Rattle.outer_io.specs.Bytes.{Grows, GrowsByFront, Held}
 use Rattle.outer_io.proofs.GrowsLemmas.{Grows-nil, Grows-trans}

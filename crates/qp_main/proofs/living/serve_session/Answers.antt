@@ -1,4 +1,3 @@
-use Rattle.std.proofs.Common.{◌≡◌, Err, ap, sym, subst}
 use Rattle.qp_main.proofs.SessionLemmas.{done_holds, early_holds, not_whole}
 use Rattle.qp_main.proofs.living.serve_session.Goals as goal
 

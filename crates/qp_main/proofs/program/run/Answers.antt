@@ -1,4 +1,4 @@
-use Rattle.std.proofs.Common.{rules, ◌≡◌, ℕ, Option, None, ap, codes, map, refl, subst, sym}
+use Rattle.std.proofs.Common.{rules, ℕ, Option, None, ap, codes, map, refl, subst, sym}
 use Rattle.zone_model.specs.Names.{Name}
 use Rattle.std.specs.Option.{option_map}
 use Rattle.std.specs.String.{string_bytes}

@@ -1,4 +1,4 @@
-use Rattle.std.proofs.Common.{rules, ◌≡◌, ℕ, List, [], ◌++◌, Option, Some, length, codes, subst, sym, append-nil, refl}
+use Rattle.std.proofs.Common.{rules, ◌≡◌, ℕ, List, ◌++◌, Some, length, codes, subst, sym}
 use Rattle.std.specs.Io.KnownBytes.{Consumes}
 use Rattle.command_line.specs.Views.{invocation_view, verb_view}
 use Rattle.qp_main.specs.declared.status.Status.TheVariants as status
