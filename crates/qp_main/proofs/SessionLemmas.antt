@@ -212,26 +212,14 @@ IsNoInput (Some bytes) = ⊥
 pub some_not_none : (i : Invocation) → Some i ≡ None → ⊥
 some_not_none i e = let h : Some i ≡ None = e in cc
 
--- a load's text isn't what is left
-pub not_made : (v : Verb) → ((left : Option (List ℕ)) → input_of v left ≡ left) → MakesInput v → ⊥
-not_made (Make load) same m = subst IsNoInput (sym (same None)) tt
-not_made Run same m = absurd m
-not_made (Feed workers) same m = absurd m
-not_made Check same m = absurd m
-not_made (Live asked) same m = absurd m
-not_made (Dump style) same m = absurd m
-not_made Size same m = absurd m
-not_made Zones same m = absurd m
-not_made (Diff style serial) same m = absurd m
-
--- all that is left is read before anything is answered
-pub not_lines : (v : Verb) → ((left : Option (List ℕ)) → input_of v left ≡ left) → AnswersLines v → ⊥
-not_lines (Live asked) same a = subst IsNoInput (same (Some [])) tt
-not_lines Run same a = absurd a
-not_lines (Feed workers) same a = absurd a
-not_lines Check same a = absurd a
-not_lines (Make load) same a = absurd a
-not_lines (Dump style) same a = absurd a
-not_lines Size same a = absurd a
-not_lines Zones same a = absurd a
-not_lines (Diff style serial) same a = absurd a
+-- what is left is read to its end, before anything is answered
+pub reads_input : (v : Verb) → ((left : Option (List ℕ)) → input_of v left ≡ left) → (MakesInput v → ⊥) × (AnswersLines v → ⊥)
+reads_input (Make load) same = (λ m. subst IsNoInput (sym (same None)) tt, λ a. a)
+reads_input (Live asked) same = (λ m. m, λ a. subst IsNoInput (same (Some [])) tt)
+reads_input Run same = (λ m. m, λ a. a)
+reads_input (Feed workers) same = (λ m. m, λ a. a)
+reads_input Check same = (λ m. m, λ a. a)
+reads_input (Dump style) same = (λ m. m, λ a. a)
+reads_input Size same = (λ m. m, λ a. a)
+reads_input Zones same = (λ m. m, λ a. a)
+reads_input (Diff style serial) same = (λ m. m, λ a. a)

@@ -9,14 +9,14 @@ use Rattle.qp_main.proofs.DueLemmas.{IsAnswer, cut_as, given_due, nothing_yet, s
 use Rattle.qp_main.proofs.GivenLemmas.{all_due, all_too_long, given_too_long}
 use Rattle.qp_main.specs.Heard.{HasRun}
 use Rattle.qp_main.proofs.HeardLemmas.{given_heard, run_written}
-use Rattle.qp_main.proofs.SessionLemmas.{not_lines, not_made, some_not_none}
+use Rattle.qp_main.proofs.SessionLemmas.{reads_input, some_not_none}
 use Rattle.qp_main.proofs.program.serve.Goals as goal
 
 pub serve_input-requires : goal.serve_input-requires
 serve_input-requires g c =
     let input : IsInput (verb_view c.args.invocation.now.verb) c.in-Ok.bytes.items = record {
       short = search rules;
-      whole = not_lines (verb_view c.args.invocation.now.verb) c.requires;
+      whole = (reads_input (verb_view c.args.invocation.now.verb) c.requires).1;
     } in
     search (rules, input)
 
@@ -29,8 +29,8 @@ returns-in-Err-Fault-clause-ends g c = record {
   source = search rules;
   unwritten = search rules;
   unread = λ none. absurd (some_not_none _ none);
-  made = λ m. absurd (not_made (verb_view c.args.invocation.now.verb) c.requires m);
-  load = λ m. absurd (not_made (verb_view c.args.invocation.now.verb) c.requires m);
+  made = λ m. absurd ((reads_input (verb_view c.args.invocation.now.verb) c.requires).0 m);
+  load = λ m. absurd ((reads_input (verb_view c.args.invocation.now.verb) c.requires).0 m);
   taken = search rules;
   words = search rules;
 }
@@ -88,8 +88,8 @@ returns-in-Err-TooLong-clause-ends g c = record {
   source = search rules;
   unwritten = search rules;
   unread = λ none. absurd (some_not_none _ none);
-  made = λ m. absurd (not_made (verb_view c.args.invocation.now.verb) c.requires m);
-  load = λ m. absurd (not_made (verb_view c.args.invocation.now.verb) c.requires m);
+  made = λ m. absurd ((reads_input (verb_view c.args.invocation.now.verb) c.requires).0 m);
+  load = λ m. absurd ((reads_input (verb_view c.args.invocation.now.verb) c.requires).0 m);
   taken = search rules;
   words = search rules;
 }
@@ -112,8 +112,8 @@ returns-in-Err-Memory-clause-ends g c = record {
   source = search rules;
   unwritten = search rules;
   unread = λ none. absurd (some_not_none _ none);
-  made = λ m. absurd (not_made (verb_view c.args.invocation.now.verb) c.requires m);
-  load = λ m. absurd (not_made (verb_view c.args.invocation.now.verb) c.requires m);
+  made = λ m. absurd ((reads_input (verb_view c.args.invocation.now.verb) c.requires).0 m);
+  load = λ m. absurd ((reads_input (verb_view c.args.invocation.now.verb) c.requires).0 m);
   taken = search rules;
   words = search rules;
 }
@@ -160,8 +160,8 @@ returns-clause-ends g c = record {
   source = search rules;
   unwritten = search rules;
   unread = λ none. absurd (some_not_none _ none);
-  made = λ m. absurd (not_made (verb_view c.args.invocation.now.verb) c.requires m);
-  load = λ m. absurd (not_made (verb_view c.args.invocation.now.verb) c.requires m);
+  made = λ m. absurd ((reads_input (verb_view c.args.invocation.now.verb) c.requires).0 m);
+  load = λ m. absurd ((reads_input (verb_view c.args.invocation.now.verb) c.requires).0 m);
   taken = λ other e.
       let i = invocation_view c.args.invocation.now in
       absurd (subst IsAnswer e (written_answers i.verb i.chunks i.origin c.in-Ok.bytes.items _ _ c.serve_input.result c.serve_input.ensures.due.written (subst IsWritten (sym e) tt)));
