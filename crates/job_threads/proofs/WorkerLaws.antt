@@ -1,5 +1,5 @@
 -- A worker that runs its commands, one after another.
-use Rattle.std.proofs.Common.{◌≡◌, ◌∙◌, ℕ, ◌+◌, ◌<◌, Bool, true, List, [], ◌∷◌, ◌++◌, length, map, take, drop, get_or, sym, subst}
+use Rattle.std.proofs.Common.{◌≡◌, ℕ, ◌+◌, ◌<◌, Bool, true, List, [], ◌∷◌, ◌++◌, length, map, take, drop, get_or, sym, subst}
 use Rattle.std.specs.List.{AllByRecursion}
 use Rattle.job_model.specs.Commands.{Command, held_after, InTurn, MayCome}
 use Rattle.job_script.specs.Views.{command_view}
