@@ -10,8 +10,12 @@ use Rattle.live_session.specs.declared.early.EarlyEnd.TheVariants as early
 use Rattle.live_session.proofs.EndLaws.{nothing_yet}
 use Rattle.job_commands.specs.Calls.{Call}
 use Rattle.command_line.specs.Invocations.{Invocation, Verb, Run, Feed, Check, Make, Dump, Size, Zones, Diff, Live}
-use Rattle.qp_main.specs.Due.{AnswersLines, CutShort, Due, DueGiven, GaveFor, IsWritten, MakesInput, MayBeShort, Written, input_of, is_streamed}
+use Rattle.qp_main.specs.Due.{AnswersLines, CutShort, Due, DueGiven, GaveFor, IsUnwritten, IsWritten, MakesInput, MayBeShort, Written, input_of, is_streamed}
 use Rattle.qp_main.specs.Heard.{Heard, HeardGiven}
+use Rattle.qp_main.specs.Faults.{TellsSink}
+use Rattle.qp_main.specs.Faults.{TellsSource}
+use Rattle.outer_io.specs.Bytes.{GivesBytes}
+use Rattle.qp_main.specs.Serving.{CutsShort, EndsRun}
 use Rattle.qp_main.specs.Sessions.{EndsBy, HasLast, IsWhole, LastLine, SaysOf, SaysSession, SessionHolds, SessionRan, WroteLine}
 use Rattle.qp_main.specs.declared.status.Status.{Status}
 use Rattle.qp_main.specs.declared.status.Status.TheVariants as status
@@ -223,3 +227,19 @@ reads_input (Dump style) same = (λ m. m, λ a. a)
 reads_input Size same = (λ m. m, λ a. a)
 reads_input Zones same = (λ m. m, λ a. a)
 reads_input (Diff style serial) same = (λ m. m, λ a. a)
+
+-- what a status says of a run that reads its input
+pub reading_ends : {S K : Type 0} {i : Invocation} {left : S → Option (List ℕ)} {gave : S → List ℕ} {ended : S → Bool} {trouble : S → ℕ} {held : K → Held} {faults : K → ℕ} {before after : S} {old new : K} {s : Status}
+    → ((bytes : Option (List ℕ)) → input_of i.verb bytes ≡ bytes) → CutsShort (Some i) left gave ended held before after old new s → TellsSink faults old new s → TellsSource trouble before after s
+    → (IsUnwritten (is_streamed i.verb) s → held new ≡ held old) → (s ≡ status.TooLong → GivesBytes left gave before after 16777217) → (s ≡ status.WordsRefused → ⊥) → EndsRun (Some i) left gave ended trouble held faults before after old new s
+reading_ends {S} {K} {i} same short sink source unwritten taken words = record {
+  short = short;
+  sink = sink;
+  source = source;
+  unwritten = λ other. unwritten;
+  unread = λ none. absurd (some_not_none i none);
+  words = λ e. absurd (words e);
+  made = λ m. absurd ((reads_input i.verb same).0 m);
+  load = λ m. absurd ((reads_input i.verb same).0 m);
+  taken = λ other. taken;
+}

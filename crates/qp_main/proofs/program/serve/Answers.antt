@@ -9,7 +9,7 @@ use Rattle.qp_main.proofs.DueLemmas.{IsAnswer, cut_as, given_due, nothing_yet, s
 use Rattle.qp_main.proofs.GivenLemmas.{all_due, all_too_long, given_too_long}
 use Rattle.qp_main.specs.Heard.{HasRun}
 use Rattle.qp_main.proofs.HeardLemmas.{given_heard, run_written}
-use Rattle.qp_main.proofs.SessionLemmas.{reads_input, some_not_none}
+use Rattle.qp_main.proofs.SessionLemmas.{reading_ends, reads_input, some_not_none}
 use Rattle.qp_main.proofs.program.serve.Goals as goal
 
 pub serve_input-requires : goal.serve_input-requires
@@ -23,17 +23,7 @@ serve_input-requires g c =
 -- ---- a fault
 
 pub returns-in-Err-Fault-clause-ends : goal.returns-in-Err-Fault-clause-ends
-returns-in-Err-Fault-clause-ends g c = record {
-  short = record { cut_short = search rules; given_short = search rules };
-  sink = search rules;
-  source = search rules;
-  unwritten = search rules;
-  unread = λ none. absurd (some_not_none _ none);
-  made = λ m. absurd ((reads_input (verb_view c.args.invocation.now.verb) c.requires).0 m);
-  load = λ m. absurd ((reads_input (verb_view c.args.invocation.now.verb) c.requires).0 m);
-  taken = search rules;
-  words = search rules;
-}
+returns-in-Err-Fault-clause-ends g c = reading_ends c.requires (record { cut_short = search rules; given_short = search rules }) (search rules) (search rules) (search rules) (search rules) (search rules)
 
 -- ---- an input that is too long
 
@@ -62,37 +52,27 @@ returns-in-Err-TooLong-clause-due g c = record {
 }
 
 pub returns-in-Err-TooLong-clause-ends : goal.returns-in-Err-TooLong-clause-ends
-returns-in-Err-TooLong-clause-ends g c = record {
-  short = record {
-    cut_short = λ short.
-        let i = invocation_view c.args.invocation.now in
-        let left = g.S.Source.left c.args.source.now in
-        let taken : (bytes : List ℕ) × Consumes (g.S.Source.left c.args.source.now) (g.S.Source.left c.read_all.new.source) bytes × (g.S.Source.given c.read_all.new.source ≡ g.S.Source.given c.args.source.now ++ bytes) × (length bytes ≡ 16777217) = search rules in
-        record {
-          status = status.TooLong;
-          text = codes "input over 16777216 bytes\n";
-          is_due = given_due i left status.TooLong (codes "input over 16777216 bytes\n") (c.requires left) (too_long i left (g.S.Source.left c.read_all.new.source) taken.0 taken.1 taken.3);
-          grew = search (rules, c.write_due.ensures.front (short_is (is_streamed i.verb) c.write_due.result short c.write_due.ensures.only.1));
-        };
-    given_short = λ short some.
-        let i = invocation_view c.args.invocation.now in
-        let taken : (bytes : List ℕ) × Consumes (g.S.Source.left c.args.source.now) (g.S.Source.left c.read_all.new.source) bytes × (g.S.Source.given c.read_all.new.source ≡ g.S.Source.given c.args.source.now ++ bytes) × (length bytes ≡ 16777217) = search rules in
-        given_too_long i _ _ _ taken.0 (λ left. CutShort (Due (Some i) left) _ _) taken.2 taken.3 (record {
-          status = status.TooLong;
-          text = codes "input over 16777216 bytes\n";
-          is_due = all_too_long i taken.0 (c.requires (Some taken.0)) taken.3;
-          grew = search (rules, c.write_due.ensures.front (short_is (is_streamed i.verb) c.write_due.result short c.write_due.ensures.only.1));
-        });
-  };
-  sink = search rules;
-  source = search rules;
-  unwritten = search rules;
-  unread = λ none. absurd (some_not_none _ none);
-  made = λ m. absurd ((reads_input (verb_view c.args.invocation.now.verb) c.requires).0 m);
-  load = λ m. absurd ((reads_input (verb_view c.args.invocation.now.verb) c.requires).0 m);
-  taken = search rules;
-  words = search rules;
-}
+returns-in-Err-TooLong-clause-ends g c = reading_ends c.requires (record {
+  cut_short = λ short.
+      let i = invocation_view c.args.invocation.now in
+      let left = g.S.Source.left c.args.source.now in
+      let taken : (bytes : List ℕ) × Consumes (g.S.Source.left c.args.source.now) (g.S.Source.left c.read_all.new.source) bytes × (g.S.Source.given c.read_all.new.source ≡ g.S.Source.given c.args.source.now ++ bytes) × (length bytes ≡ 16777217) = search rules in
+      record {
+        status = status.TooLong;
+        text = codes "input over 16777216 bytes\n";
+        is_due = given_due i left status.TooLong (codes "input over 16777216 bytes\n") (c.requires left) (too_long i left (g.S.Source.left c.read_all.new.source) taken.0 taken.1 taken.3);
+        grew = search (rules, c.write_due.ensures.front (short_is (is_streamed i.verb) c.write_due.result short c.write_due.ensures.only.1));
+      };
+  given_short = λ short some.
+      let i = invocation_view c.args.invocation.now in
+      let taken : (bytes : List ℕ) × Consumes (g.S.Source.left c.args.source.now) (g.S.Source.left c.read_all.new.source) bytes × (g.S.Source.given c.read_all.new.source ≡ g.S.Source.given c.args.source.now ++ bytes) × (length bytes ≡ 16777217) = search rules in
+      given_too_long i _ _ _ taken.0 (λ left. CutShort (Due (Some i) left) _ _) taken.2 taken.3 (record {
+        status = status.TooLong;
+        text = codes "input over 16777216 bytes\n";
+        is_due = all_too_long i taken.0 (c.requires (Some taken.0)) taken.3;
+        grew = search (rules, c.write_due.ensures.front (short_is (is_streamed i.verb) c.write_due.result short c.write_due.ensures.only.1));
+      });
+}) (search rules) (search rules) (search rules) (search rules) (search rules)
 
 pub returns-in-Err-TooLong-clause-heard : goal.returns-in-Err-TooLong-clause-heard
 returns-in-Err-TooLong-clause-heard g c = λ ran. absurd (subst HasRun (c.write_due.ensures.whole (run_written c.write_due.result ran)).0 ran)
@@ -100,23 +80,13 @@ returns-in-Err-TooLong-clause-heard g c = λ ran. absurd (subst HasRun (c.write_
 -- ---- no memory for it
 
 pub returns-in-Err-Memory-clause-ends : goal.returns-in-Err-Memory-clause-ends
-returns-in-Err-Memory-clause-ends g c = record {
-  short = record {
-    cut_short = λ streamed.
-        let i = invocation_view c.args.invocation.now in
-        let left = g.S.Source.left c.args.source.now in
-        nothing_yet (Due (Some i) left) (g.K.Sink.held c.args.sink.now) (some_words (Some i) left streamed);
-    given_short = search rules;
-  };
-  sink = search rules;
-  source = search rules;
-  unwritten = search rules;
-  unread = λ none. absurd (some_not_none _ none);
-  made = λ m. absurd ((reads_input (verb_view c.args.invocation.now.verb) c.requires).0 m);
-  load = λ m. absurd ((reads_input (verb_view c.args.invocation.now.verb) c.requires).0 m);
-  taken = search rules;
-  words = search rules;
-}
+returns-in-Err-Memory-clause-ends g c = reading_ends c.requires (record {
+  cut_short = λ streamed.
+      let i = invocation_view c.args.invocation.now in
+      let left = g.S.Source.left c.args.source.now in
+      nothing_yet (Due (Some i) left) (g.K.Sink.held c.args.sink.now) (some_words (Some i) left streamed);
+  given_short = search rules;
+}) (search rules) (search rules) (search rules) (search rules) (search rules)
 
 -- ---- one that is answered
 
