@@ -11,7 +11,7 @@ install:
 	install -D -m 644 man/qpzone.1 "$(root)/share/man/man1/qpzone.1"
 	install -D -m 644 tools/completion.bash "$(root)/share/bash-completion/completions/qpzone"
 	install -d "$(root)/share/doc/qpzone/examples"
-	install -m 644 examples/*.job examples/*.zone "$(root)/share/doc/qpzone/examples"
+	install -m 644 examples/*.job examples/*.session examples/*.zone examples/*.zones "$(root)/share/doc/qpzone/examples"
 
 uninstall:
 	rm -rf "$(root)/libexec/qpzone" "$(root)/share/doc/qpzone"
