@@ -18,4 +18,4 @@ echo "questions through a pipe: $(quickest "$records" pipe 1000000) us each; ove
 echo "commits with a question each, through a pipe: $(quickest "$records" commits 100000) us each"
 memory() { python3 "$here/live.py" "$folder/session.$records" "$program" memory "$1"; }
 echo "memory over 10,000 and 500,000 commits with a question each: $(memory 10000) and $(memory 500000) KiB"
-echo "slowest of 100,000 questions beside a full pipe: $(quickest slowest 100000) us"
+echo "slowest of 100,000 questions beside a full pipe: $(quickest "$records" slowest 100000) us"
