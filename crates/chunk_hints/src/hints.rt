@@ -11,6 +11,7 @@ use crate::listed::Listed;
 use crate::lists::PathLists;
 use crate::path::Path;
 use crate::rows::Rows;
+use crate::spans::{Gap, Spans};
 use std::alloc::{AllocError, Global};
 
 /// Of each chunk the paths that it was written on, as far as is known.
@@ -21,9 +22,13 @@ pub struct Hints {
     rows: Rows,
     // Whether a chunk has cells on paths that its list may lack.
     lacking: Vec<bool>,
+    // Where the chunks of the trie's opening were written.
+    spans: Spans,
     // The path that is written now, and the chunk that was left behind since it was told.
     current: Listed,
     left: Option<u32>,
+    // The chunk that a walk is for, where it isn't for all.
+    only: Option<u32>,
     // How often the lists weren't enough.
     walks: u64,
 }
@@ -37,8 +42,10 @@ impl Hints {
             lists: PathLists::new(alloc, chunks)?,
             rows: Rows::new(alloc)?,
             lacking: vec![in alloc; false; chunks as usize]?,
+            spans: Spans::new(alloc, chunks)?,
             current: Listed::any(Path::none()),
             left: None,
+            only: None,
             walks: 0,
         })
     }
@@ -48,6 +55,7 @@ impl Hints {
         ensures room { hint_room self.new ≡ hint_room self.old }
     {
         self.left = before;
+        self.spans.forget(chunk);
         self.lists.clear(chunk);
         set(&mut self.lacking, chunk, false);
         self.list(chunk, self.current);
@@ -104,6 +112,27 @@ impl Hints {
         self.lists.path(chunk, position)
     }
 
+    /// While a trie is gone through that was made from nothing, in the order of its making: cells of a chunk lie on this path.
+    pub fn reach(&mut self, chunk: u32, path: Path)
+        ensures room { hint_room self.new ≡ hint_room self.old }
+    {
+        self.spans.reach(chunk, path);
+    }
+
+    /// The chunk that was reached last.
+    pub fn reached(&self) -> Option<u32> {
+        self.spans.reached()
+    }
+
+    /// What a chunk's list lacks, where its span is known.
+    pub fn gap(&self, chunk: u32) -> Option<Gap> {
+        if !self.is_lacking(chunk) {
+            return None;
+        }
+        let span = self.spans.of(chunk)?;
+        Some(Gap { chunk, span })
+    }
+
     /// The list of a chunk lacks something.
     pub fn mark_lacking(&mut self, chunk: u32)
         ensures room { hint_room self.new ≡ hint_room self.old }
@@ -123,20 +152,34 @@ impl Hints {
         }
     }
 
-    /// It came to cells of a chunk, on a path. Where that isn't needed now, some room is left for others.
+    /// A walk over the span of a chunk begins, for its list alone. Nothing is lacking in that from then on, unless there is no room.
+    pub fn begin_walk_of(&mut self, chunk: u32)
+        ensures room { hint_room self.new ≡ hint_room self.old }
+    {
+        self.only = Some(chunk);
+        self.spans.forget(chunk);
+        self.lists.clear(chunk);
+        set(&mut self.lacking, chunk, false);
+    }
+
+    /// A walk came to cells of a chunk, on a path. Where that isn't needed now, some room is left for others.
     pub fn pass(&mut self, chunk: u32, path: Path, needed: bool)
         ensures room { hint_room self.new ≡ hint_room self.old }
     {
-        if self.is_lacking(chunk) && (needed || self.lists.has_much_room()) {
+        if self.only.is_some() {
+            if self.only == Some(chunk) {
+                self.list(chunk, Listed::any(path));
+            }
+        } else if self.is_lacking(chunk) && (needed || self.lists.has_much_room()) {
             self.lists.push(chunk, Listed::any(path));
         }
     }
 
-    /// It came to its end: nothing is lacking, if there was room.
+    /// A walk came to its end. After one over all nothing is lacking, if there was room.
     pub fn end_walk(&mut self)
         ensures room { hint_room self.new ≡ hint_room self.old }
     {
-        if self.lists.has_much_room() {
+        if self.only.take().is_none() && self.lists.has_much_room() {
             self.lacking.fill(false);
         }
     }
@@ -146,7 +189,7 @@ impl Hints {
         matches!(self.lacking.get(chunk as usize), Some(true))
     }
 
-    /// How many such walks there were.
+    /// How many walks over all there were.
     pub fn walks(&self) -> u64 {
         self.walks
     }

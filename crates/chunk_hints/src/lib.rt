@@ -9,8 +9,10 @@ mod listed;
 mod lists;
 mod path;
 mod rows;
+mod spans;
 
 pub use ages::Ages;
 pub use hints::Hints;
 pub use listed::Listed;
 pub use path::{PATH_STEPS, Path};
+pub use spans::{Gap, Span};

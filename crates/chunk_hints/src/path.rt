@@ -55,6 +55,15 @@ impl Path {
         }
     }
 
+    /// What it says behind a position, if that is its first.
+    #[inline]
+    pub fn behind(self, position: u8) -> Path {
+        match self.first() {
+            Some(first) if first == position => self.rest(),
+            _ => Path::none(),
+        }
+    }
+
     /// Its first step, as a number below 64.
     #[inline]
     pub fn first_step(self) -> usize {

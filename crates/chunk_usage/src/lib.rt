@@ -18,7 +18,7 @@ pub mod space;
 mod usage;
 
 pub use bump::Bump;
-pub use chunk_hints::{Listed, PATH_STEPS, Path};
+pub use chunk_hints::{Gap, Listed, PATH_STEPS, Path, Span};
 pub use kept_version::KeptVersion;
 pub use space::{Grant, Shortage, Space};
 pub use usage::Usage;

@@ -7,11 +7,12 @@ ghost use Rattle.evacuate.specs.Prelude.{is_filled_on, IsStood, LeavesRest, Unmo
 ghost use Rattle.evacuate.specs.Prelude.{RootCopied};
 
 use super::descent::move_found;
-use super::finding::{Search, survey};
+use super::finding::Search;
 use super::moves::move_root;
 use super::path_list::move_listed;
 use super::sparse::is_any_sparse;
 use super::stack::{Stack, next_sparse};
+use super::surveys::{survey, survey_gaps};
 use chunk_cells::CellWrite;
 use chunk_usage::{Shortage, Usage};
 use packed_node::{Ref, chunk_of};
@@ -107,14 +108,17 @@ fn empty_listed<C: CellWrite>(cells: &mut C, usage: &mut Usage, root: Ref) -> Op
     }
 }
 
-/// The same with the lists that there are, unless they are known to lack something.
+/// The same with the lists that there are, unless they are known to lack something that no span tells.
 fn known_lists<C: CellWrite>(cells: &mut C, usage: &mut Usage, root: Ref) -> Option<EvacuationEnd>
     requires { CanRearrange C.has C.kept C.given root cells.old usage.old }
     ensures rearranged { Rearranged C.has C.kept C.given root cells.old usage.old cells.new usage.new }
     ensures ended { ListsEnd usage.old usage.new result }
 {
     if usage.is_any_lacking() {
-        return None;
+        survey_gaps(cells, usage, root);
+        if usage.is_any_lacking() {
+            return None;
+        }
     }
     try_lists(cells, usage, root)
 }

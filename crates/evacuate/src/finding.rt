@@ -1,13 +1,13 @@
 //! What finds: guesses on which listed paths something is left. Nothing rests on them, as any path might be gone along, in any order.
 
-ghost use Rattle.std.specs.Prelude.{◌≡◌, ◌≤◌, ℕ, List};
-ghost use Rattle.evacuate.specs.Prelude.{HasItem, node_of, top_cell, Tree, IsTop, IsStood};
+ghost use Rattle.std.specs.Prelude.{◌≡◌, ℕ, List};
+ghost use Rattle.evacuate.specs.Prelude.{HasItem, node_of, top_cell, Tree, IsTop};
 
 use super::path_walk::descent_on;
 use super::sparse::extent_behind;
 use chunk_cells::CellRead;
-use chunk_usage::{Listed, Path, Usage};
-use packed_node::{Branch, Cell, Node, Ref, chunk_of};
+use chunk_usage::{Listed, Path};
+use packed_node::{Branch, Node, Ref, chunk_of};
 
 /// So many words have four bits for each path that may be marked.
 const PATH_WORDS: usize = 248;
@@ -175,6 +175,11 @@ pub fn position_from(branch: Branch, place: u8) -> u8 {
     (later.trailing_zeros() & 63) as u8
 }
 
+/// The position of a branch's last twig.
+pub fn last_position(branch: Branch) -> u8 {
+    (63 - (branch.bitmap.leading_zeros() & 63)) as u8
+}
+
 /// What is left on a path that lies in a chunk, once twigs above it were made mutable.
 #[derive(Clone, Copy, PartialEq, Eq)]
 pub enum Rest {
@@ -267,67 +272,4 @@ pub fn last_along<C: CellRead>(cells: &mut C, chunk: u32, from: Node, path: Path
             last
         }
     }
-}
-
-/// Lists a path for the chunks of an item's extents. The item begins here, and has so many octets.
-fn pass_item<C: CellRead>(cells: &mut C, usage: &mut Usage, at: Ref, len: u16, path: Path)
-    requires there { (item : List ℕ) × HasItem (C.has cells.old) at len item }
-    ensures cells { cells.new ≡ cells.old }
-    ensures usage { usage.new ≡ usage.old }
-{
-    usage.pass(chunk_of(at), path);
-    if let Some(next) = extent_behind(cells, at, len) {
-        pass_item(cells, usage, next.at, next.len, path);
-    }
-}
-
-/// Lists the paths below a node, which lies on a path that began with so many steps, and gives that of the first leaf: it leads past all
-/// twigs above, and doesn't fork there. Offsets are at least `low`.
-fn survey_below<C: CellRead>(
-    cells: &mut C,
-    usage: &mut Usage,
-    node: Cell,
-    low: u16,
-    path: Path,
-    steps: u32,
-) -> Path
-    requires top { (t : Tree) × IsTop (C.has cells.old) low node t }
-    requires low { low ≤ 504 }
-    ensures cells { cells.new ≡ cells.old }
-    ensures usage { usage.new ≡ usage.old }
-{
-    match Node::of(node) {
-        Node::Leaf(leaf) => {
-            pass_item(cells, usage, leaf.at, leaf.len, path);
-            path
-        }
-        Node::Branch(branch) => {
-            let mut first = path;
-            let mut position = position_from(branch, 0);
-            for i in 0..branch.twig_count() {
-                let twig = cells.cell(branch.twigs + i);
-                let on = path.then(steps, position);
-                let low = branch.offset + 1;
-                let leaf = survey_below(cells, usage, twig, low, on, steps.saturating_add(1));
-                if i == 0 {
-                    first = leaf;
-                }
-                position = position_from(branch, position.saturating_add(1));
-            }
-            usage.pass(chunk_of(branch.twigs), first);
-            first
-        }
-    }
-}
-
-/// Lists for chunks whose lists lack something, and for all sparse ones, on which paths the trie of a root has cells in them.
-pub fn survey<C: CellRead>(cells: &mut C, usage: &mut Usage, root: Ref)
-    requires stood { IsStood C.has cells.old usage.old root }
-    ensures cells { cells.new ≡ cells.old }
-    ensures usage { usage.new ≡ usage.old }
-{
-    usage.begin_walk();
-    let top = cells.cell(root);
-    let _first = survey_below(cells, usage, top, 0, Path::none(), 0);
-    usage.end_walk();
 }

@@ -7,7 +7,10 @@ mod finding;
 mod moves;
 mod path_list;
 mod path_walk;
+mod spans;
 mod sparse;
 mod stack;
+mod surveys;
 
 pub use evacuation::{EvacuationEnd, evacuate};
+pub use spans::find_spans;

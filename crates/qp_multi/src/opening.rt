@@ -20,6 +20,7 @@ use crate::pass::Pass;
 use crate::writer::WriterAtRest;
 use chunk_usage::Usage;
 use chunk_usage::capacity::FILLED_CELLS;
+use evacuate::find_spans;
 use packed_node::Ref;
 use shared_cells::{Lent, NewPassSeat, NewTurnSeat, Opening, Shared, TurnSeat};
 use std::alloc::{AllocError, Global};
@@ -105,8 +106,13 @@ fn fill<L: Law, B: Lent<Version, Operations>>(
 {
     usage.known(); // for the proof
     let mut cells = turn.lend::<Meaning<L>, B>(shared);
-    let built = build(&mut cells, usage, items);
-    (cells.into_new(), built)
+    match build(&mut cells, usage, items) {
+        Ok(root) => {
+            find_spans(&mut cells, usage, root);
+            (cells.into_new(), Ok(root))
+        }
+        Err(full) => (cells.into_new(), Err(full)),
+    }
 }
 
 /// Opens the index with the trie of a root, as version 0. What that is, and its cells, are named.

@@ -4,7 +4,7 @@ ghost use Rattle.std.specs.Prelude.{◌≡◌, ◌≤◌};
 
 use super::Usage;
 use crate::bump::chunk_of;
-use chunk_hints::{Listed, Path};
+use chunk_hints::{Gap, Listed, Path};
 
 impl Usage {
     /// A key was put in or taken out, whose path this is.
@@ -48,6 +48,43 @@ impl Usage {
         self.state.hints.path(chunk, place)
     }
 
+    /// While a trie is gone through that was made from nothing, in the order of its making: cells of a chunk lie on this path.
+    pub fn reach(&mut self, chunk: u32, path: Path)
+        ensures { self.new ≡ self.old }
+    {
+        self.state.hints.reach(chunk, path);
+    }
+
+    /// Whether a chunk was reached last.
+    pub fn is_reached(&self, chunk: u32) -> bool {
+        self.state.hints.reached() == Some(chunk)
+    }
+
+    /// What the list lacks of the chunk that was reached last.
+    pub fn last_gap(&self) -> Option<Gap> {
+        self.state.hints.gap(self.state.hints.reached()?)
+    }
+
+    /// What the list of some sparse chunk lacks that a walk over a span may find.
+    pub fn gap(&self) -> Option<Gap> {
+        let mut from = 0;
+        while let Some(chunk) = self.sparse_from(from) {
+            let gap = self.state.hints.gap(chunk);
+            if gap.is_some() {
+                return gap;
+            }
+            from = chunk + 1;
+        }
+        None
+    }
+
+    /// A walk over the span of a chunk begins, for its list alone.
+    pub fn begin_walk_of(&mut self, chunk: u32)
+        ensures { self.new ≡ self.old }
+    {
+        self.state.hints.begin_walk_of(chunk);
+    }
+
     /// A walk over all begins that is to list what the lists lack, and those of all sparse chunks.
     pub fn begin_walk(&mut self)
         ensures { self.new ≡ self.old }
@@ -61,7 +98,7 @@ impl Usage {
         self.state.hints.begin_walk(chunks);
     }
 
-    /// It came to cells of a chunk, on a path.
+    /// A walk came to cells of a chunk, on a path.
     pub fn pass(&mut self, chunk: u32, path: Path)
         ensures { self.new ≡ self.old }
     {
@@ -69,7 +106,7 @@ impl Usage {
         self.state.hints.pass(chunk, path, needed);
     }
 
-    /// It came to its end.
+    /// A walk came to its end.
     pub fn end_walk(&mut self)
         ensures { self.new ≡ self.old }
     {
@@ -88,7 +125,7 @@ impl Usage {
         false
     }
 
-    /// How many such walks there were.
+    /// How many walks over all there were.
     pub fn walks(&self) -> u64 {
         self.state.hints.walks()
     }

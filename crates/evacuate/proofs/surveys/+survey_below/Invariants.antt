@@ -1,0 +1,11 @@
+use Rattle.std.proofs.Common.{◌≡◌, ◌-◌}
+use Rattle.evacuate.proofs.finding.+survey_below.Given as goal
+
+abbrev pub decreases-survey_below : goal.decreases-survey_below
+decreases-survey_below g l = 504 - l.low
+
+abbrev pub invariant-loop-i : goal.invariant-loop-i
+invariant-loop-i g l = record {
+  cells : l.cells ≡ l.fn.cells;
+  usage : l.usage ≡ l.fn.usage;
+}
