@@ -97,7 +97,7 @@ pub fn survey_gaps<C: CellRead>(cells: &mut C, usage: &mut Usage, root: Ref)
     ensures cells { cells.new ≡ cells.old }
     ensures usage { usage.new ≡ usage.old }
 {
-    for _ in 0..MOST_SPANS {
+    for turn in 0..MOST_SPANS {
         let Some(gap) = usage.gap() else { return };
         survey_gap(cells, usage, root, gap);
     }

@@ -4,7 +4,7 @@ use crate::made::buffer;
 use crate::numbered::{ten_items_and_a_long_one, three_hundred_items};
 use crate::room::unused_room;
 use crate::thinned::{
-    Outcome, changed_but, counted_chunks, evacuated, live_cells, misled, thinned,
+    Outcome, changed_but, counted_chunks, evacuated, live_cells, misled, opened, thinned,
 };
 use crate::tries::{Change, holds};
 use chunk_usage::Usage;
@@ -15,12 +15,12 @@ use std::test::Fail;
 // An item of 1,000 octets has 63 cells.
 const ITEM_CELLS: u64 = 63;
 
-/// Ten names were moved by one walk to a few chunks, which have no cells but theirs and the nodes'.
-fn check_ten(rt: &impl Abort, usage: &Usage, outcome: Outcome) {
+/// Ten names were moved by so many walks to a few chunks, which have no cells but theirs and the nodes'.
+fn check_ten(rt: &impl Abort, usage: &Usage, outcome: Outcome, walks: u64) {
     assert!(rt; outcome.sparse >= 10);
     assert_eq!(rt;
         (outcome.done, outcome.names, outcome.walks),
-        (EvacuationEnd::Whole, 10, 1)
+        (EvacuationEnd::Whole, 10, walks)
     );
     assert_eq!(rt;
         live_cells(usage),
@@ -37,7 +37,7 @@ fn ten_names_of_three_hundred_need_few_chunks(rt: HostRuntime) -> Result<(), Fai
     assert_eq!(rt; items.len(), 300);
     let root = thinned(&mut memory, &mut usage, &items, 30).ok_or("no room")?;
     let (root, outcome) = evacuated(&mut memory, &mut usage, root);
-    check_ten(&rt, &usage, outcome);
+    check_ten(&rt, &usage, outcome, 1);
     let root = changed_but(&mut memory, &mut usage, root, &items, 30, Change::Insert).ok_or(
         "no room",
     )?;
@@ -45,7 +45,19 @@ fn ten_names_of_three_hundred_need_few_chunks(rt: HostRuntime) -> Result<(), Fai
         "no room",
     )?;
     let (_root, outcome) = evacuated(&mut memory, &mut usage, root);
-    check_ten(&rt, &usage, outcome);
+    check_ten(&rt, &usage, outcome, 1);
+    Ok(())
+}
+
+// Where it was found after the opening in which part of the trie each chunk has its cells, walks over those parts are enough.
+#[test]
+fn names_of_an_opening_are_found_without_a_walk_over_all(rt: HostRuntime) -> Result<(), Fail> {
+    let (mut memory, mut usage) = unused_room(rt.alloc(), 256)?;
+    let items = three_hundred_items(rt.alloc())?;
+    assert_eq!(rt; items.len(), 300);
+    let root = opened(&mut memory, &mut usage, &items, 30).ok_or("no room")?;
+    let (_root, outcome) = evacuated(&mut memory, &mut usage, root);
+    check_ten(&rt, &usage, outcome, 0);
     Ok(())
 }
 

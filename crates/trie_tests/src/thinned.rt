@@ -6,7 +6,7 @@ ghost use Rattle.trie_tests.specs.Tries.{IsTrie};
 use crate::tries::{Change, built, changed, sizes};
 use chunk_cells::CellWrite;
 use chunk_usage::{Space, Usage};
-use evacuate::{EvacuationEnd, evacuate};
+use evacuate::{EvacuationEnd, evacuate, find_spans};
 use packed_node::Ref;
 use trie_write::Item;
 
@@ -63,6 +63,22 @@ pub(crate) fn thinned<C: CellWrite, U: Space>(
     ensures trie { IfSome result (IsTrie C.has C.kept C.given U.account cells.new usage.new) }
 {
     let (root, _) = built(cells, usage, items)?;
+    changed_but(cells, usage, root, items, so_many, Change::Delete)
+}
+
+/// The same, where it is found after the making in which part of the trie each chunk has its cells.
+pub(crate) fn opened<C: CellWrite>(
+    cells: &mut C,
+    usage: &mut Usage,
+    items: &[Item],
+    so_many: usize,
+) -> Option<Option<Ref>>
+    requires some { 0 < so_many }
+    requires trie { IsTrie C.has C.kept C.given ⟦<Usage as Space>⟧.account cells.old usage.old None }
+    ensures trie { IfSome result (IsTrie C.has C.kept C.given ⟦<Usage as Space>⟧.account cells.new usage.new) }
+{
+    let (root, _) = built(cells, usage, items)?;
+    find_spans(cells, usage, root);
     changed_but(cells, usage, root, items, so_many, Change::Delete)
 }
 

@@ -1,8 +1,8 @@
 use Rattle.std.proofs.Common.{◌≡◌, ◌-◌}
-use Rattle.evacuate.proofs.finding.+survey_below.Given as goal
+use Rattle.evacuate.proofs.spans.+reach_below.Given as goal
 
-abbrev pub decreases-survey_below : goal.decreases-survey_below
-decreases-survey_below g l = 504 - l.low
+abbrev pub decreases-reach_below : goal.decreases-reach_below
+decreases-reach_below g l = 504 - l.low
 
 abbrev pub invariant-loop-i : goal.invariant-loop-i
 invariant-loop-i g l = record {

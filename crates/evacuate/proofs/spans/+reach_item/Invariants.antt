@@ -1,4 +1,4 @@
-use Rattle.evacuate.proofs.finding.+pass_item.Given as goal
+use Rattle.evacuate.proofs.spans.+reach_item.Given as goal
 
-abbrev pub decreases-pass_item : goal.decreases-pass_item
-decreases-pass_item g l = l.len
+abbrev pub decreases-reach_item : goal.decreases-reach_item
+decreases-reach_item g l = l.len

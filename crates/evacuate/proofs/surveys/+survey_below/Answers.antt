@@ -1,6 +1,6 @@
 use Rattle.std.proofs.Common.{arith, rules}
 use Rattle.evacuate.proofs.StackLaws.{says, told_of, item_of, early, cell_there, turn, falls, leaf_item}
-use Rattle.evacuate.proofs.finding.+survey_below.Goals as goal
+use Rattle.evacuate.proofs.surveys.+survey_below.Goals as goal
 
 pub of-requires : goal.of-requires
 of-requires g t c = says c.requires.top.1

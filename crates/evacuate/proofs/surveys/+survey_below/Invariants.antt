@@ -1,5 +1,5 @@
 use Rattle.std.proofs.Common.{◌≡◌, ◌-◌}
-use Rattle.evacuate.proofs.finding.+survey_below.Given as goal
+use Rattle.evacuate.proofs.surveys.+survey_below.Given as goal
 
 abbrev pub decreases-survey_below : goal.decreases-survey_below
 decreases-survey_below g l = 504 - l.low
