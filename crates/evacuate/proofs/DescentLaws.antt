@@ -19,7 +19,7 @@ use Rattle.trie_space.proofs.WayLaws.{plug-append, end_at-append, IsFork, is_for
 use Rattle.evacuate.specs.declared.stack.Stack.{Stack}
 use Rattle.evacuate.specs.Evacuations.{HasSparse}
 use Rattle.evacuate.specs.Fillings.{Moves}
-use Rattle.evacuate.specs.Places.{moved, Stood, Hung, IsHung}
+use Rattle.evacuate.specs.Places.{moved, Stood, Hung, IsHung, IsStood}
 use Rattle.evacuate.specs.Stacks.{Steps, LeadsTo, Found, IsDue, Reached, Underway, TwigsAt}
 use Rattle.evacuate.proofs.SparseLaws.{lies_left, lies_stay}
 use Rattle.evacuate.proofs.TreeLaws.{hung_low, hung_tree}
@@ -43,6 +43,9 @@ by_err (Err e) a = a
 -- where nothing has changed
 pub stood_same : {S : Type 0} {has : S → ℕ → Cell → Type 0} {s s1 : S} {l l1 : Ledger} {r : ℕ} {es : List Entry} {t : Tree} → s1 ≡ s → l1 ≡ l → Stood has s l r es t → Stood has s1 l1 r es t
 stood_same {has = has} {s} {s1} {l} {l1} {r} {es} {t} e f h = subst (λ z. Stood has z l1 r es t) (sym e) (subst (λ z. Stood has s z r es t) (sym f) h)
+
+pub is_stood_same : {S : Type 0} {has : S → ℕ → Cell → Type 0} {s s1 : S} {l l1 : Ledger} {r : ℕ} → s1 ≡ s → l1 ≡ l → IsStood has s l r → IsStood has s1 l1 r
+is_stood_same e f h = record { es = h.es; t = h.t; stood = stood_same e f h.stood }
 
 pub begins : {S : Type 0} {has : S → ℕ → Cell → Type 0} {s : S} {l : Ledger} {r : ℕ} {es : List Entry} {t : Tree} → Stood has s l r es t → Hung has s l r r es [] t
 begins h = record { stood = h; at_is = refl }

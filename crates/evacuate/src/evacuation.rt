@@ -12,7 +12,7 @@ use super::moves::move_root;
 use super::path_list::move_listed;
 use super::sparse::is_any_sparse;
 use super::stack::{Stack, next_sparse};
-use super::surveys::{survey, survey_gaps};
+use super::surveys::{is_still_lacking, survey};
 use chunk_cells::CellWrite;
 use chunk_usage::{Shortage, Usage};
 use packed_node::{Ref, chunk_of};
@@ -114,11 +114,8 @@ fn known_lists<C: CellWrite>(cells: &mut C, usage: &mut Usage, root: Ref) -> Opt
     ensures rearranged { Rearranged C.has C.kept C.given root cells.old usage.old cells.new usage.new }
     ensures ended { ListsEnd usage.old usage.new result }
 {
-    if usage.is_any_lacking() {
-        survey_gaps(cells, usage, root);
-        if usage.is_any_lacking() {
-            return None;
-        }
+    if is_still_lacking(cells, usage, root) {
+        return None;
     }
     try_lists(cells, usage, root)
 }

@@ -4,7 +4,7 @@
 //! between two paths, and below a branch whose row lies in the chunk that was reached last there is none but that.
 
 ghost use Rattle.std.specs.Prelude.{◌≡◌, ◌≤◌, ℕ, List};
-ghost use Rattle.evacuate.specs.Prelude.{account_of, Entry, HasItem, HasTrie, Tree, IsTop};
+ghost use Rattle.evacuate.specs.Prelude.{account_of, Entry, HasItem, HasTrie, Tree, IsStood, IsTop};
 
 use super::finding::{last_position, position_from};
 use super::sparse::extent_behind;
@@ -68,7 +68,17 @@ pub fn find_spans<C: CellRead>(cells: &mut C, usage: &mut Usage, root: Root)
     ensures cells { cells.new ≡ cells.old }
     ensures usage { usage.new ≡ usage.old }
 {
-    let Some(root) = root else { return };
+    if let Some(at) = root {
+        find_below(cells, usage, at);
+    }
+}
+
+/// The same of the trie that stands at a cell.
+fn find_below<C: CellRead>(cells: &mut C, usage: &mut Usage, root: Ref)
+    requires stood { IsStood C.has cells.old usage.old root }
+    ensures cells { cells.new ≡ cells.old }
+    ensures usage { usage.new ≡ usage.old }
+{
     let top = cells.cell(root);
     reach_below(cells, usage, top, 0, Path::none(), 0);
     if let Some(gap) = usage.last_gap() {

@@ -54,8 +54,15 @@ fn survey_below<C: CellRead>(
                 let on = path.then(steps, position);
                 let low = branch.offset + 1;
                 let within = span.behind(position);
-                let leaf =
-                    survey_below(cells, usage, twig, low, on, steps.saturating_add(1), within);
+                let leaf = survey_below(
+                    cells,
+                    usage,
+                    twig,
+                    low,
+                    on,
+                    steps.saturating_add(1),
+                    within,
+                );
                 first = first.or(leaf);
                 position = position_from(branch, position.saturating_add(1));
             }
@@ -91,8 +98,21 @@ pub fn survey_gap<C: CellRead>(cells: &mut C, usage: &mut Usage, root: Ref, gap:
     usage.end_walk();
 }
 
-/// The same for all sparse chunks whose lists lack something, where their spans are known.
-pub fn survey_gaps<C: CellRead>(cells: &mut C, usage: &mut Usage, root: Ref)
+/// Whether the list of some sparse chunk lacks something, once that was looked for in all spans that are known.
+pub fn is_still_lacking<C: CellRead>(cells: &mut C, usage: &mut Usage, root: Ref) -> bool
+    requires stood { IsStood C.has cells.old usage.old root }
+    ensures cells { cells.new ≡ cells.old }
+    ensures usage { usage.new ≡ usage.old }
+{
+    if !usage.is_any_lacking() {
+        return false;
+    }
+    survey_gaps(cells, usage, root);
+    usage.is_any_lacking()
+}
+
+/// The same as `survey_gap` for all sparse chunks whose lists lack something, where their spans are known.
+fn survey_gaps<C: CellRead>(cells: &mut C, usage: &mut Usage, root: Ref)
     requires stood { IsStood C.has cells.old usage.old root }
     ensures cells { cells.new ≡ cells.old }
     ensures usage { usage.new ≡ usage.old }
