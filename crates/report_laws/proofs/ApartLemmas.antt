@@ -4,6 +4,7 @@ use Rattle.std.specs.Prelude.{IsOk}
 use Rattle.std.specs.List.{AllByRecursion, list_any}
 use Rattle.std.proofs.lemmas.Bool.Decides.{nat_tests}
 use Rattle.std.proofs.lemmas.List.{length-map, map-append}
+use Rattle.std.proofs.lemmas.Bool.{and_parts, and_right, or_parts}
 use Rattle.zone_model.specs.Names.{Name, IsName, same_name}
 use Rattle.zone_model.specs.Records.{Entry, IsItem, item}
 use Rattle.zone_model.specs.Versions.{Version, Operation, owned, owner_of, changed}
@@ -22,21 +23,7 @@ use Rattle.report_laws.specs.Apart.{changes, changed_by, AreApart, AreDone}
 use Rattle.report_laws.proofs.LawfulLemmas.{made_to, once_to, made_first, nothing_made, all_made, at_most_one}
 use Rattle.report_laws.proofs.OwnedLemmas.{Sorted, AllSome, kept_or, entry_behind, after_owned, same_versions}
 use Rattle.report_laws.proofs.VersionLemmas.{versions_dumped}
-
-both_false : (a b : Bool) → (a || b) ≡ false → (a ≡ false) × (b ≡ false)
-both_false true b h = absurd cc
-both_false false b h = (refl, h)
-
-both_true : (a b : Bool) → (a && b) ≡ true → (a ≡ true) × (b ≡ true)
-both_true true b h = (refl, h)
-both_true false b h = absurd cc
-
-and-false : (a : Bool) → (a && false) ≡ false
-and-false true = refl
-and-false false = refl
-
-abbrev command_in : Pair → Command
-command_in pair = pair.0
+use Rattle.report_laws.proofs.RunLemmas.{command_in}
 
 -- ---- how commands end that aren't refused
 
@@ -123,10 +110,10 @@ Quiet name pairs = AllByRecursion (λ (pair : Pair). changes name pair.0 ≡ fal
 
 quiet_from : (name : Name) (pairs : List Pair) → changed_by name (map command_in pairs) ≡ false → Quiet name pairs
 quiet_from name [] h = tt
-quiet_from name (pair ∷ rest) h = let p = both_false (changes name pair.0) (changed_by name (map command_in rest)) h in (p.0, quiet_from name rest p.1)
+quiet_from name (pair ∷ rest) h = let p = or_parts (changes name pair.0) (changed_by name (map command_in rest)) h in (p.0, quiet_from name rest p.1)
 
 quiet_pair : (name : Name) (pair : Pair) → changes name pair.0 ≡ false → changing name pair ≡ false
-quiet_pair name pair h = ap (λ (b : Bool). is_committed pair.1.ended && b) h ∙ and-false (is_committed pair.1.ended)
+quiet_pair name pair h = and_right (is_committed pair.1.ended) (changes name pair.0) h
 
 along_rises : (name : Name) (s : JudgedBy) (progress : WorkerProgress) (low : ℕ) (pairs : List Pair) → low ≤ progress.seen → Along s progress pairs → Rises name low pairs
 along_rises name s progress low [] le a = tt
@@ -135,7 +122,7 @@ along_rises name s progress low (pair ∷ rest) le a =
   where
     by_test : GoesOn s progress pair.0 pair.1.version pair.1.ended → ((low : ℕ) → low ≤ (progress_after progress pair.0 pair.1.version).seen → Rises name low rest) → (b : Bool) → changing name pair ≡ b → (b ≡ true → low < pair.1.version) × Rises name (cond b pair.1.version low) rest
     by_test g more true e =
-        let c = both_true (is_committed pair.1.ended) (changes name pair.0) e in
+        let c = and_parts (is_committed pair.1.ended) (changes name pair.0) e in
         (λ t. (let l = g.above c.0 in omega (arith, l, le)), more pair.1.version (g.there c.0))
     by_test g more false e = (λ t. absurd cc, more low (let l = g.later in omega (arith, l, le)))
 
@@ -178,7 +165,7 @@ module _ (origin name : Name) where
   unchanged : (operations : List Operation) (entry : Entry) → list_any (λ operation. same_name name (owner_of operation)) operations ≡ false → entry_behind origin name operations entry ≡ entry
   unchanged [] entry n = refl
   unchanged (first ∷ rest) entry n =
-      let p = both_false (same_name name (owner_of first)) (list_any (λ operation. same_name name (owner_of operation)) rest) n in
+      let p = or_parts (same_name name (owner_of first)) (list_any (λ operation. same_name name (owner_of operation)) rest) n in
       ap (λ (b : Bool). entry_behind origin name rest (cond b (kept_or entry (changed origin first entry)) entry)) p.0 ∙ unchanged rest entry p.1
 
   abbrev by_pair : Bool → Pair → Entry → Entry
@@ -203,7 +190,7 @@ module _ (origin name : Name) where
   up_to_none j low (pair ∷ rest) entry r le = by_test (λ low. up_to_none j low rest entry) (changing name pair) refl r.0 r.1
     where
       later : (c : Bool) → j < pair.1.version → (c && leb pair.1.version j) ≡ false
-      later c lt = (let n : leb pair.1.version j ≡ false = grind (arith, nat_tests) in ap (λ (b : Bool). c && b) n ∙ and-false c)
+      later c lt = (let n : leb pair.1.version j ≡ false = grind (arith, nat_tests) in and_right c (leb pair.1.version j) n)
 
       by_test : ((low : ℕ) → Rises name low rest → j ≤ low → up_to j rest entry ≡ entry) → (b : Bool) → changing name pair ≡ b → (b ≡ true → low < pair.1.version) → Rises name (cond b pair.1.version low) rest → up_to j (pair ∷ rest) entry ≡ entry
       by_test more true e above r =
@@ -243,7 +230,7 @@ module _ (origin name : Name) where
       reached c v is at = (let l : leb v (suc j) ≡ true = grind (arith, nat_tests) in ap (λ (b : Bool). b && leb v (suc j)) is ∙ l)
 
       before : (c : Bool) (v : ℕ) → v ≡ suc j → (c && leb v j) ≡ false
-      before c v at = (let l : leb v j ≡ false = grind (arith, nat_tests) in ap (λ (b : Bool). c && b) l ∙ and-false c)
+      before c v at = (let l : leb v j ≡ false = grind (arith, nat_tests) in and_right c (leb v j) l)
 
       by_change : times_made (suc j) rest ≡ 0 → is_committed pair.1.ended ≡ true → pair.1.version ≡ suc j → (b : Bool) → changing name pair ≡ b → Rises name (cond b pair.1.version low) rest
           → up_to (suc j) rest (entry_behind origin name (asked_by pair.0).operations entry) ≡ entry_behind origin name (asked_by pair.0).operations (up_to j rest entry)
@@ -257,7 +244,7 @@ module _ (origin name : Name) where
       by_made : ((low : ℕ) (e : Entry) → Rises name low rest → times_made (suc j) rest ≤ 1 → up_to (suc j) rest e ≡ entry_behind origin name (asked_at (suc j) rest).operations (up_to j rest e)) → (b : Bool) → made (suc j) pair ≡ b → cond b 1 0 + times_made (suc j) rest ≤ 1
           → up_to (suc j) (pair ∷ rest) entry ≡ entry_behind origin name (cond b (asked_by pair.0) (asked_at (suc j) rest)).operations (up_to j (pair ∷ rest) entry)
       by_made more true e few =
-          let both = both_true (is_committed pair.1.ended) (eqb pair.1.version (suc j)) e in
+          let both = and_parts (is_committed pair.1.ended) (eqb pair.1.version (suc j)) e in
           let at : pair.1.version ≡ suc j = eqb-true pair.1.version (suc j) both.1 in
           let none : times_made (suc j) rest ≡ 0 = omega (arith, few) in
           ap (λ (b : Bool). up_to (suc j) rest (by_pair b pair entry)) (reached (is_committed pair.1.ended) pair.1.version both.0 at)
@@ -292,7 +279,7 @@ asked_ok s j (pair ∷ rest) h = by_made (asked_ok s j rest h.1) (made (suc j) p
   where
     by_made : IsOk (whole s.origin (asked_at (suc j) rest) (s.set j)) → (b : Bool) → made (suc j) pair ≡ b → IsOk (whole s.origin (cond b (asked_by pair.0) (asked_at (suc j) rest)) (s.set j))
     by_made more true e =
-        let both = both_true (is_committed pair.1.ended) (eqb pair.1.version (suc j)) e in
+        let both = and_parts (is_committed pair.1.ended) (eqb pair.1.version (suc j)) e in
         let at : pair.1.version ≡ suc j = eqb-true pair.1.version (suc j) both.1 in
         let base : pair.1.version - 1 ≡ j = omega (arith, at) in
         subst (λ (k : ℕ). IsOk (whole s.origin (asked_by pair.0) (s.set k))) base (h.0.accepted both.0)
@@ -323,7 +310,7 @@ module _ (chunks passes : ℕ) (origin : Name) (zone : Version) (ws : List (List
 
   all_as : (pairs : List Pair) → AllByRecursion (IsMade (judged_by chunks passes origin zone ws)) pairs → list_any (λ (pair : Pair). is_refused pair.1.ended) pairs ≡ false → AllByRecursion (λ (pair : Pair). is_committed pair.1.ended ≡ makes pair.0) pairs
   all_as [] h none = tt
-  all_as (pair ∷ rest) h none = let n = both_false (is_refused pair.1.ended) (list_any (λ (pair : Pair). is_refused pair.1.ended) rest) none in (h.0.as_asked n.0, all_as rest h.1 n.1)
+  all_as (pair ∷ rest) h none = let n = or_parts (is_refused pair.1.ended) (list_any (λ (pair : Pair). is_refused pair.1.ended) rest) none in (h.0.as_asked n.0, all_as rest h.1 n.1)
 
   -- what a name owns in the end
   pub owned_last : (name : Name) → Sorted zone → list_any (λ (pair : Pair). is_refused pair.1.ended) (all_pairs ws) ≡ false → owned name (version_at origin zone (all_pairs ws) last) ≡ by_commands origin name (map command_in (all_pairs ws)) (owned name zone)
@@ -351,7 +338,7 @@ once_full (suc n) pair le above = by_made (once_full n pair) (made (suc n) pair)
   where
     by_made : (pair.1.version ≤ n → (is_committed pair.1.ended ≡ true → 0 < pair.1.version) → once_to n pair ≡ cond (is_committed pair.1.ended) 1 0) → (b : Bool) → made (suc n) pair ≡ b → cond b 1 0 + once_to n pair ≡ cond (is_committed pair.1.ended) 1 0
     by_made more true e =
-        let both = both_true (is_committed pair.1.ended) (eqb pair.1.version (suc n)) e in
+        let both = and_parts (is_committed pair.1.ended) (eqb pair.1.version (suc n)) e in
         let at : pair.1.version ≡ suc n = eqb-true pair.1.version (suc n) both.1 in
         let none : once_to n pair ≡ 0 = (at_most_one n pair).none (omega (arith, at)) in
         let sum : 1 + once_to n pair ≡ 1 = omega (arith, none) in
@@ -396,7 +383,7 @@ count_by (pair ∷ rest) kinds = ap (λ (b : Bool). cond b 1 0 + ended_count is_
 none_counted : (pairs : List Pair) → list_any (λ (pair : Pair). is_refused pair.1.ended) pairs ≡ false → ended_count is_refused pairs ≡ 0
 none_counted [] none = refl
 none_counted (pair ∷ rest) none =
-    let n = both_false (is_refused pair.1.ended) (list_any (λ (pair : Pair). is_refused pair.1.ended) rest) none in
+    let n = or_parts (is_refused pair.1.ended) (list_any (λ (pair : Pair). is_refused pair.1.ended) rest) none in
     let more = none_counted rest n.1 in
     let sum : 0 + ended_count is_refused rest ≡ 0 = omega (arith, more) in
     ap (λ (b : Bool). cond b 1 0 + ended_count is_refused rest) n.0 ∙ sum
@@ -404,13 +391,13 @@ none_counted (pair ∷ rest) none =
 none_told : (w c : ℕ) (pairs : List Pair) → list_any (λ (pair : Pair). is_refused pair.1.ended) pairs ≡ false → refused_text w c pairs ≡ []
 none_told w c [] none = refl
 none_told w c (pair ∷ rest) none =
-    let n = both_false (is_refused pair.1.ended) (list_any (λ (pair : Pair). is_refused pair.1.ended) rest) none in
+    let n = or_parts (is_refused pair.1.ended) (list_any (λ (pair : Pair). is_refused pair.1.ended) rest) none in
     ap (λ (b : Bool). cond b (head_text w c pair.1.version ++ ended_text pair.1.ended) [] ++ refused_text w (c + 1) rest) n.0 ∙ none_told w (c + 1) rest n.1
 
 any_parts : (xs ys : List Pair) → list_any (λ (pair : Pair). is_refused pair.1.ended) (xs ++ ys) ≡ false → (list_any (λ (pair : Pair). is_refused pair.1.ended) xs ≡ false) × (list_any (λ (pair : Pair). is_refused pair.1.ended) ys ≡ false)
 any_parts [] ys none = (refl, none)
 any_parts (pair ∷ xs) ys none =
-    let n = both_false (is_refused pair.1.ended) (list_any (λ (pair : Pair). is_refused pair.1.ended) (xs ++ ys)) none in
+    let n = or_parts (is_refused pair.1.ended) (list_any (λ (pair : Pair). is_refused pair.1.ended) (xs ++ ys)) none in
     let more = any_parts xs ys n.1 in
     (ap (λ (b : Bool). b || list_any (λ (pair : Pair). is_refused pair.1.ended) xs) n.0 ∙ more.0, more.1)
 

@@ -19,7 +19,7 @@ use Rattle.zone_model.proofs.EntryLaws.{entry_with, entry_without, entry_without
 use Rattle.master_file.specs.Rows.{IsRecord, CanBeDumped}
 use Rattle.report_laws.specs.Changes.{IsInside, IsSaid, AllSaid, row_of}
 use Rattle.report_laws.proofs.EntryLemmas.{AllSets, IsRr, sets_with, sets_without, sets_without_set, one_soa, few_with, few_without, few_without_set, soa_stays, soa_joins, lone_without, lone_without_set, item_without, item_without_set}
-use Rattle.report_laws.proofs.WellFormedLemmas.{IsOwned, IsWellFormed, Owns, owns, well_formed_put, well_formed_left, put_owned, others_put, others_left, can_be_dumped, well_formed, soa_there}
+use Rattle.report_laws.proofs.WellFormedLemmas.{IsOwned, IsWellFormed, Owns, owns, well_formed_put, well_formed_left, put_owned, others_put, others_left, can_be_dumped, well_formed, soa_there, owns_nothing}
 
 -- a record of its owner, as an RRset of one
 pub rr_is : (origin : Name) (row : Row) → IsRecord row → (eqb row.rtype soa_type && not (same_name row.owner origin)) ≡ false → IsRr origin row.owner row.rtype row.ttl row.octets
@@ -108,9 +108,6 @@ keeps origin owner before left next o e = by_soas (is_some (rrset_of 6 before)) 
     by_soas false b p q n h =
         let_stand (λ x. absurd cc) (let k : ◌≡◌ {A = Result Entry Refusal} (Ok left) (Ok next) = sym (ap (λ (b : Bool). cond b (Err Soa) (Ok left)) (ap (λ (b : Bool). b && is_none (rrset_of 6 left)) p)) ∙ h in cc)
 
-nothing_left : (origin owner : Name) → Owns origin owner []
-nothing_left origin owner = record { lone = refl; few = omega arith; proper = tt; short = λ some. absurd (omega arith); sets = tt }
-
 -- an entry that has something had something before a part of it left
 some_before : (owner : Name) (left before : Entry) → (before ≡ [] → left ≡ []) → 0 < length left → 0 < length before
 some_before owner left [] none some = let e : length left ≡ 0 = ap (λ (x : Entry). length x) (none refl) in absurd (omega arith)
@@ -140,7 +137,7 @@ changes origin (Add a) before next said o e = by_low (is_low_soa origin a) refl 
     by_low : (b : Bool) → is_low_soa origin a ≡ b → cond b (Err Soa) (fitting a.owner (with_added a before)) ≡ Ok next → Changes origin a.owner before next
     by_low true l h = absurd cc
     by_low false l h = fits origin a.owner before (with_added a before) next (added origin a before (rr_is origin (row_of a) said.1 l) o) h
-changes origin (DeleteName owner) before next said o e = keeps origin owner before [] next (nothing_left origin owner) e
+changes origin (DeleteName owner) before next said o e = keeps origin owner before [] next (owns_nothing origin owner) e
 changes origin (DeleteSet owner rtype) before next said o e = keeps origin owner before (without_set rtype before) next (set_left origin owner rtype before o) e
 changes origin (DeleteRecord owner rtype octets) before next said o e = keeps origin owner before (without_rr rtype octets before) next (record_left origin owner rtype octets before o) e
 
@@ -179,7 +176,7 @@ is_put origin owner (s ∷ entry) version is c z =
         subst (λ (n : Name). HasSoa (owned n (insert_entry name_cmp version owner (s ∷ entry)))) (sym same) (subst HasSoa (sym (put_owned owner (s ∷ entry) version)) there)
     by_name false e = ap (λ (x : Entry). is_some (rrset_of 6 x)) (others_put origin owner (s ∷ entry) version e) ∙ z.soa
 
-applied : (origin : Name) (operation : Operation) (version next : Version) → IsSaid origin operation → IsZone origin version → apply origin operation version ≡ Ok next → IsZone origin next
+pub applied : (origin : Name) (operation : Operation) (version next : Version) → IsSaid origin operation → IsZone origin version → apply origin operation version ≡ Ok next → IsZone origin next
 applied origin operation version next said z e = by_result (changed origin operation (owned owner version)) refl e
   where
     owner : Name
@@ -192,7 +189,7 @@ applied origin operation version next said z e = by_result (changed origin opera
         subst (λ (v : Version). IsZone origin v) is
         (is_put origin owner entry version (inside origin operation said) (changes origin operation (owned owner version) entry said (owns origin owner version z.well_formed.each) c) z)
 
-all_said : (origin : Name) (operations : List Operation) (version next : Version) → AllByRecursion (IsSaid origin) operations → IsZone origin version → all_applied origin operations version ≡ Ok next → IsZone origin next
+pub all_said : (origin : Name) (operations : List Operation) (version next : Version) → AllByRecursion (IsSaid origin) operations → IsZone origin version → all_applied origin operations version ≡ Ok next → IsZone origin next
 all_said origin [] version next said z e = let is : version ≡ next = cc in subst (λ (v : Version). IsZone origin v) is z
 all_said origin (first ∷ rest) version next said z e = by_result (λ (v : Version). all_said origin rest v next said.1) (apply origin first version) refl e
   where

@@ -1,6 +1,7 @@
 -- Texts are cut where an octet first stands.
-use Rattle.std.proofs.Common.{◌≡◌, ◌∙◌, ℕ, ◌<◌, Bool, true, false, ◌&&◌, not, eqb, List, [], ◌∷◌, ◌++◌, get_or, drop, refl, sym, ap, ap₂, arith}
+use Rattle.std.proofs.Common.{◌≡◌, ◌∙◌, ℕ, ◌<◌, Bool, true, false, not, eqb, List, [], ◌∷◌, ◌++◌, get_or, drop, refl, sym, ap, ap₂, arith}
 use Rattle.std.proofs.lemmas.Bool.Decides.{nat_tests}
+use Rattle.std.proofs.lemmas.Bool.{and_from, and_parts}
 use Rattle.std.specs.List.{list_all, flat_map}
 
 -- ---- texts without an octet
@@ -11,30 +12,22 @@ other_than stop c = not (eqb c stop)
 abbrev pub Free : ℕ → List ℕ → Type 0
 Free stop text = list_all (other_than stop) text ≡ true
 
-both_true : (a b : Bool) → (a && b) ≡ true → (a ≡ true) × (b ≡ true)
-both_true true b h = (refl, h)
-both_true false b h = absurd cc
-
-true_both : (a b : Bool) → a ≡ true → b ≡ true → (a && b) ≡ true
-true_both true b h k = k
-true_both false b h k = absurd cc
-
 first_free : (stop c : ℕ) (text : List ℕ) → Free stop (c ∷ text) → other_than stop c ≡ true
-first_free stop c text f = (both_true (other_than stop c) (list_all (other_than stop) text) f).0
+first_free stop c text f = (and_parts (other_than stop c) (list_all (other_than stop) text) f).0
 
 rest_free : (stop c : ℕ) (text : List ℕ) → Free stop (c ∷ text) → Free stop text
-rest_free stop c text f = (both_true (other_than stop c) (list_all (other_than stop) text) f).1
+rest_free stop c text f = (and_parts (other_than stop c) (list_all (other_than stop) text) f).1
 
 pub free_append : (stop : ℕ) (a b : List ℕ) → Free stop a → Free stop b → Free stop (a ++ b)
 free_append stop [] b f g = g
-free_append stop (c ∷ a) b f g = true_both (other_than stop c) (list_all (other_than stop) (a ++ b)) (first_free stop c a f) (free_append stop a b (rest_free stop c a f) g)
+free_append stop (c ∷ a) b f g = and_from (other_than stop c) (list_all (other_than stop) (a ++ b)) (first_free stop c a f) (free_append stop a b (rest_free stop c a f) g)
 
 above : (stop c : ℕ) → stop < c → other_than stop c ≡ true
 above stop c h = grind (arith, nat_tests)
 
 -- in front stands an octet that is greater
 pub free_above : (stop c : ℕ) (text : List ℕ) → stop < c → Free stop text → Free stop (c ∷ text)
-free_above stop c text h f = true_both (other_than stop c) (list_all (other_than stop) text) (above stop c h) f
+free_above stop c text h f = and_from (other_than stop c) (list_all (other_than stop) text) (above stop c h) f
 
 pub free_map : {A : Type 0} (stop : ℕ) (f : A → List ℕ) → ((a : A) → Free stop (f a)) → (xs : List A) → Free stop (flat_map f xs)
 free_map stop f each [] = refl

@@ -3,6 +3,7 @@ use Rattle.std.proofs.Common.{◌≡◌, ◌∙◌, ℕ, zero, suc, ◌+◌, ◌
 use Rattle.std.proofs.lemmas.Bool.Decides.{nat_tests}
 use Rattle.std.proofs.lemmas.List.{drop_at}
 use Rattle.std.proofs.lemmas.Nat.{from_be_bytes-to_be_bytes_4}
+use Rattle.std.proofs.lemmas.Bool.{and_parts}
 use borrow.Author.Tests.{leb-true, ltb-false}
 use Rattle.std.specs.Option.{option_map}
 use Rattle.std.specs.List.{AllByRecursion, list_all}
@@ -28,7 +29,7 @@ use Rattle.rr_data.proofs.FormLemmas.{all_append as all_pass}
 use Rattle.report_laws.specs.Octets.{IsOctet, AllOctets}
 use Rattle.report_laws.proofs.EntryLemmas.{IsData}
 use Rattle.report_laws.proofs.NameLemmas.{name_is}
-use Rattle.report_laws.proofs.WordLemmas.{and_parts, time_most, address_is, address6_is, all_digits}
+use Rattle.report_laws.proofs.WordLemmas.{time_most, address_is, address6_is, all_digits}
 
 abbrev pub IsTokenText : Token → Type 0
 IsTokenText t = AllOctets t.text
@@ -296,10 +297,6 @@ of_form_is origin (Some Strings) [] octets t o h = absurd cc
 of_form_is origin (Some Strings) (token ∷ tokens) octets t o h =
     let s = strings_are 0 65535 (token ∷ tokens) octets t h in
     record { small = s.small; fits = ap (λ (b : Bool). b && strings_fit (length octets) octets) (strings_some 0 65535 token tokens octets t h) ∙ s.fits (length octets) (omega arith) }
-
-no_first : (tokens : List Token) → AllTexts tokens → AllTexts (drop 1 tokens)
-no_first [] h = tt
-no_first (t ∷ tokens) h = h.1
 
 pub data_is : (origin : Name) (rtype : ℕ) (tokens : List Token) (octets : List ℕ) → AllTexts tokens → IsName origin → data_of origin rtype tokens ≡ Ok octets → IsData rtype octets
 unfolding data_of

@@ -1,6 +1,6 @@
 -- Lawful outcomes are of their commands' kinds, and their numbers have 64 bits where the report is no longer than that.
-use Rattle.std.proofs.Common.{◌≡◌, ℕ, zero, suc, ◌+◌, ◌<◌, ◌≤◌, ◌^◌, Bool, true, false, cond, ◌&&◌, eqb, List, [], ◌∷◌, ◌++◌, map, length, refl, sym, ap, subst, arith, length-append, eqb-true, codes, Some, Less}
-use Rattle.std.proofs.lemmas.Bool.Decides.{nat_tests}
+use Rattle.std.proofs.Common.{◌≡◌, ℕ, zero, suc, ◌+◌, ◌<◌, ◌≤◌, ◌^◌, Bool, true, false, cond, eqb, List, [], ◌∷◌, ◌++◌, map, length, refl, sym, ap, subst, arith, length-append, eqb-true, codes, Some}
+use Rattle.std.proofs.lemmas.Bool.{and_parts}
 use Rattle.std.specs.List.{AllByRecursion}
 use Rattle.std.specs.List.Sorted.{IsStrictlySortedBy}
 use Rattle.std.specs.Ordering.{nat_cmp}
@@ -16,6 +16,7 @@ use Rattle.job_model.specs.Reports.{head_text, command_text, worker_text, worker
 use Rattle.report_laws.proofs.EndLemmas.{SmallCause, SmallEnded, EndsCompaction}
 use Rattle.report_laws.proofs.RunLemmas.{OfKind, IsPlain, command_in, AllPlain}
 use Rattle.report_laws.proofs.ShortLemmas.{IsShort, AllShort}
+use Rattle.report_laws.proofs.ListLemmas.{all_up_to, older_rise}
 
 -- ---- no more versions than commands
 
@@ -38,10 +39,6 @@ unfolding made_to once_to
 made_first zero pair pairs = refl
 made_first (suc n) pair pairs = let k = made_first n pair pairs in omega (arith, k)
 
-both_true : (a b : Bool) → (a && b) ≡ true → b ≡ true
-both_true true b h = h
-both_true false b h = absurd cc
-
 pub record AtMostOne (n : ℕ) (pair : Pair) : Type 0 where
   pub one : once_to n pair ≤ 1
   pub none : n < pair.1.version → once_to n pair ≡ 0
@@ -53,7 +50,7 @@ at_most_one (suc n) pair = by_test (at_most_one n pair) (made (suc n) pair) refl
   where
     by_test : AtMostOne n pair → (b : Bool) → made (suc n) pair ≡ b → AtMostOne (suc n) pair
     by_test few true is =
-        let last : pair.1.version ≡ suc n = eqb-true pair.1.version (suc n) (both_true (is_committed pair.1.ended) (eqb pair.1.version (suc n)) is) in
+        let last : pair.1.version ≡ suc n = eqb-true pair.1.version (suc n) (and_parts (is_committed pair.1.ended) (eqb pair.1.version (suc n)) is).1 in
         let before : once_to n pair ≡ 0 = few.none (omega (arith, last)) in
         record { one = rw is (omega (arith, before)); none = λ (l : suc n < pair.1.version). absurd (omega (arith, l, last)) }
     by_test few false is = record { one = rw is (omega (arith, few.one)); none = λ (l : suc n < pair.1.version). let k = few.none (omega (arith, l)) in rw is (omega (arith, k)) }
@@ -103,19 +100,8 @@ last_small chunks passes origin zone ws last set lawful =
 
 -- ---- kinds and numbers
 
-less_from : (x y : ℕ) → nat_cmp x y ≡ Less → x < y
-less_from x y e = grind (arith, nat_tests)
-
-last_of : (P : ℕ → Type 0) (older : List ℕ) (base : ℕ) → AllByRecursion P (older ++ base ∷ []) → P base
-last_of P [] base all = all.0
-last_of P (v ∷ older) base all = last_of P older base all.1
-
 kept_small : (n base : ℕ) (older : List ℕ) → base < n → IsStrictlySortedBy nat_cmp (older ++ base ∷ []) → AllByRecursion (λ v. v < n) (older ++ base ∷ [])
-unfolding IsStrictlySortedBy
-kept_small n base [] small sorted = (small, tt)
-kept_small n base (v ∷ older) small sorted =
-    let below : v < base = less_from v base (last_of (λ (y : ℕ). nat_cmp v y ≡ Less) older base sorted.0) in
-    (omega (arith, below, small), kept_small n base older small sorted.1)
+kept_small n base older small sorted = all_up_to (λ v. v < n) base older (λ v l. omega (arith, l, small)) (older_rise base older sorted).1
 
 full_small : (s : JudgedBy) (asked : Transaction) (base operation : ℕ) (kept : List ℕ) → base < 2 ^ 64 → length asked.operations < 2 ^ 64 → WhyFull s asked base operation kept → SmallCause (Full operation kept)
 full_small s asked base operation kept small short full =

@@ -1,3 +1,4 @@
+pub mod ListLemmas
 pub mod EntryLemmas
 pub mod WellFormedLemmas
 pub mod ChangeLemmas

@@ -61,13 +61,6 @@ rest_fits : (o : Option (List ℕ)) (fields : List Field) → fits_behind o (fie
 rest_fits None fields h = absurd cc
 rest_fits (Some back) fields h = (back, refl, h)
 
--- the last of some fields is a time
-abbrev LastIsTime : List Field → Type 0
-LastIsTime [] = ⊥
-LastIsTime (TimeField ∷ []) = Unit {0}
-LastIsTime (field ∷ []) = ⊥
-LastIsTime (field ∷ next ∷ fields) = LastIsTime (next ∷ fields)
-
 nil_of : (back : List ℕ) → fields_fit [] back ≡ true → back ≡ []
 unfolding fields_fit
 nil_of [] h = refl

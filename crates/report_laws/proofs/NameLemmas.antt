@@ -118,7 +118,7 @@ completed_is origin (Ok x) name o h e = by_end x.1 e
 text_labels : (text : List ℕ) (x : Name × Bool) → AllOctets text → labels_of text ≡ Ok x → AllByRecursion IsLabel x.0
 text_labels text x h e = labels_are [] (pieces_from 0 0 text) x no_octet (all_pieces 0 0 text h) e
 
-root_is : IsName []
+pub root_is : IsName []
 root_is = record { each = tt; short = omega arith }
 
 pub name_is : (text : List ℕ) (origin name : Name) → AllOctets text → IsName origin → name_of text origin ≡ Ok name → IsName name

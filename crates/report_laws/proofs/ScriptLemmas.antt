@@ -21,9 +21,9 @@ use Rattle.job_model.specs.Questions.{asked_of, response_wanted}
 use Rattle.job_model.specs.Phrases.{Phrase, Worker, Asks, AsksWhole, Holds, AsksHeld, AsksHeldWhole, asks_held, Releases, Opens, Needs, Adds, Deletes, Ends, Compacts, without_parens, script_tokens, lone_word, adds, needs, argued, no_question, phrase_of}
 use Rattle.job_model.specs.Arguments.{needed, inner_name, octets_needed, addition_of, deletion_of}
 use Rattle.job_model.proofs.ScriptLaws.{IsKept, IsLone, IsOn, free, operation_of, line_taken, script_whole, list_whole}
-use Rattle.job_model.specs.Jobs.{Unfinished, Script, next_worker, script_line, script_of, list_of}
+use Rattle.job_model.specs.Jobs.{Script, next_worker, script_line, script_of, list_of}
 use Rattle.report_laws.specs.Octets.{AllOctets}
-use Rattle.report_laws.specs.Changes.{IsInside, IsSaid, IsBlock, AllSaid, AllAsked}
+use Rattle.report_laws.specs.Changes.{IsInside, IsSaid, IsBlock, AllAsked}
 use Rattle.report_laws.proofs.DataLemmas.{IsTokenText, AllTexts, data_is, bound}
 use Rattle.report_laws.proofs.TokenLemmas.{either, line_is, fresh_is}
 use Rattle.report_laws.proofs.ReaderLemmas.{name_said, time_said, type_said}

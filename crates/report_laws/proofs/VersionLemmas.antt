@@ -1,5 +1,5 @@
 -- Each version of a job of octets can be dumped.
-use Rattle.std.proofs.Common.{◌≡◌, ℕ, zero, suc, ◌-◌, ◌<◌, Bool, true, false, cond, eqb, List, [], ◌∷◌, length, take, drop, map, Result, Ok, Err, refl, sym, subst}
+use Rattle.std.proofs.Common.{◌≡◌, ℕ, zero, suc, ◌-◌, ◌<◌, Bool, true, false, cond, eqb, List, [], ◌∷◌, length, take, drop, map, Result, Ok, Err, refl, sym, subst, get_or}
 use Rattle.std.specs.Prelude.{slice_index}
 use Rattle.std.specs.List.{AllByRecursion, slice_split, onto_first, range_with_len}
 use Rattle.std.specs.Str.Lines.{strip_carriage_return, lines_of_parts}
@@ -27,6 +27,10 @@ use Rattle.report_laws.proofs.ReaderLemmas.{zone_dumped}
 use Rattle.report_laws.proofs.ScriptLemmas.{AllCommands, AllLists, scripts_ask, lists_ask}
 
 -- ---- lines of octets
+
+pub octets_of : (bytes : List ℕ) → ((i : ℕ) → get_or bytes i 0 < 256) → AllOctets bytes
+octets_of [] small = tt
+octets_of (c ∷ bytes) small = (small 0, octets_of bytes (λ i. small (suc i)))
 
 abbrev pub AllLines : List (List ℕ) → Type 0
 AllLines lines = AllByRecursion AllOctets lines
@@ -124,10 +128,10 @@ list_is origin bytes job name h e =
 
 -- ---- the transactions that made versions
 
-abbrev AllPairs : Name → List Pair → Type 0
+abbrev pub AllPairs : Name → List Pair → Type 0
 AllPairs origin pairs = AllByRecursion (λ (pair : Pair). AllAsked origin pair.0) pairs
 
-asked_is : (origin : Name) (j : ℕ) (pairs : List Pair) → AllPairs origin pairs → AllSaid origin (asked_at j pairs)
+pub asked_is : (origin : Name) (j : ℕ) (pairs : List Pair) → AllPairs origin pairs → AllSaid origin (asked_at j pairs)
 asked_is origin j [] h = tt
 asked_is origin j (pair ∷ pairs) h = by_test (made j pair) (asked_is origin j pairs h.1)
   where

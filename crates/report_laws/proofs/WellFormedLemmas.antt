@@ -20,6 +20,8 @@ use Rattle.dns_name.proofs.BodyLemmas.{all_append}
 use Rattle.master_file.specs.Rows.{IsRecord, CanBeDumped}
 use Rattle.master_file.proofs.JoinLemmas.{names_before, few_soas, not_low, set_in, one_counted}
 use Rattle.report_laws.proofs.EntryLemmas.{IsData, IsSet, AllSets, soa_counted, none_low}
+use Rattle.report_laws.proofs.ListLemmas.{all_parts}
+use Rattle.zone_answer.proofs.OwnedLaws.{self_equal}
 
 -- what a name of a zone owns
 pub record IsOwned (origin : Name) (pair : Name × Entry) : Type 0 where
@@ -119,7 +121,7 @@ pub record Owns (origin owner : Name) (entry : Entry) : Type 0 where
   pub short : 0 < length entry → length (item owner entry) ≤ item_limit
   pub sets : AllSets origin owner entry
 
-owns_nothing : (origin owner : Name) → Owns origin owner []
+pub owns_nothing : (origin owner : Name) → Owns origin owner []
 owns_nothing origin owner = record { lone = refl; few = omega arith; proper = tt; short = λ some. absurd (omega arith); sets = tt }
 
 owns_pair : (origin : Name) (pair : Name × Entry) → IsOwned origin pair → Owns origin pair.0 pair.1
@@ -135,16 +137,8 @@ owns origin owner (pair ∷ rest) h = by_test (is_eq (name_cmp owner pair.0)) re
 
 -- ---- what the origin owns
 
-name_self : (x : Name) → name_cmp x x ≡ Equal
-name_self x = by_order (name_cmp x x) (name_cmp_total.antisymm x x)
-  where
-    by_order : (o : Ordering) → o ≡ ordering_reverse o → o ≡ Equal
-    by_order Less e = absurd cc
-    by_order Equal e = refl
-    by_order Greater e = absurd cc
-
 pub owned_at : (owner : Name) (entry : Entry) (rest : Version) → owned owner ((owner, entry) ∷ rest) ≡ entry
-owned_at owner entry rest = ap (λ (o : Ordering). unwrap_or (cond (is_eq o) (Some entry) (entry_of owner rest)) []) (name_self owner)
+owned_at owner entry rest = ap (λ (o : Ordering). unwrap_or (cond (is_eq o) (Some entry) (entry_of owner rest)) []) (self_equal owner)
 
 -- a name owns what was put
 pub put_owned : (owner : Name) (entry : Entry) (version : Version) → owned owner (insert_entry name_cmp version owner entry) ≡ entry
@@ -237,10 +231,6 @@ can_be_dumped origin version name h soa =
     }
 
 -- ---- and the other way round
-
-all_parts : {A : Type 0} (P : A → Type 0) (xs ys : List A) → AllByRecursion P (xs ++ ys) → AllByRecursion P xs × AllByRecursion P ys
-all_parts P [] ys h = (tt, h)
-all_parts P (x ∷ xs) ys h = let i = all_parts P xs ys h.1 in ((h.0, i.0), i.1)
 
 data_of_rows : (owner : Name) (rtype ttl : ℕ) (records : List (List ℕ)) → AllByRecursion IsRecord (rows_of owner (record { rtype = rtype; ttl = ttl; records = records })) → AllByRecursion (IsData rtype) records
 data_of_rows owner rtype ttl [] h = tt
