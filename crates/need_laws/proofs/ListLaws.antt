@@ -11,8 +11,9 @@ use Rattle.job_model.specs.Feeds.{Fed, FedPair, fed_commands, all_numbers, by_wo
 use Rattle.job_model.proofs.FeedLaws.{IsAmong, fed_among}
 use Rattle.report_laws.specs.Changes.{AllAsked}
 use Rattle.report_laws.specs.Versions.{AreFedOutcomesOf}
+use Rattle.report_laws.proofs.ListLemmas.{all_append}
 use Rattle.need_laws.specs.Bounds.{AllFedFindRoom, IsSaidList, IsSizedList, FindsRoom}
-use Rattle.need_laws.proofs.RunLaws.{IsShort, all_join, cells_together, commands_few}
+use Rattle.need_laws.proofs.RunLaws.{IsShort, cells_together, commands_few}
 use Rattle.need_laws.proofs.RoomLaws.{all_room}
 
 -- ---- what is so of all commands is so of those that some workers ran
@@ -30,7 +31,7 @@ mine P w (f ∷ fed) h = by_test (eqb f.worker w) (mine P w fed h.1)
 
 all_mine : (P : Pair → Type 0) (fed : List FedPair) → AllFed P fed → (workers : List ℕ) → AllByRecursion P (all_pairs (map (λ w. pairs_by w fed) workers))
 all_mine P fed h [] = tt
-all_mine P fed h (w ∷ workers) = all_join P (pairs_by w fed) (all_pairs (map (λ v. pairs_by v fed) workers)) (mine P w fed h) (all_mine P fed h workers)
+all_mine P fed h (w ∷ workers) = all_append P (pairs_by w fed) (all_pairs (map (λ v. pairs_by v fed) workers)) (mine P w fed h) (all_mine P fed h workers)
 
 -- and the other way round, where each was run by one of them
 

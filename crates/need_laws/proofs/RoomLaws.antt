@@ -12,8 +12,9 @@ use Rattle.job_model.specs.Needs.{cells_of_workers, most_cells, most_operations}
 use Rattle.job_model.specs.Outcomes.{Cause, Rule, Full, Spent, Causes, Ended, Shown, Committed, RolledBack, Refused, Pair, asked_by, JudgedBy, judged_by, BlockEnds, WorkerProgress, progress_after, at_first, Shows, EndsLawfully, Along, AllAlong, all_pairs, Lawful, passes_for}
 use Rattle.qp_multi.specs.Openings.{room_in}
 use Rattle.report_laws.specs.Versions.{AreOutcomesOf}
+use Rattle.report_laws.proofs.ListLemmas.{all_append}
 use Rattle.need_laws.specs.Bounds.{IsSaidJob, IsSized, FindsRoom, AllFindRoom}
-use Rattle.need_laws.proofs.RunLaws.{IsShort, all_join, jobs_few, jobs_short}
+use Rattle.need_laws.proofs.RunLaws.{IsShort, jobs_few, jobs_short}
 
 -- ---- the zone
 
@@ -73,7 +74,7 @@ module _ (s : JudgedBy) (MayCome : Transaction → ℕ → Ended → Type 0)
   ends_with_room [] may a = tt
   ends_with_room (pairs ∷ workers) may a =
       let parts = both_of PairMayCome pairs (all_pairs workers) may in
-      all_join (λ (pair : Pair). FindsRoom pair.1.ended) pairs (all_pairs workers) (along_room at_first pairs parts.0 a.0) (ends_with_room workers parts.1 a.1)
+      all_append (λ (pair : Pair). FindsRoom pair.1.ended) pairs (all_pairs workers) (along_room at_first pairs parts.0 a.0) (ends_with_room workers parts.1 a.1)
 
 -- where there are enough chunks
 module _ (s : JudgedBy) (cells operations : ℕ) (roomy : is_roomy s.passes cells operations s.chunks) (few : (v : ℕ) → cell_count (s.set v) ≤ cells) (short : (v : ℕ) → length (s.made_by v).operations ≤ operations) where

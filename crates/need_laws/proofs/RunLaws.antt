@@ -13,6 +13,9 @@ use Rattle.job_model.specs.Outcomes.{Pair, made, is_committed, asked_by, asked_a
 use Rattle.report_laws.specs.Changes.{IsSaid, AllSaid, AllAsked}
 use Rattle.report_laws.specs.Versions.{AreOutcomesOf}
 use Rattle.report_laws.proofs.ChangeLemmas.{IsZone, is_zone}
+use Rattle.report_laws.proofs.ListLemmas.{all_append, all_both, all_parts, all_weaker}
+use Rattle.report_laws.proofs.VersionLemmas.{AllPairs, asked_is}
+use Rattle.report_laws.proofs.RunLemmas.{command_in}
 use Rattle.need_laws.specs.Bounds.{AllWorkersAsk, IsSaidJob, base_of, WorksWithin, HaveFewCells, HaveFewOperations}
 use Rattle.need_laws.proofs.StepLaws.{all_cells, zone_behind, cells_behind}
 
@@ -92,35 +95,20 @@ one_version n (pair ∷ pairs) = by_test (made (suc n) pair) refl (one_version n
 
 -- ---- versions
 
-abbrev AllPairsAsk : Name → List Pair → Type 0
-AllPairsAsk origin pairs = AllByRecursion (λ (pair : Pair). AllAsked origin pair.0) pairs
-
-asked_said : (origin : Name) (j : ℕ) (pairs : List Pair) → AllPairsAsk origin pairs → AllSaid origin (asked_at j pairs)
-asked_said origin j [] h = tt
-asked_said origin j (pair ∷ pairs) h = by_test (made j pair) (asked_said origin j pairs h.1)
-  where
-    by_test : (b : Bool) → AllSaid origin (asked_at j pairs) → AllSaid origin (cond b (asked_by pair.0) (asked_at j pairs))
-    by_test true i = h.0
-    by_test false i = i
-
-module _ (origin : Name) (zone : Version) (pairs : List Pair) (is : IsZone origin zone) (ask : AllPairsAsk origin pairs) where
+module _ (origin : Name) (zone : Version) (pairs : List Pair) (is : IsZone origin zone) (ask : AllPairs origin pairs) where
   pub version_zone : (v : ℕ) → IsZone origin (version_at origin zone pairs v)
   version_zone zero = is
-  version_zone (suc v) = zone_behind origin (asked_at (suc v) pairs) (version_at origin zone pairs v) (asked_said origin (suc v) pairs ask) (version_zone v)
+  version_zone (suc v) = zone_behind origin (asked_at (suc v) pairs) (version_at origin zone pairs v) (asked_is origin (suc v) pairs ask) (version_zone v)
 
   version_cells : (v : ℕ) → cell_count (version_at origin zone pairs v) ≤ cell_count zone + counted_all v pairs
   version_cells zero = omega arith
   version_cells (suc v) =
-      let a = cells_behind origin (asked_at (suc v) pairs) (version_at origin zone pairs v) (asked_said origin (suc v) pairs ask) (version_zone v) in
+      let a = cells_behind origin (asked_at (suc v) pairs) (version_at origin zone pairs v) (asked_is origin (suc v) pairs ask) (version_zone v) in
       let b = version_cells v in
       let c = one_version v pairs in
       omega (arith, a, b, c)
 
 -- ---- what a transaction works on
-
-pub front_said : (origin : Name) (front back : List Operation) → AllByRecursion (IsSaid origin) (front ++ back) → AllByRecursion (IsSaid origin) front
-front_said origin [] back h = tt
-front_said origin (first ∷ front) back h = (h.0, front_said origin front back h.1)
 
 front_cells : (front back : List Operation) → cells_of_operations front ≤ cells_of_operations (front ++ back)
 front_cells [] back = omega arith
@@ -130,19 +118,11 @@ front_cells (first ∷ front) back = let l = front_cells front back in omega (ar
 abbrev HasRoom : List Pair → Pair → Type 0
 HasRoom pairs pair = (n : ℕ) → counted n pair ≡ 0 → cost pair + counted_all n pairs ≤ cost_of_all pairs
 
-all_map : {A : Type 0} (P Q : A → Type 0) → ((x : A) → P x → Q x) → (xs : List A) → AllByRecursion P xs → AllByRecursion Q xs
-all_map P Q f [] h = tt
-all_map P Q f (x ∷ xs) h = (f x h.0, all_map P Q f xs h.1)
-
-pub all_both : {A : Type 0} (P Q R : A → Type 0) → ((x : A) → P x → Q x → R x) → (xs : List A) → AllByRecursion P xs → AllByRecursion Q xs → AllByRecursion R xs
-all_both P Q R f [] g h = tt
-all_both P Q R f (x ∷ xs) g h = (f x g.0 h.0, all_both P Q R f xs g.1 h.1)
-
 all_rooms : (pairs : List Pair) → AllByRecursion (HasRoom pairs) pairs
 all_rooms [] = tt
 all_rooms (pair ∷ pairs) = (
   λ n none. let l = counted_all_most n pairs in omega (arith, none, l),
-  all_map (HasRoom pairs) (HasRoom (pair ∷ pairs)) (λ x room n none. let l = room n none in let m = counted_most n pair in omega (arith, l, m)) pairs (all_rooms pairs),
+  all_weaker (HasRoom pairs) (HasRoom (pair ∷ pairs)) pairs (λ x room n none. let l = room n none in let m = counted_most n pair in omega (arith, l, m)) (all_rooms pairs),
 )
 
 on_base : (pair : Pair) → counted (base_of pair.1) pair ≡ 0
@@ -155,13 +135,13 @@ on_base pair = by_test (is_committed pair.1.ended) refl
 -- what first operations make of a version, by what all of them are reckoned at
 first_cells : (origin : Name) (version : Version) (t : Transaction) (most : ℕ) → IsZone origin version → AllSaid origin t → cell_count version + cells_of_operations t.operations ≤ most → WorksWithin most origin version t
 first_cells origin version t most is said room front back working parts made =
-    let a = all_cells origin front version working (front_said origin front back (subst (AllByRecursion (IsSaid origin)) parts said)) is made in
+    let a = all_cells origin front version working ((all_parts (IsSaid origin) front back (subst (AllByRecursion (IsSaid origin)) parts said)).0) is made in
     let b = front_cells front back in
     let c = ap cells_of_operations parts in
     omega (arith, a, b, c, room)
 
 pub commands_few : (origin : Name) (zone : Version) (pairs : List Pair) → CanBeDumped origin zone → AllByRecursion (λ (pair : Pair). AllAsked origin pair.0) pairs → HaveFewCells (cell_count zone + cells_of_commands (map (λ (pair : Pair). pair.0) pairs)) origin zone pairs
-commands_few origin zone pairs dumped ask = record { versions = versions; between = between; working = all_both (HasRoom pairs) (λ (pair : Pair). AllAsked origin pair.0) Works works pairs (all_rooms pairs) ask }
+commands_few origin zone pairs dumped ask = record { versions = versions; between = between; working = all_both (HasRoom pairs) (λ (pair : Pair). AllAsked origin pair.0) Works pairs works (all_rooms pairs) ask }
   where
     most : ℕ
     most = cell_count zone + cells_of_commands (map (λ (pair : Pair). pair.0) pairs)
@@ -179,7 +159,7 @@ commands_few origin zone pairs dumped ask = record { versions = versions; betwee
         let c = counted_all_most (suc v) pairs in
         let next : v + 1 ≡ suc v = omega arith in
         subst (λ (n : ℕ). WorksWithin most origin (version_at origin zone pairs v) (asked_at n pairs)) (sym next)
-        (first_cells origin (version_at origin zone pairs v) (asked_at (suc v) pairs) most (version_zone origin zone pairs is ask v) (asked_said origin (suc v) pairs ask) (omega (arith, a, b, c)))
+        (first_cells origin (version_at origin zone pairs v) (asked_at (suc v) pairs) most (version_zone origin zone pairs is ask v) (asked_is origin (suc v) pairs ask) (omega (arith, a, b, c)))
 
     Works : Pair → Type 0
     Works pair = WorksWithin most origin (version_at origin zone pairs (base_of pair.1)) (asked_by pair.0)
@@ -201,13 +181,10 @@ longest-append : (xs ys : List Command) → longest (xs ++ ys) ≡ max (longest 
 longest-append [] ys = omega arith
 longest-append (x ∷ xs) ys = let l = longest-append xs ys in omega (arith, l)
 
-abbrev in_pairs : Pair → Command
-in_pairs pair = pair.0
-
 pub cells_together : (workers : List (List Pair)) → cells_of_commands (commands_of (all_pairs workers)) ≡ cells_of_workers (map (map (λ (pair : Pair). pair.0)) workers)
 cells_together [] = refl
 cells_together (pairs ∷ workers) =
-    let a = ap cells_of_commands (map-append in_pairs pairs (all_pairs workers)) in
+    let a = ap cells_of_commands (map-append command_in pairs (all_pairs workers)) in
     let b = cells-append (commands_of pairs) (commands_of (all_pairs workers)) in
     let c = cells_together workers in
     omega (arith, a, b, c)
@@ -215,22 +192,18 @@ cells_together (pairs ∷ workers) =
 longest_together : (workers : List (List Pair)) → longest (commands_of (all_pairs workers)) ≡ longest_of_workers (map (map (λ (pair : Pair). pair.0)) workers)
 longest_together [] = refl
 longest_together (pairs ∷ workers) =
-    let a = ap longest (map-append in_pairs pairs (all_pairs workers)) in
+    let a = ap longest (map-append command_in pairs (all_pairs workers)) in
     let b = longest-append (commands_of pairs) (commands_of (all_pairs workers)) in
     let c = longest_together workers in
     omega (arith, a, b, c)
 
-pairs_ask : (origin : Name) (pairs : List Pair) → AllByRecursion (AllAsked origin) (commands_of pairs) → AllPairsAsk origin pairs
+pairs_ask : (origin : Name) (pairs : List Pair) → AllByRecursion (AllAsked origin) (commands_of pairs) → AllPairs origin pairs
 pairs_ask origin [] h = tt
 pairs_ask origin (pair ∷ pairs) h = (h.0, pairs_ask origin pairs h.1)
 
-pub all_join : {A : Type 0} (P : A → Type 0) (xs ys : List A) → AllByRecursion P xs → AllByRecursion P ys → AllByRecursion P (xs ++ ys)
-all_join P [] ys g h = h
-all_join P (x ∷ xs) ys g h = (g.0, all_join P xs ys g.1 h)
-
-pub all_ask : (origin : Name) (workers : List (List Pair)) → AllWorkersAsk origin (map (map (λ (pair : Pair). pair.0)) workers) → AllPairsAsk origin (all_pairs workers)
+pub all_ask : (origin : Name) (workers : List (List Pair)) → AllWorkersAsk origin (map (map (λ (pair : Pair). pair.0)) workers) → AllPairs origin (all_pairs workers)
 all_ask origin [] h = tt
-all_ask origin (pairs ∷ workers) h = all_join (λ (pair : Pair). AllAsked origin pair.0) pairs (all_pairs workers) (pairs_ask origin pairs h.0) (all_ask origin workers h.1)
+all_ask origin (pairs ∷ workers) h = all_append (λ (pair : Pair). AllAsked origin pair.0) pairs (all_pairs workers) (pairs_ask origin pairs h.0) (all_ask origin workers h.1)
 
 pub jobs_few : (job : Job) → IsSaidJob job → (workers : List (List Pair)) → AreOutcomesOf job workers → HaveFewCells (most_cells job) job.origin job.zone (all_pairs workers)
 jobs_few job said workers same =
@@ -254,7 +227,7 @@ asked_short : (pairs : List Pair) → AllByRecursion (IsShort (longest (commands
 asked_short [] = tt
 asked_short (pair ∷ pairs) = (
   omega arith,
-  all_map (IsShort (longest (commands_of pairs))) (IsShort (longest (commands_of (pair ∷ pairs)))) (λ x l. omega (arith, l)) pairs (asked_short pairs),
+  all_weaker (IsShort (longest (commands_of pairs))) (IsShort (longest (commands_of (pair ∷ pairs)))) pairs (λ x l. omega (arith, l)) (asked_short pairs),
 )
 
 pub jobs_short : (job : Job) (workers : List (List Pair)) → AreOutcomesOf job workers → HaveFewOperations (most_operations job) (all_pairs workers)

@@ -14,11 +14,12 @@ use Rattle.job_model.specs.Sizes.{cell_count, cells_asked, item_cells}
 use Rattle.job_model.specs.Outcomes.{BoundsSets, Cause, Rule, Full, Spent, Causes, Ended, Refused, Pair, asked_by, JudgedBy, judged_by, WhyFull, all_pairs, Lawful}
 use Rattle.report_laws.specs.Changes.{IsSaid, AllSaid, AllAsked}
 use Rattle.report_laws.specs.Versions.{AreOutcomesOf}
-use Rattle.report_laws.proofs.ChangeLemmas.{IsZone, is_zone}
+use Rattle.report_laws.proofs.ChangeLemmas.{IsZone, is_zone, all_said, applied}
+use Rattle.report_laws.proofs.ListLemmas.{all_both, all_parts}
 use Rattle.need_laws.specs.Bounds.{IsSaidJob, WorksWithin, HaveFewCells, AllWorkersAsk, NamesFew, AllNameFew, FindsRoom, AllFindRoom, base_of}
 use Rattle.need_laws.proofs.ItemLaws.{item_length, fewer_cells}
-use Rattle.need_laws.proofs.StepLaws.{one_applied, version_of_zone, zone_after}
-use Rattle.need_laws.proofs.RunLaws.{all_ask, all_both, front_said, version_zone}
+use Rattle.need_laws.proofs.StepLaws.{version_of_zone}
+use Rattle.need_laws.proofs.RunLaws.{all_ask, version_zone}
 use Rattle.need_laws.proofs.RoomLaws.{ends_with_room}
 
 -- ---- an item
@@ -68,8 +69,8 @@ module _ (s : JudgedBy) (chunks : s.chunks ≡ 64) (first : cell_count (s.set 0)
   asked_small asked base operation kept works said c =
       let all : AllByRecursion (IsSaid s.origin) (c.front ++ c.refused ∷ c.back) = subst (AllByRecursion (IsSaid s.origin)) c.all said in
       let one = one_said s.origin c.front c.back c.refused all in
-      let before = zone_after s.origin c.front (s.set base) c.working (front_said s.origin c.front (c.refused ∷ c.back) all) (zones base) c.before in
-      let item = item_few s.origin (owner_of c.refused) c.next (owner_named s.origin c.refused one) (one_applied s.origin c.refused c.working c.next one before c.accepted) in
+      let before = all_said s.origin c.front (s.set base) c.working (all_parts (IsSaid s.origin) c.front (c.refused ∷ c.back) all).0 (zones base) c.before in
+      let item = item_few s.origin (owner_of c.refused) c.next (owner_named s.origin c.refused one) (applied s.origin c.refused c.working c.next one before c.accepted) in
       let working = works c.front (c.refused ∷ c.back) c.working c.all c.before in
       omega (arith, item, working)
 
@@ -89,6 +90,6 @@ small_room job said workers same few names passes last lawful =
     let zones : (v : ℕ) → IsZone job.origin (s.set v) = version_zone job.origin job.zone (all_pairs workers) (is_zone job.origin job.zone said.zone) ask in
     let Small : Pair → Type 0 = λ pair. IsSmall s refl (few.versions 0) few.between zones (asked_by pair.0) pair.1.version pair.1.ended in
     let works = all_both (λ (pair : Pair). WorksWithin 768 job.origin (s.set (base_of pair.1)) (asked_by pair.0)) (λ (pair : Pair). AllAsked job.origin pair.0) (λ (pair : Pair). WorksWithin 768 job.origin (s.set (base_of pair.1)) (asked_by pair.0) × AllAsked job.origin pair.0)
-    (λ pair w a. (w, a)) (all_pairs workers) few.working ask in
-    let small = all_both (λ (pair : Pair). WorksWithin 768 job.origin (s.set (base_of pair.1)) (asked_by pair.0) × AllAsked job.origin pair.0) (λ (pair : Pair). NamesFew 2 pair.1.ended) Small (λ pair both n. (both.0, both.1, n)) (all_pairs workers) works names in
+    (all_pairs workers) (λ pair w a. (w, a)) few.working ask in
+    let small = all_both (λ (pair : Pair). WorksWithin 768 job.origin (s.set (base_of pair.1)) (asked_by pair.0) × AllAsked job.origin pair.0) (λ (pair : Pair). NamesFew 2 pair.1.ended) Small (all_pairs workers) (λ pair both n. (both.0, both.1, n)) works names in
     ends_with_room s (IsSmall s refl (few.versions 0) few.between zones) (small_cause s refl (few.versions 0) few.between zones) workers small lawful.along

@@ -13,7 +13,7 @@ use Rattle.job_model.specs.Needs.{cells_added, cells_of_operations}
 use Rattle.job_model.specs.Outcomes.{accepted_or, after}
 use Rattle.report_laws.specs.Changes.{IsSaid, AllSaid}
 use Rattle.report_laws.proofs.WellFormedLemmas.{IsOwned}
-use Rattle.report_laws.proofs.ChangeLemmas.{IsZone, zone_whole}
+use Rattle.report_laws.proofs.ChangeLemmas.{IsZone, zone_whole, applied}
 use Rattle.need_laws.proofs.ItemLaws.{operation_room}
 use Rattle.need_laws.proofs.PlaceLaws.{put_cells}
 
@@ -24,15 +24,7 @@ items_of origin (pair ∷ rest) h = (h.0.item, items_of origin rest h.1)
 pub version_of_zone : (origin : Name) (version : Version) → IsZone origin version → IsVersion version
 version_of_zone origin version z = record { rising = z.well_formed.rising; items = items_of origin version z.well_formed.each }
 
--- operations without prerequisites leave a zone one
-pub zone_after : (origin : Name) (operations : List Operation) (version next : Version) → AllByRecursion (IsSaid origin) operations → IsZone origin version → all_applied origin operations version ≡ Ok next → IsZone origin next
-zone_after origin operations version next said z e = zone_whole origin (record { needs = []; operations = operations }) version next said z e
-
 -- ---- one operation
-
-pub one_applied : (origin : Name) (operation : Operation) (version next : Version) → IsSaid origin operation → IsZone origin version → apply origin operation version ≡ Ok next → IsZone origin next
-one_applied origin operation version next said z e =
-    zone_after origin (operation ∷ []) version next (said, tt) z (ap (λ (r : Result Version Refusal). and_then r (all_applied origin [])) e)
 
 cells_applied : (origin : Name) (operation : Operation) (version next : Version) → IsSaid origin operation → IsZone origin version → apply origin operation version ≡ Ok next → cell_count next ≤ cell_count version + cells_added operation
 cells_applied origin operation version next said z e = by_result (changed origin operation (owned owner version)) refl e
@@ -44,7 +36,7 @@ cells_applied origin operation version next said z e = by_result (changed origin
     by_result (Err refusal) c h = absurd cc
     by_result (Ok entry) c h =
         let is : put owner entry version ≡ next = cc in
-        let w = subst IsVersion (sym is) (version_of_zone origin next (one_applied origin operation version next said z e)) in
+        let w = subst IsVersion (sym is) (version_of_zone origin next (applied origin operation version next said z e)) in
         let l = put_cells owner entry version (version_of_zone origin version z) w in
         let r = operation_room origin operation (owned owner version) entry c in
         let s = ap cell_count is in
@@ -61,7 +53,7 @@ all_cells origin (first ∷ rest) version next said z e = by_result (λ (v : Ver
     by_result others (Err refusal) a h = absurd cc
     by_result others (Ok v) a h =
         let l = cells_applied origin first version v said.0 z a in
-        let m = others v (one_applied origin first version v said.0 z a) h in
+        let m = others v (applied origin first version v said.0 z a) h in
         omega (arith, l, m)
 
 -- ---- a transaction
