@@ -1,9 +1,8 @@
 -- The first commands of a worker whose outcomes are lawful are lawful without those behind them.
-use Rattle.std.proofs.Common.{◌≡◌, ◌∙◌, ⊎_elim, ℕ, ◌+◌, ◌-◌, ◌/◌, ◌<◌, ◌≤◌, true, List, [], ◌∷◌, ◌++◌, length, Some, None, Ok, Err, IsOk, sym, ap, subst, arith, Contains, append-nil, Less}
+use Rattle.std.proofs.Common.{◌≡◌, ◌∙◌, ⊎_elim, ℕ, ◌+◌, ◌-◌, ◌/◌, ◌<◌, ◌≤◌, true, List, [], ◌∷◌, ◌++◌, length, Some, None, Ok, Err, IsOk, sym, ap, subst, arith, Contains, append-nil}
 use Rattle.std.specs.List.{AllByRecursion}
 use Rattle.std.specs.List.Sorted.{IsStrictlySortedBy}
 use Rattle.std.specs.Ordering.{nat_cmp}
-use Rattle.std.proofs.lemmas.Bool.Decides.{nat_tests}
 use Rattle.std.proofs.lemmas.List.Elements.{Contains-append_cases}
 use Rattle.zone_model.specs.Names.{Name}
 use Rattle.zone_model.specs.Versions.{Operation, Version, all_applied}
@@ -15,20 +14,7 @@ use Rattle.job_model.specs.Sizes.{cell_count}
 use Rattle.job_model.specs.Outcomes.{Along, BlockEnds, BoundsSets, BoundsVersions, Cause, Rule, Full, Spent, Causes, Ended, Shown, Committed, RolledBack, Refused, EndsLawfully, WhyFull, Lawful, Pair, JudgedBy, WorkerProgress, asked_at, at_first, cells_kept, shown_in, progress_after, times_made, version_at}
 use Rattle.session_laws.proofs.FrontLaws.{asked-same, version-same}
 use Rattle.session_laws.proofs.ProgressLaws.{HeldBelow, NoneAbove, end_few, end_progress, held_shown, later_shown, none_made, rises, shown-append, split, times-append}
-
--- ---- kept versions are below the base
-
-less_from : (x y : ℕ) → nat_cmp x y ≡ Less → x < y
-less_from x y e = grind (arith, nat_tests)
-
-last_of : (P : ℕ → Type 0) (older : List ℕ) (base : ℕ) → AllByRecursion P (older ++ base ∷ []) → P base
-last_of P [] base all = all.0
-last_of P (v ∷ older) base all = last_of P older base all.1
-
-older_below : (base : ℕ) (older : List ℕ) → IsStrictlySortedBy nat_cmp (older ++ base ∷ []) → AllByRecursion (λ w. w < base) older
-unfolding IsStrictlySortedBy
-older_below base [] sorted = tt
-older_below base (v ∷ older) sorted = (less_from v base (last_of (λ (y : ℕ). nat_cmp v y ≡ Less) older base sorted.0), older_below base older sorted.1)
+use Rattle.report_laws.proofs.ListLemmas.{all_parts, older_rise}
 
 -- ---- judged by the same up to a version
 
@@ -68,7 +54,7 @@ module _ (chunks passes : ℕ) (origin : Name) (set set' : ℕ → Version) (mad
 
   full_same : (asked : Transaction) (base operation : ℕ) (kept : List ℕ) → base ≤ k → WhyFull from asked base operation kept → WhyFull to asked base operation kept
   full_same asked base operation kept few h =
-      let below = older_below base h.older (subst (IsStrictlySortedBy nat_cmp) h.base_last h.rising) in
+      let below = (older_rise base h.older (subst (IsStrictlySortedBy nat_cmp) h.base_last h.rising)).1 in
       record {
         met = subst (λ (x : Version). all_met x asked.needs ≡ true) (sets base few) h.met;
         front = h.front;
@@ -154,7 +140,7 @@ first_alone chunks passes origin zone pairs more last h =
     let k : ℕ = (end_progress at_first pairs).seen in
     let parts = split all at_first pairs more h.along in
     let r = rises all at_first pairs nothing_held parts.0 in
-    let few : k ≤ last = end_few last at_first pairs (omega arith) (both_of last pairs more h.below) in
+    let few : k ≤ last = end_few last at_first pairs (omega arith) (all_parts (λ (pair : Pair). pair.1.version ≤ last) pairs more h.below).0 in
     let once : (j : ℕ) → 0 < j → j ≤ k → times_made j pairs ≡ 1 = λ j p l.
     let total = h.once j p (omega (arith, l, few)) in
     let none = none_made all (end_progress at_first pairs) more j r.held parts.1 l in
@@ -168,10 +154,6 @@ first_alone chunks passes origin zone pairs more last h =
           (λ v l. version-same origin zone pairs more k v once l) (λ j p l. asked-same j pairs more (once j p l)) shown at_first pairs r.below parts.0;
     }
   where
-    both_of : (last : ℕ) (xs ys : List Pair) → NoneAbove last (xs ++ ys) → NoneAbove last xs
-    both_of last [] ys all = tt
-    both_of last (x ∷ xs) ys all = (all.0, both_of last xs ys all.1)
-
     shown_before : (s : JudgedBy) (xs ys : List Pair) (w : ℕ) → w < (end_progress at_first xs).seen → HeldBelow (end_progress at_first xs) → Along s (end_progress at_first xs) ys → Contains (shown_in ys) w → Contains (shown_in xs) w
     shown_before s xs ys w l below along there =
         ⊎_elim (λ late. absurd (omega (arith, late, l))) (λ held. ⊎_elim (λ before. absurd (let no : None ≡ Some w = before in cc)) (λ now. now) (held_shown at_first xs w held))

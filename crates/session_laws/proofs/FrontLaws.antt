@@ -1,6 +1,5 @@
 -- Replies behind others.
 use Rattle.std.proofs.Common.{◌≡◌, ◌∙◌, ℕ, zero, suc, ◌+◌, ◌<◌, ◌≤◌, Bool, true, false, cond, List, [], ◌∷◌, ◌++◌, length, refl, sym, ap, subst, arith, append_assoc, append-nil}
-use Rattle.std.specs.List.{AllByRecursion}
 use Rattle.zone_model.specs.Names.{Name}
 use Rattle.zone_model.specs.Versions.{Version}
 use Rattle.zone_model.specs.Transactions.{Transaction}
@@ -8,6 +7,7 @@ use Rattle.job_model.specs.Commands.{Command, Ask, Hold, AskHeld, Release, Block
 use Rattle.job_model.specs.Outcomes.{Outcome, Pair, WorkerProgress, after, all_pairs, asked_at, asked_by, at_first, made, progress_after, times_made, version_at}
 use Rattle.job_model.specs.Reports.{command_text, head_text}
 use Rattle.job_model.specs.Sessions.{Reply, Ran, RefusedLine, GivenUp, Replied, Said, given_up_text, pairs_in, ready_text, refused_line_text, replies_text, session_text, versions_in}
+use Rattle.session_laws.proofs.ProgressLaws.{NoneAbove}
 
 -- ---- the versions that first replies made
 
@@ -47,9 +47,6 @@ command-same origin set other last (AskHeld question) o agree few = ap (λ (v : 
 command-same origin set other last Release o agree few = refl
 command-same origin set other last (Block _ asked ending) o agree few = refl
 command-same origin set other last Compact o agree few = refl
-
-abbrev NoneAbove : ℕ → List Pair → Type 0
-NoneAbove last pairs = AllByRecursion (λ pair. pair.1.version ≤ last) pairs
 
 -- the text begins with this one
 abbrev pub Begins : List ℕ → List ℕ → Type 0

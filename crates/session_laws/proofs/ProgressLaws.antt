@@ -1,7 +1,8 @@
 -- What one worker sees along its commands: nothing older than before, and nothing that isn't made yet.
-use Rattle.std.proofs.Common.{◌≡◌, ◌∙◌, ◌⊎◌, inl, inr, ⊎_elim, ℕ, ◌+◌, ◌<◌, ◌≤◌, Bool, true, false, cond, ◌&&◌, eqb, List, [], ◌∷◌, ◌++◌, Option, Some, None, refl, sym, ap, subst, arith, eqb-true, Contains, append_assoc}
+use Rattle.std.proofs.Common.{◌≡◌, ◌∙◌, ◌⊎◌, inl, inr, ⊎_elim, ℕ, ◌+◌, ◌<◌, ◌≤◌, Bool, true, false, cond, eqb, List, [], ◌∷◌, ◌++◌, Option, Some, None, refl, sym, ap, subst, arith, eqb-true, Contains, append_assoc}
 use Rattle.std.specs.List.{AllByRecursion}
 use Rattle.std.proofs.lemmas.List.Elements.{Contains-append_cases, Contains-append_left, Contains-append_right, Contains-push, Contains-push_cases}
+use Rattle.std.proofs.lemmas.Bool.{and_parts}
 use Rattle.zone_model.specs.Transactions.{Transaction, no_changes}
 use Rattle.job_model.specs.declared.Ending.{Ending}
 use Rattle.job_model.specs.declared.Ending.TheVariants.{Commit}
@@ -100,10 +101,6 @@ pub end_few : (last : ℕ) (progress : WorkerProgress) (pairs : List Pair) → p
 end_few last progress [] few below = few
 end_few last progress (pair ∷ pairs) few below = end_few last (progress_after progress pair.0 pair.1.version) pairs (after_few last progress pair.0 pair.1.version few below.0) below.1
 
-both_true : (a b : Bool) → (a && b) ≡ true → (a ≡ true) × (b ≡ true)
-both_true true b h = (refl, h)
-both_true false b h = absurd cc
-
 -- no command makes a version again that was seen
 pub none_made : (s : JudgedBy) (progress : WorkerProgress) (pairs : List Pair) (j : ℕ) → HeldBelow progress → Along s progress pairs → j ≤ progress.seen → times_made j pairs ≡ 0
 none_made s progress [] j below along few = refl
@@ -114,7 +111,7 @@ none_made s progress (pair ∷ pairs) j below along few =
   where
     by_test : (b : Bool) → made j pair ≡ b → times_made j pairs ≡ 0 → (is_committed pair.1.ended ≡ true → progress.seen < pair.1.version) → cond b 1 0 + times_made j pairs ≡ 0
     by_test true is none new =
-        let parts = both_true (is_committed pair.1.ended) (eqb pair.1.version j) is in
+        let parts = and_parts (is_committed pair.1.ended) (eqb pair.1.version j) is in
         let later = new parts.0 in
         let same = eqb-true pair.1.version j parts.1 in
         absurd (omega (arith, later, same, few))
