@@ -1,7 +1,8 @@
 -- The workers of a made load change names of their own, so where none is refused its summary is one.
-use Rattle.std.proofs.Common.{◌≡◌, ◌∙◌, ℕ, ◌+◌, ◌%◌, ◌<◌, Bool, true, false, ◌&&◌, ◌||◌, List, [], ◌∷◌, refl, sym, ap, subst, arith, Ok, codes}
+use Rattle.std.proofs.Common.{◌≡◌, ◌∙◌, ℕ, ◌+◌, ◌%◌, ◌<◌, Bool, true, false, ◌||◌, List, [], ◌∷◌, refl, sym, ap, subst, arith, Ok, codes}
 use Rattle.std.proofs.lemmas.Bool.Decides.{nat_tests}
 use Rattle.std.proofs.lemmas.Fmt.{decimal_injective}
+use Rattle.std.proofs.lemmas.Bool.{and_parts}
 use Rattle.std.specs.Fmt.{decimal}
 use Rattle.std.specs.List.{AllByRecursion, flat_map, list_all}
 use Rattle.zone_model.specs.Names.{Name, IsName}
@@ -58,12 +59,8 @@ lists_apart workers r (commands ∷ others) own = (others_apart workers r (r + 1
 
 shown_octets : (line : List ℕ) → list_all is_shown line ≡ true → AllOctets line
 shown_octets [] h = tt
-shown_octets (c ∷ line) h = (let f = both (is_shown c) (list_all is_shown line) h in (small c f.0, shown_octets line f.1))
+shown_octets (c ∷ line) h = (let f = and_parts (is_shown c) (list_all is_shown line) h in (small c f.0, shown_octets line f.1))
   where
-    both : (a b : Bool) → (a && b) ≡ true → (a ≡ true) × (b ≡ true)
-    both true b h = (refl, h)
-    both false b h = absurd cc
-
     small : (c : ℕ) → is_shown c ≡ true → c < 256
     small c h = grind (arith, nat_tests)
 

@@ -1,8 +1,8 @@
 -- The lines of a load, one more at a time.
-use Rattle.std.proofs.Common.{◌≡◌, ◌∙◌, ◌<◌, ◌≤◌, ◌+◌, ◌-◌, ◌%◌, ℕ, suc, Bool, false, cond, eqb, List, [], ◌∷◌, ◌++◌, refl, sym, ap, arith, codes, append_assoc, append-nil}
+use Rattle.std.proofs.Common.{◌≡◌, ◌∙◌, ◌<◌, ◌≤◌, ◌+◌, ◌-◌, ◌%◌, ℕ, suc, Bool, cond, eqb, List, [], ◌∷◌, ◌++◌, refl, sym, ap, arith, codes, append_assoc, append-nil}
 use Rattle.std.proofs.lemmas.List.Concat.{flat_map-append}
 use Rattle.std.specs.List.{flat_map}
-use Rattle.job_model.specs.Loads.{Load, Part, Moves, Removes, address_text, first_lines, line_text, made_text, name_text, names_lines, part_of, share, state_after, state_behind, turn_from, turn_lines, turns_from, turns_of, worker_lines, worker_state, workers_from}
+use Rattle.job_model.specs.Loads.{Load, Part, Moves, Removes, address_text, first_lines, line_text, made_text, name_text, names_lines, part_of, share, state_after, state_behind, turn_from, turn_lines, turns_from, worker_lines, worker_state, workers_from}
 
 -- one name more
 pub names_more : (start mid now : List ℕ) (name : ℕ) → mid ≡ start ++ flat_map line_text (names_lines name) → now ≡ (mid ++ name_text name) ++ codes " A 10.0.0.1\n" → now ≡ start ++ flat_map line_text (names_lines (name + 1))
@@ -68,22 +68,6 @@ pub idle_lines : (load : Load) (remainder x : ℕ) (out now : List ℕ) → shar
 unfolding turns_from
 idle_lines load remainder x out now e is =
     is ∙ ap (λ (n : ℕ). out ++ flat_map line_text (codes "worker" ∷ turns_from (part_of load remainder) (cond (eqb n 0) 0 load.turns) x)) (sym e)
-
--- and one with names
-busy : (load : Load) (remainder : ℕ) → (share load.workers remainder load.names ≡ 0 → ⊥) → turns_of (part_of load remainder) load.turns ≡ load.turns
-busy load remainder some =
-    let e : eqb (share load.workers remainder load.names) 0 ≡ false = grind arith in
-    ap (λ (b : Bool). cond b 0 load.turns) e
-
-pub busy_state : (load : Load) (remainder x y : ℕ) → (share load.workers remainder load.names ≡ 0 → ⊥) → y ≡ state_after load.turns x → y ≡ worker_state load remainder x
-busy_state load remainder x y some e = e ∙ ap (λ (n : ℕ). state_after n x) (sym (busy load remainder some))
-
-pub busy_lines : (load : Load) (remainder x : ℕ) (out mid now : List ℕ) → (share load.workers remainder load.names ≡ 0 → ⊥) → mid ≡ out ++ codes "worker\n" → now ≡ mid ++ flat_map line_text (turns_from (part_of load remainder) load.turns x)
-    → now ≡ out ++ flat_map line_text (worker_lines load remainder x)
-busy_lines load remainder x out mid now some m e =
-    e ∙ ap (λ (t : List ℕ). t ++ flat_map line_text (turns_from (part_of load remainder) load.turns x)) m
-    ∙ append_assoc out (codes "worker\n") (flat_map line_text (turns_from (part_of load remainder) load.turns x))
-    ∙ ap (λ (n : ℕ). out ++ flat_map line_text (codes "worker" ∷ turns_from (part_of load remainder) n x)) (sym (busy load remainder some))
 
 -- ---- the lines of a turn, from their pieces
 

@@ -1,8 +1,8 @@
 -- The lines of a made load's script say commands.
-use Rattle.std.proofs.Common.{◌≡◌, ◌∙◌, ℕ, zero, suc, ◌+◌, ◌*◌, ◌/◌, ◌%◌, ◌^◌, ◌<◌, ◌≤◌, Bool, true, false, cond, ◌&&◌, ◌||◌, eqb, ltb, List, [], ◌∷◌, ◌++◌, length, refl, sym, ap, subst, arith, Some, None, Ok, append_assoc, append-nil, length-append, codes, inl, inr}
+use Rattle.std.proofs.Common.{◌≡◌, ◌∙◌, ℕ, zero, suc, ◌+◌, ◌*◌, ◌/◌, ◌%◌, ◌^◌, ◌<◌, ◌≤◌, Bool, true, false, cond, ◌||◌, eqb, ltb, List, [], ◌∷◌, ◌++◌, length, refl, sym, ap, subst, arith, Some, None, Ok, append_assoc, append-nil, length-append, codes, inl, inr}
 use Rattle.std.proofs.Math.Nat.{add-mul-mod_self_left}
 use Rattle.std.proofs.lemmas.Nat.{mod-mul-add}
-use Rattle.std.proofs.lemmas.Bool.{cases_eq}
+use Rattle.std.proofs.lemmas.Bool.{cases_eq, and_parts}
 use Rattle.std.proofs.lemmas.Bool.Decides.{nat_tests}
 use Rattle.std.proofs.lemmas.Fmt.{decimal_digit, decimal_nonempty, decimal_step, length-decimal-le}
 use Rattle.std.specs.List.{AllByRecursion, list_all}
@@ -52,9 +52,6 @@ digit_no_dot c h = grind (arith, nat_tests)
 digit_no_escape : (c : ℕ) → is_ascii_digit c ≡ true → eqb c 92 ≡ false
 digit_no_escape c h = grind (arith, nat_tests)
 
-both : (a b : Bool) → (a && b) ≡ true → (a ≡ true) × (b ≡ true)
-both a b h = (grind arith, grind arith)
-
 -- digits go on with a label
 digits_label : (label digits : List ℕ) (at : ℕ) → 0 < length label → length label + length digits ≤ 63 → list_all is_ascii_digit digits ≡ true → labels_from label (pieces_from 0 at digits) ≡ Ok ((label ++ digits) ∷ [], false)
 unfolding labels_from pieces_from
@@ -62,7 +59,7 @@ digits_label label [] at some short h =
     let e : eqb (length label) 0 ≡ false = grind arith in
     rw e (ap (λ (l : List ℕ). Ok (l ∷ [], false)) (sym (append-nil label)))
 digits_label label (c ∷ digits) at some short h =
-    let g = both (is_ascii_digit c) (list_all is_ascii_digit digits) h in
+    let g = and_parts (is_ascii_digit c) (list_all is_ascii_digit digits) h in
     let full : eqb (length label) 63 ≡ false = grind arith in
     let long : length (label ++ c ∷ []) ≡ length label + 1 = length-append label (c ∷ []) in
     rw (digit_no_dot c g.0) (rw (digit_no_escape c g.0) (rw (digit_lower c g.0) (rw full
@@ -172,7 +169,7 @@ unfolding phrase_of asked_of
 commit_line n m es cs Light operations = tokens_said n (codes "commit") (word n (codes "commit") ∷ []) (inside_block es cs (record { start = m; weight = Light; asked = asks operations })) (commit_spelled n)
 commit_line n m es cs Heavy operations = tokens_said n (codes "commit") (word n (codes "commit") ∷ []) (inside_block es cs (record { start = m; weight = Heavy; asked = asks operations })) (commit_spelled n)
 
-owner_under : (i : ℕ) → is_under (owner i) made_origin ≡ true
+pub owner_under : (i : ℕ) → is_under (owner i) made_origin ≡ true
 owner_under i = ends_under (name_text i ∷ []) made_origin
 
 removal_line : (n m i : ℕ) (es : List (List Command)) (cs : List Command) (how : Weight) → i < 1000000 → script_line made_origin n (codes "del " ++ name_text i) (inside_block es cs (record { start = m; weight = how; asked = no_changes })) ≡ Ok (inside_block es cs (record { start = m; weight = how; asked = asks (DeleteName (owner i) ∷ []) }))

@@ -6,7 +6,7 @@ use Rattle.std.proofs.lemmas.Fmt.{length-decimal-le}
 use Rattle.std.proofs.lemmas.List.Concat.{flat_map-append}
 use Rattle.std.specs.List.{flat_map}
 use Rattle.std.specs.Fmt.{decimal}
-use Rattle.job_model.specs.Loads.{Load, Part, Turn, Gets, Moves, Removes, Finds, address_text, drawn, first_lines, line_text, made_text, name_text, names_lines, next_state, part_of, share, state_behind, turn_from, turn_lines, turn_of, turns_from, turns_of, worker_lines, worker_state, workers_from}
+use Rattle.job_model.specs.Loads.{Load, Part, Turn, Gets, Moves, Removes, Finds, drawn, first_lines, line_text, made_text, name_text, names_lines, next_state, part_of, share, state_behind, turn_from, turn_lines, turn_of, turns_from, turns_of, worker_lines, worker_state, workers_from}
 
 abbrev size : List (List ℕ) → ℕ
 size lines = length (flat_map line_text lines)
@@ -19,13 +19,6 @@ short_name i h = length-decimal-le 6 i (omega arith) (omega arith) (omega arith)
 
 short_octet : (n : ℕ) → length (decimal (n % 256)) ≤ 3
 short_octet n = length-decimal-le 3 (n % 256) (omega arith) (omega arith) (omega arith)
-
-short_address : (c : ℕ) → length (address_text c) ≤ 14
-short_address c =
-    let p = short_octet (c / 65536) in
-    let q = short_octet (c / 256) in
-    let r = short_octet c in
-    simp length-append (omega arith)
 
 get_size : (i : ℕ) → length (decimal i) ≤ 6 → size (turn_lines (Gets i)) ≤ 70
 get_size i h = simp length-append (omega arith)

@@ -1,23 +1,21 @@
 -- The lines of a made load's zone say a zone, and its text says a job.
-use Rattle.std.proofs.Common.{◌≡◌, ◌∙◌, ℕ, zero, suc, ◌+◌, ◌-◌, ◌*◌, ◌%◌, ◌<◌, ◌≤◌, Bool, true, false, cond, not, ◌&&◌, ◌||◌, eqb, ltb, List, [], ◌∷◌, ◌++◌, length, get_or, take, drop, refl, sym, ap, subst, arith, Option, Some, None, unwrap_or, Result, Ok, Err, append_assoc, append-nil, length-append, codes, inl, inr}
+use Rattle.std.proofs.Common.{◌≡◌, ◌∙◌, ℕ, zero, suc, ◌+◌, ◌-◌, ◌*◌, ◌%◌, ◌<◌, ◌≤◌, Bool, true, false, cond, not, ◌||◌, eqb, ltb, List, [], ◌∷◌, ◌++◌, length, take, drop, refl, sym, ap, subst, arith, Option, Some, None, unwrap_or, Ok, Err, append_assoc, append-nil, length-append, codes, inl, inr}
 use Rattle.std.proofs.lemmas.Bool.{cases_eq}
 use Rattle.std.proofs.lemmas.Bool.Decides.{nat_tests}
 use Rattle.std.proofs.lemmas.Fmt.{length-decimal-le}
 use Rattle.std.proofs.lemmas.List.{take_at, drop_at}
-use Rattle.std.proofs.lemmas.List.Splits.{length-slice_split, slice_split_at}
-use Rattle.std.specs.List.{AllByRecursion, after_first, before_first, flat_map, list_all, list_any, position_or_len, slice_split}
-use Rattle.std.specs.Str.Lines.{lines_of_parts, strip_carriage_return}
+use Rattle.std.specs.List.{AllByRecursion, after_first, before_first, flat_map, list_all, list_any, position_or_len}
 use Rattle.std.specs.BTreeMap.{insert_entry, is_at}
 use Rattle.std.specs.Map.{lookup}
 use Rattle.std.specs.Ordering.{match_ordering}
 use Rattle.std.specs.declared.cmp.Ordering.{Ordering}
 use Rattle.std.specs.declared.cmp.Ordering.TheVariants.{Less, Equal, Greater}
-use Rattle.zone_model.specs.Names.{Name, is_under, name_cmp}
+use Rattle.zone_model.specs.Names.{Name, name_cmp}
 use Rattle.zone_model.specs.NameText.{completed, fitting, labels_from, name_of, onto, pieces_from}
-use Rattle.zone_model.specs.Refusals.{Refused, ◌>>=◌}
+use Rattle.zone_model.specs.Refusals.{◌>>=◌}
 use Rattle.zone_model.specs.Lines.{lines_of}
-use Rattle.zone_model.specs.Grammar.{Token, Spells, begins_blank, stops_word}
-use Rattle.zone_model.specs.Tokens.{Scan, fresh, line_end, line_tokens, step, steps}
+use Rattle.zone_model.specs.Grammar.{Spells, stops_word}
+use Rattle.zone_model.specs.Tokens.{line_end, line_tokens, step, steps}
 use Rattle.zone_model.specs.Data.{data_of, read_fields}
 use Rattle.zone_model.specs.DataWords.{class_named, groups, time_of, type_named}
 use Rattle.zone_model.specs.Texts.{address, digits_from, number}
@@ -26,45 +24,18 @@ use Rattle.zone_model.specs.Versions.{Version}
 use Rattle.zone_model.specs.MasterFile.{Reader, added, at_first, directive, entry_says, front_of, entry_fault, placed_in, record_says, unless_fault, with_soa, zone_from, zone_of}
 use Rattle.zone_model.specs.declared.ZoneKind.{ZoneKind}
 use Rattle.zone_model.specs.declared.ZoneKind.TheVariants.{OutsideZone}
-use Rattle.zone_model.proofs.GrammarLemmas.{Agrees, line_read}
-use Rattle.zone_model.proofs.OrderLemmas.{ends_under}
 use Rattle.dns_name.proofs.BodyLemmas.{all_append as each_append}
 use Rattle.rr_data.proofs.FormLemmas.{all_append}
-use Rattle.rr_data.proofs.PrintedFieldLemmas.{no_stop}
 use Rattle.rr_data.proofs.PrintedWordLemmas.{Shows, alphabetic_word, hex_word, is_shown, shows_append, shows_one}
 use Rattle.rr_data.proofs.PrintedDataLemmas.{plain, word}
 use Rattle.job_model.specs.Commands.{Command, Job}
 use Rattle.job_model.specs.Jobs.{is_cut, job_of, job_of_lines, script_lines, script_of, script_refused, script_start, zone_lines, zone_refused}
 use Rattle.job_model.specs.Loads.{Finds, Gets, Load, Moves, Part, Removes, Turn, address_text, drawn, first_lines, line_text, load_lines, made_origin, made_text, name_text, names_lines, next_state, part_of, state_behind, turn_from, turn_lines, turns_from, turns_of, worker_state, workers_from}
 use Rattle.job_make.proofs.SizeLemmas.{IsWithin, share_le, small_name}
-use Rattle.job_make.proofs.ScriptLines.{OwnFrom, address_shows, name_said, name_shows, name_some, owner, script_said, three_words}
+use Rattle.job_make.proofs.ScriptLines.{OwnFrom, address_shows, name_said, name_shows, name_some, owner, script_said, three_words, owner_under}
+use Rattle.master_file.proofs.PrintedLineLemmas.{first_line, reads_line, shown_in_line, zone_step}
 
 -- ---- lines
-
-not_carriage : (text : List ℕ) (i : ℕ) → list_all is_shown text ≡ true → eqb (get_or text i 0) 13 ≡ false
-not_carriage [] i h = refl
-not_carriage (c ∷ text) zero h = let f = both (is_shown c) (list_all is_shown text) h in shown_apart c f.0
-  where
-    both : (a b : Bool) → (a && b) ≡ true → (a ≡ true) × (b ≡ true)
-    both a b h = (grind arith, grind arith)
-
-    shown_apart : (c : ℕ) → is_shown c ≡ true → eqb c 13 ≡ false
-    shown_apart c h = grind (arith, nat_tests)
-not_carriage (c ∷ text) (suc i) h = not_carriage text i (behind (is_shown c) (list_all is_shown text) h)
-  where
-    behind : (a b : Bool) → (a && b) ≡ true → b ≡ true
-    behind a b h = grind arith
-
-parts_more : (line : List ℕ) (parts : List (List ℕ)) → 0 < length parts → lines_of_parts (line ∷ parts) ≡ strip_carriage_return line ∷ lines_of_parts parts
-parts_more line [] h = absurd (omega arith)
-parts_more line (y ∷ more) h = refl
-
-shown_line : (text rest : List ℕ) → list_all is_shown text ≡ true → lines_of (text ++ 10 ∷ rest) ≡ text ∷ lines_of rest
-shown_line text rest h =
-    let some : 0 < length (slice_split (λ b. eqb b 10) rest) = omega (arith, length-slice_split (λ b. eqb b 10) rest) in
-    let same : strip_carriage_return text ≡ text = ap (λ b. cond b (take (length text - 1) text) text) (not_carriage text (length text - 1) h) in
-    ap lines_of_parts (slice_split_at (λ b. eqb b 10) text 10 rest (no_stop is_shown text 10 h refl) refl)
-    ∙ parts_more text (slice_split (λ b. eqb b 10) rest) some ∙ ap (λ (l : List ℕ). l ∷ lines_of rest) same
 
 abbrev pub AllShown : List (List ℕ) → Type 0
 AllShown lines = AllByRecursion (λ (l : List ℕ). list_all is_shown l ≡ true) lines
@@ -72,7 +43,7 @@ AllShown lines = AllByRecursion (λ (l : List ℕ). list_all is_shown l ≡ true
 -- lines of bytes that are shown are the lines of their text
 lines_back : (ls : List (List ℕ)) → AllShown ls → lines_of (flat_map line_text ls) ≡ ls
 lines_back [] h = refl
-lines_back (l ∷ ls) h = ap lines_of (append_assoc l (codes "\n") (flat_map line_text ls)) ∙ shown_line l (flat_map line_text ls) h.0 ∙ ap (λ (t : List (List ℕ)). l ∷ t) (lines_back ls h.1)
+lines_back (l ∷ ls) h = ap lines_of (append_assoc l (codes "\n") (flat_map line_text ls)) ∙ first_line l (flat_map line_text ls) (shown_in_line l h.0) ∙ ap (λ (t : List (List ℕ)). l ∷ t) (lines_back ls h.1)
 
 shown_append : (xs ys : List (List ℕ)) → AllShown xs → AllShown ys → AllShown (xs ++ ys)
 shown_append = each_append (λ (l : List ℕ). list_all is_shown l ≡ true)
@@ -147,26 +118,6 @@ names_uncut zero = refl
 names_uncut (suc name) = any_append (names_lines name) ((name_text name ++ codes " A 10.0.0.1") ∷ []) (names_uncut name) refl
 
 -- ---- the zone
-
--- a line's tokens, where no parenthesis is open at its end
-record ReadsLine (n : ℕ) (text : List ℕ) (tokens : List Token) : Type 0 where
-  pub scan : Scan
-  pub read : line_tokens n text fresh ≡ Ok scan
-  pub depth : scan.depth ≡ 0
-  pub tokens_are : scan.tokens ≡ tokens
-
-reads_line : (n : ℕ) (text : List ℕ) (tokens : List Token) → Spells n [] text (plain tokens) → ReadsLine n text tokens
-reads_line n text tokens s = agreed (line_tokens n text fresh) refl (line_read n s fresh (record { depth = refl; outer = λ h. absurd (omega arith) }))
-  where
-    agreed : (r : Result Scan (Refused ZoneKind)) → line_tokens n text fresh ≡ r → Agrees n fresh (plain tokens) r → ReadsLine n text tokens
-    agreed (Ok t) e a = record { scan = t; read = e; depth = a.opens.depth; tokens_are = a.tokens }
-    agreed (Err k) e a = absurd a
-
-zone_step : (top : Name) (n : ℕ) (text : List ℕ) (lines : List (List ℕ)) (tokens : List Token) (r : Reader) → ReadsLine n text tokens → zone_from top n (text ∷ lines) None r ≡ entry_says top n (begins_blank text) tokens r >>= zone_from top (n + 1) lines None
-unfolding zone_from
-zone_step top n text lines tokens r l =
-    let closed : eqb l.scan.depth 0 ≡ true = ap (λ (k : ℕ). eqb k 0) l.depth in
-    rw l.read (rw closed (ap (λ (ts : List Token). entry_says top n (begins_blank text) ts r >>= zone_from top (n + 1) lines None) l.tokens_are))
 
 -- what the names of a load's zone own
 abbrev one_address : Entry
@@ -253,14 +204,11 @@ entry_owns : (i : ℕ) (rest : Version) → AllOwn rest → Owns (entry_with i r
 unfolding entry_with
 entry_owns i rest h = with_one (lookup (is_at (name_cmp (owner i))) rest) (found (owner i) rest h)
 
-owner_in : (i : ℕ) → is_under (owner i) made_origin ≡ true
-owner_in i = ends_under (name_text i ∷ []) made_origin
-
 added_to : (n i : ℕ) (apex : Entry) (rest : Version) → i < 1000000 → AllOwn rest
     → added made_origin n (owner i) 1 300 (10 ∷ 0 ∷ 0 ∷ 1 ∷ []) (zone_with apex rest) ≡ Ok (zone_with apex (insert_entry name_cmp rest (owner i) (entry_with i rest)))
 unfolding added entry_with
 added_to n i apex rest h own =
-    ap (λ (b : Bool). cond (not b) (Err (record { line = n; kind = OutsideZone })) (placed_in n (owner i) 1 300 (10 ∷ 0 ∷ 0 ∷ 1 ∷ []) (zone_with apex rest))) (owner_in i)
+    ap (λ (b : Bool). cond (not b) (Err (record { line = n; kind = OutsideZone })) (placed_in n (owner i) 1 300 (10 ∷ 0 ∷ 0 ∷ 1 ∷ []) (zone_with apex rest))) (owner_under i)
     ∙ ap (λ (o : Option ZoneKind). unless_fault n o (zone_with apex (insert_entry name_cmp rest (owner i) (entry_with i rest)))) (fault_none i (entry_with i rest) h (entry_owns i rest own))
 
 -- a reader of a load's zone
