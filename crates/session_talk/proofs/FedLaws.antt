@@ -1,5 +1,5 @@
 -- Lines behind whole lines.
-use Rattle.std.proofs.Common.{◌≡◌, ◌∙◌, ℕ, ◌+◌, ◌<◌, List, [], ◌∷◌, ◌++◌, length, take, drop, get_or, refl, sym, ap, arith, inl, inr, append_assoc, length-append, subst, suc}
+use Rattle.std.proofs.Common.{◌≡◌, ◌∙◌, ℕ, ◌+◌, ◌<◌, List, [], ◌∷◌, ◌++◌, length, take, drop, get_or, refl, sym, ap, arith, inl, inr, append_assoc, length-append, subst}
 use Rattle.std.specs.List.{AllByRecursion}
 use Rattle.report_laws.specs.Octets.{AllOctets}
 use Rattle.report_laws.proofs.VersionLemmas.{lines_are}
@@ -7,7 +7,7 @@ use Rattle.std.proofs.Common.{◌≤◌, true, false, eqb, Option, Some, None}
 use Rattle.std.specs.List.{after_first, before_first, position, position_or_len}
 use Rattle.std.specs.Option.{option_map}
 use Rattle.std.specs.Str.Lines.{strip_carriage_return}
-use Rattle.std.proofs.lemmas.List.{drop_all, get_or-take, length-take-le, take_at, take_more}
+use Rattle.std.proofs.lemmas.List.{drop_all, get_or-take, length-take-le, take_more}
 use Rattle.std.proofs.lemmas.List.Sums.{fails_before_first, passes_at_first, position_or_len_is}
 use borrow.Author.Tests.{eqb-true}
 use Rattle.session_lines.specs.Taking.{IsUnbroken, line_end}
@@ -15,24 +15,16 @@ use Rattle.zone_text.proofs.LineLemmas.{found, lines_first, lines_last, missed}
 use Rattle.zone_model.specs.Lines.{lines_of}
 use Rattle.zone_text.proofs.CutLemmas.{Begins, at_start, behind_feed, cut_lines}
 use Rattle.session_talk.specs.Answering.{IsFed}
-
-pub front-of : (a b : List ℕ) → take (length a) (a ++ b) ≡ a
-front-of a b = take_at a b (length a) refl
-
-pub rest-of : (a b : List ℕ) → drop (length a) (a ++ b) ≡ b
-rest-of [] b = refl
-rest-of (x ∷ a) b = rest-of a b
-
-at-end : (a : List ℕ) (x : ℕ) (b : List ℕ) → get_or (a ++ x ∷ b) (length a) 0 ≡ x
-at-end [] x b = refl
-at-end (y ∷ a) x b = at-end a x b
+use lib.Seq.{get_or-append_seam}
+pub use lib.Seq.{drop-append_seam as rest-of, take-append_seam as front-of}
+pub use Rattle.report_laws.proofs.VersionLemmas.{octets_of}
 
 pub begins-behind : (done more : List ℕ) → IsFed done → Begins (done ++ more) (length done)
 begins-behind done more (inl none) = at_start (ap length none)
 begins-behind done more (inr fed) =
     let same : done ++ more ≡ fed.0 ++ 10 ∷ more = ap (λ (l : List ℕ). l ++ more) fed.1 ∙ append_assoc fed.0 (10 ∷ []) more in
     let len : length done ≡ length fed.0 + 1 = ap length fed.1 ∙ length-append fed.0 (10 ∷ []) in
-    let here : get_or (done ++ more) (length fed.0) 0 ≡ 10 = ap (λ (l : List ℕ). get_or l (length fed.0) 0) same ∙ at-end fed.0 10 more in
+    let here : get_or (done ++ more) (length fed.0) 0 ≡ 10 = ap (λ (l : List ℕ). get_or l (length fed.0) 0) same ∙ get_or-append_seam fed.0 10 more 0 in
     behind_feed (length fed.0) len (omega (arith, length-append done more)) here
 
 pub lines_behind : (done more : List ℕ) → IsFed done → lines_of (done ++ more) ≡ lines_of done ++ lines_of more
@@ -40,10 +32,6 @@ lines_behind done more fed =
     sym (cut_lines (done ++ more) (length done) (begins-behind done more fed))
     ∙ ap (λ (l : List ℕ). lines_of l ++ lines_of (drop (length done) (done ++ more))) (front-of done more)
     ∙ ap (λ (l : List ℕ). lines_of done ++ lines_of l) (rest-of done more)
-
-pub octets_of : (bytes : List ℕ) → ((i : ℕ) → get_or bytes i 0 < 256) → AllOctets bytes
-octets_of [] small = tt
-octets_of (c ∷ bytes) small = (small 0, octets_of bytes (λ i. small (suc i)))
 
 -- a line of octets
 pub octets_in : (bytes text : List ℕ) → lines_of bytes ≡ text ∷ [] → AllOctets bytes → AllOctets text

@@ -7,9 +7,6 @@ use Rattle.job_model.specs.Sessions.{Said, Session, Step, session_line, session_
 abbrev pub step_behind : Name → ℕ → List (List ℕ) → List ℕ → Session → Step
 step_behind origin n lines line s = session_line origin (n + length lines) line (session_lines origin n lines s).session
 
-at_number : (origin : Name) (n m : ℕ) (line : List ℕ) (s : Session) → n ≡ m → session_line origin n line s ≡ session_line origin m line s
-at_number origin n m line s e = ap (λ (k : ℕ). session_line origin k line s) e
-
 pub session-push : (origin : Name) (n : ℕ) (lines : List (List ℕ)) (line : List ℕ) (s : Session) → (session_lines origin n (lines ++ line ∷ []) s).session ≡ (step_behind origin n lines line s).session
 unfolding session_lines
 session-push origin n [] line s = ap (λ (k : ℕ). (session_line origin k line s).session) (let e : n ≡ n + 0 = omega arith in e)

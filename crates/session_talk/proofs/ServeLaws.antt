@@ -1,10 +1,10 @@
 -- What a session has read and written, step by step.
-use Rattle.std.proofs.Common.{◌≡◌, ◌∙◌, ◌⊎◌, ℕ, ◌+◌, ◌<◌, ◌≤◌, ◌^◌, suc, zero-add, Bool, true, false, List, [], ◌∷◌, ◌++◌, length, take, drop, Option, Some, None, refl, sym, ap, arith, subst, inl, inr, append_assoc, append-nil, length-append}
+use Rattle.std.proofs.Common.{◌≡◌, ◌∙◌, ◌⊎◌, ℕ, ◌+◌, ◌<◌, ◌≤◌, ◌^◌, Bool, true, false, List, [], ◌∷◌, ◌++◌, length, take, drop, Option, Some, None, refl, sym, ap, arith, subst, inl, inr, append_assoc, append-nil, length-append}
 use Rattle.std.proofs.lemmas.Grind.{common_steps}
 use Rattle.std.proofs.Common.{cond, eqb, ltb}
 use Rattle.std.specs.List.{position_or_len}
 use Rattle.std.proofs.lemmas.Bool.Decides.{nat_tests}
-use Rattle.std.proofs.lemmas.List.{get_or-take, length-take-le}
+use Rattle.std.proofs.lemmas.List.{get_or-take, length-take-le, take_all}
 use Rattle.std.proofs.lemmas.List.Sums.{fails_before_first, position_or_len_is}
 use Rattle.zone_text.proofs.LineLemmas.{found, missed}
 use Rattle.session_talk.proofs.FedLaws.{feed_at}
@@ -35,23 +35,17 @@ use Rattle.session_talk.specs.Workers.{EndsAt}
 use Rattle.session_talk.specs.declared.worker.LastVersion.{LastVersion}
 use Rattle.session_talk.proofs.EntryLaws.{commands-append, outcomes-append, said-append, with-append, with-written}
 use Rattle.session_talk.proofs.TextLaws.{ends}
+use lib.Seq.{take-append-add}
 
 -- ---- fronts
 
-take_all_of : (text : List ℕ) → take (length text) text ≡ text
-take_all_of text = grind (arith, common_steps)
-
 pub grows_front : (before now : Held) (text : List ℕ) → Grows before now text → GrowsByFront before now text
-grows_front before now text g = (length text, (let le : length text ≤ length text = omega arith in le), subst (Grows before now) (sym (take_all_of text)) g)
-
-take_behind : (a b : List ℕ) (n : ℕ) → take (length a + n) (a ++ b) ≡ a ++ take n b
-take_behind [] b n = ap (λ (k : ℕ). take k b) (zero-add n)
-take_behind (x ∷ a) b n = let e : length (x ∷ a) + n ≡ suc (length a + n) = omega arith in ap (λ (k : ℕ). take k (x ∷ (a ++ b))) e ∙ ap (λ (l : List ℕ). x ∷ l) (take_behind a b n)
+grows_front before now text g = (length text, (let le : length text ≤ length text = omega arith in le), subst (Grows before now) (sym (take_all (length text) text (omega arith))) g)
 
 -- a front behind what had been written
 front_behind : (before mid now : Held) (a b : List ℕ) → Grows before mid a → GrowsByFront mid now b → GrowsByFront before now (a ++ b)
 front_behind before mid now a b g f =
-    (length a + f.0, omega (arith, length-append a b, f.1), subst (Grows before now) (sym (take_behind a b f.0)) (Grows-trans before mid now a (take f.0 b) g f.2))
+    (length a + f.0, omega (arith, length-append a b, f.1), subst (Grows before now) (sym (take-append-add a b f.0)) (Grows-trans before mid now a (take f.0 b) g f.2))
 
 module _ (way : Way) (given : List ℕ) (held now : Held) (ran : List Command → List Outcome → Type 0) (s : Session) (p : Printing) (lines : ℕ) (pending : List ℕ) (w : AtWork ran way given held s p lines pending) where
   -- ---- what is to be written was written

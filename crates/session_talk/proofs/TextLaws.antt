@@ -33,10 +33,6 @@ seen-is progress Release v seen e = e
 seen-is progress (Block _ asked ending) v seen e = refl
 seen-is progress Compact v seen e = refl
 
--- a text behind one that is longer by a part
-longer : (text part rest : List ℕ) (all : List ℕ) → all ≡ (text ++ part) ++ rest → all ≡ text ++ (part ++ rest)
-longer text part rest all e = e ∙ append_assoc text part rest
-
 text-from : (origin : Name) (set : ℕ → Version) (progress : WorkerProgress) (p : Printing) (entries : List Entry) → progress.seen ≡ p.seen → EachTells origin set (commands_in entries) (outcomes_in entries)
     → (with_entries p entries).text ≡ p.text ++ replies_text origin set p.next progress (replies_in entries)
 text-from origin set progress p [] e t = sym (append-nil p.text)
