@@ -17,6 +17,7 @@ use Rattle.qp_multi.specs.declared.meaning.Operation.TheVariants.{Insert, Delete
 use Rattle.qp_multi.specs.Attempts.{Does}
 use Rattle.qp_multi.specs.WorkingVersions.{Between}
 use Rattle.qp_multi.specs.Passes.{Known, first_version}
+use Rattle.qp_multi.specs.Calls.{LacksEntryOf}
 use Rattle.zone_table.specs.declared.change.TableRefusal.{TableRefusal}
 use Rattle.zone_table.specs.declared.change.TableRefusal.TheVariants.{Spent}
 use Rattle.zone_table.specs.Changes.{IsChanged, IsUnchanged, Attaches, Detaches, last_number}
@@ -32,9 +33,6 @@ same_keys a b e n = begins_take a b e (length b) n ∙ take-length b
 begins_self : (k : List ℕ) → begins k k ≡ true
 begins_self k = begins_same k k (omega arith) (λ i l. refl)
 
-abbrev pub Missing' : List ℕ → List Entry → Type 0
-Missing' key es = (x : Entry) → InList x es → x.key ≡ key → ⊥
-
 one_or_not : (a b : List ℕ) → (a ≡ b) ⊎ (a ≡ b → ⊥)
 one_or_not a b = go (begins a b) refl (begins b a) refl
   where
@@ -46,7 +44,7 @@ one_or_not a b = go (begins a b) refl (begins b a) refl
     go true e false f = inr (λ s. let bad : true ≡ false = sym (subst (λ (k : List ℕ). begins k a ≡ true) s (begins_self a)) ∙ f in absurd cc)
     go false e d f = inr (λ s. let bad : true ≡ false = sym (subst (λ (k : List ℕ). begins a k ≡ true) s (begins_self a)) ∙ e in absurd cc)
 
-there_or_not : (key : List ℕ) (es : List Entry) → IsThere key es ⊎ Missing' key es
+there_or_not : (key : List ℕ) (es : List Entry) → IsThere key es ⊎ LacksEntryOf key es
 there_or_not key [] = inr (λ x i s. i)
 there_or_not key (e ∷ es) = elim (one_or_not e.key key) [
   | inl s ↦ inl (e, inl refl, s)
@@ -94,11 +92,11 @@ pub attached : (origin : Name) (old new : Known) (r : Result Receipt NoNumber) (
 attached origin old new (Ok t) told is e = subst (Attaches origin old new) (sym is) e
 attached origin old new (Err s) told is e = subst (Attaches origin old new) (sym is) e
 
-pub detached : (origin : Name) (old new : Known) (r : Result Receipt NoNumber) (told : Result Receipt TableRefusal) → Tells r told → Ends (λ es. Missing' (key_of origin) es → ⊥) old new (Delete (key_of origin)) r → Detaches origin old new told
+pub detached : (origin : Name) (old new : Known) (r : Result Receipt NoNumber) (told : Result Receipt TableRefusal) → Tells r told → Ends (λ es. LacksEntryOf (key_of origin) es → ⊥) old new (Delete (key_of origin)) r → Detaches origin old new told
 detached origin old new (Ok t) told is e =
-    subst (Detaches origin old new) (sym is) (changed_as (λ es. Missing' (key_of origin) es → ⊥) (λ es. IsAttached es origin) old new (Delete (key_of origin)) t.version (is_there (key_of origin)) e)
+    subst (Detaches origin old new) (sym is) (changed_as (λ es. LacksEntryOf (key_of origin) es → ⊥) (λ es. IsAttached es origin) old new (Delete (key_of origin)) t.version (is_there (key_of origin)) e)
 detached origin old new (Err s) told is e =
-    subst (Detaches origin old new) (sym is) (unchanged_as (λ es. Missing' (key_of origin) es → ⊥) (λ es. IsAttached es origin) old new s.version (is_there (key_of origin)) e.0, e.1)
+    subst (Detaches origin old new) (sym is) (unchanged_as (λ es. LacksEntryOf (key_of origin) es → ⊥) (λ es. IsAttached es origin) old new s.version (is_there (key_of origin)) e.0, e.1)
 
 -- ---- its pass has seen no less, and knows of the same opening
 

@@ -9,7 +9,7 @@ use Rattle.std.proofs.lemmas.Option.{get_or_from_slice_get, slice_get_within}
 use Rattle.pin_core.proofs.Lists.{contains_later}
 use Rattle.zone_model.specs.Names.{Name, wire}
 use Rattle.zone_table.specs.Buckets.{AreFiled, AreZones, IsOn, IsBucket, bucket_of}
-use Rattle.zone_table.proofs.Lists.{all_at, get_in, last_or_before, mapped_at, read_at, some_is}
+use Rattle.zone_table.proofs.Lists.{all_at, get_in, mapped_at, read_at, some_is}
 use Rattle.zone_table.proofs.HandingLaws.{all_by_place}
 
 -- ---- what is on a list
@@ -67,12 +67,6 @@ module _ (origins : List Name) where
   -- those so far
   abbrev pub AreBuckets : List (Vec ℕ Global) → Type 0
   AreBuckets buckets = (bucket : ℕ) (zones : Vec ℕ Global) → slice_get buckets bucket ≡ Some zones → IsBucket origins bucket zones.items
-
-  pub one_bucket : (buckets : List (Vec ℕ Global)) (zones : Vec ℕ Global) → AreBuckets buckets → IsBucket origins (length buckets) zones.items → AreBuckets (buckets ++ zones ∷ [])
-  one_bucket buckets zones are one bucket z is = elim (last_or_before buckets zones z bucket is) [
-    | inl l ↦ are bucket z l.1
-    | inr l ↦ subst (λ (n : ℕ). IsBucket origins n z.items) (sym l.0) (subst (λ (v : Vec ℕ Global). IsBucket origins (length buckets) v.items) l.1 one)
-  ]
 
   pub buckets_zones : (buckets : List (Vec ℕ Global)) → AreBuckets buckets → AreZones (length origins) (map (λ s. s.items) buckets)
   buckets_zones buckets are = All-map (All (λ zone. zone < length origins)) (λ (s : Vec ℕ Global). s.items) buckets (all_by_place (λ s. All (λ zone. zone < length origins) s.items) buckets (λ k s is. (are k s is).inside))

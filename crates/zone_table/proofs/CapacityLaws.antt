@@ -18,6 +18,7 @@ use Rattle.trie_model.proofs.OutlineLaws.{EachIsEntry, outline_of}
 use Rattle.trie_model.proofs.SizeLaws.{one, size, twig_sizes, size_is, size_branch, row_ones, no_cells}
 use Rattle.zone_table.specs.Tables.{AreOf, IsPart, entry_for}
 use Rattle.zone_table.proofs.Lists.{each_in}
+use Rattle.dns_name.proofs.BodyLemmas.{all_append, wire_positive}
 
 -- ---- no more entries than origins
 
@@ -51,27 +52,19 @@ few_entries (e ∷ es) origins rises of =
 
 -- ---- they are entries of a trie
 
-all_both : (a b : List ℕ) → AllByRecursion (λ c. c < 256) a → AllByRecursion (λ c. c < 256) b → AllByRecursion (λ c. c < 256) (a ++ b)
-all_both [] b h k = k
-all_both (x ∷ a) b h k = (h.0, all_both a b h.1 k)
-
 wire_octets : (name : Name) → AllByRecursion IsLabel name → AllByRecursion (λ c. c < 256) (wire name)
 wire_octets [] h = (omega arith, tt)
-wire_octets (label ∷ labels) h = (let s = h.0.short in omega arith, all_both label (wire labels) h.0.octets (wire_octets labels h.1))
+wire_octets (label ∷ labels) h = (let s = h.0.short in omega arith, all_append (λ c. c < 256) label (wire labels) h.0.octets (wire_octets labels h.1))
 
 are_octets : (xs : List ℕ) → AllByRecursion (λ c. c < 256) xs → AreOctets xs
 are_octets [] h i = omega arith
 are_octets (x ∷ xs) h zero = h.0
 are_octets (x ∷ xs) h (suc i) = are_octets xs h.1 i
 
-some_octet : (name : Name) → 0 < length (wire name)
-some_octet [] = omega arith
-some_octet (label ∷ labels) = omega arith
-
 is_entry : (origin : Name) → IsName origin → IsEntry (entry_for origin)
 is_entry origin is = record {
   key = name_key (key_of origin) (origin, is, refl);
-  item = record { some = some_octet origin; short = (let s = is.short in omega arith); octets = are_octets (wire origin) (wire_octets origin is.each) };
+  item = record { some = wire_positive origin; short = (let s = is.short in omega arith); octets = are_octets (wire origin) (wire_octets origin is.each) };
 }
 
 each_entry : (origins : List Name) → AllByRecursion IsName origins → (es : List Entry) → AreOf origins es → EachIsEntry es

@@ -1,5 +1,5 @@
 -- How the zones end, each with its passes.
-use Rattle.std.proofs.Common.{◌≡◌, ◌∙◌, inl, inr, ℕ, zero, suc, ◌+◌, ◌<◌, ◌++◌, ◌∷◌, [], List, length, map, replicate, set, Vec, Global, Some, None, arith, refl, sym, ap, subst, length-append, get_or-set_same, get_or-set_other}
+use Rattle.std.proofs.Common.{◌≡◌, ◌∙◌, inl, inr, ℕ, ◌+◌, ◌<◌, ◌++◌, ◌∷◌, [], List, length, map, set, Vec, Global, Some, None, arith, refl, sym, ap, subst, length-append, get_or-set_same, get_or-set_other}
 use Rattle.std.specs.Prelude.{IsSome, unwrap_or, slice_index}
 use Rattle.std.specs.List.{All, range_with_len, slice_get}
 use Rattle.std.proofs.lemmas.List.{length-map}
@@ -15,13 +15,6 @@ use Rattle.zone_table.specs.Passes.{IsPassOf, table_known, zone_known}
 use Rattle.zone_table.proofs.Lists.{all_at, at_seam, get_front, get_in, last_or_before, mapped_at, numbered_at, some_is}
 use Rattle.zone_table.proofs.HandingLaws.{all_by_place, same_list}
 use Rattle.zone_table.proofs.PassLaws.{wide}
-
--- ---- numbers in their places
-
-pub zeros : (n k : ℕ) → slice_index (replicate n 0) k ≡ 0
-zeros zero k = refl
-zeros (suc n) zero = refl
-zeros (suc n) (suc k) = zeros n k
 
 -- ---- the passes of each zone
 

@@ -4,7 +4,6 @@ use Rattle.std.specs.Prelude.{IsSome, unwrap_or}
 use Rattle.zone_model.specs.Names.{Name}
 use Rattle.trie_model.specs.Keys.{Entry}
 use Rattle.shared_cells.specs.declared.pass.PassSeat.{PassSeat}
-use Rattle.shared_cells.specs.declared.view.Seen.{Seen}
 use Rattle.shared_cells.specs.declared.view.Progress.{Progress}
 use Rattle.shared_cells.specs.History.{IsPartOf, OpeningFits, StartsWith, version_after}
 use Rattle.shared_cells.specs.Views.{is_told, with_progress}
@@ -13,12 +12,10 @@ use Rattle.qp_multi.specs.Operations.{applied}
 use Rattle.qp_multi.specs.Passes.{Known, known_at, first_version, version_seen, Pinned}
 use Rattle.zone_table.specs.Tables.{IsTable, IsPart, IsAmong}
 use Rattle.zone_table.proofs.Lists.{none_left}
+use Rattle.zone_table.specs.Notes.{SeenHistory}
 
 abbrev pub Seat : Type 0
 Seat = PassSeat (List Entry) (List Operation)
-
-abbrev pub SeenHistory : Type 0
-SeenHistory = Seen (List Entry) (List Operation)
 
 -- a pass's seat knows of the opening
 pub seat_told : (seat : Option Seat) → IsSome seat → is_told (known_at seat).seen.opening ≡ true

@@ -1,6 +1,5 @@
 -- Lists by their places.
-use Rattle.std.proofs.Common.{◌≡◌, ◌⊎◌, inl, inr, ℕ, zero, suc, ◌+◌, ◌-◌, ◌<◌, List, [], ◌∷◌, ◌++◌, length, map, take, drop, set, get_or, Some, arith, refl, sym, ap, ◌∙◌, subst, append_assoc, length-append, take-append-drop}
-use Rattle.std.specs.Prelude.{Result, Ok, Err, IfOk}
+use Rattle.std.proofs.Common.{◌≡◌, ◌⊎◌, inl, inr, ℕ, zero, suc, ◌+◌, ◌<◌, List, [], ◌∷◌, ◌++◌, length, map, take, drop, set, get_or, Some, arith, refl, sym, ap, ◌∙◌, subst, append_assoc, length-append, take-append-drop}
 use Rattle.std.specs.Option.{option_map}
 use Rattle.std.specs.List.{All, AllByRecursion, Contains, range_with_len, slice_get}
 use Rattle.std.proofs.lemmas.List.{take_more, length-map, get_or_append_left}
@@ -8,16 +7,12 @@ use Rattle.std.proofs.lemmas.List.Elements.{All-get_or}
 use Rattle.std.proofs.lemmas.List.FromFn.{length-range_with_len, get_or-range_with_len}
 use Rattle.std.proofs.lemmas.List.{map-append}
 use Rattle.std.proofs.lemmas.Option.{slice_get_read, slice_get_within, slice_get-map, slice_get-get_or, get_or_from_slice_get}
-use Rattle.std.proofs.Math.Seq.{take-length}
+pub use Rattle.std.proofs.lemmas.List.{nil_from_length as none_left}
+pub use Rattle.std.proofs.lemmas.Option.{same_Some as some_is}
+pub use Rattle.qp_multi.proofs.AttemptLaws.{if_ok}
 use Rattle.pin_core.proofs.Lists.{contains_cases}
 
 module _ {A : Type 0} where
-  -- a list's last element, behind the others
-  pub ends_with : (xs : List A) (d : A) → (length xs ≡ 0 → ⊥) → (above : List A) × (xs ≡ above ++ get_or xs (length xs - 1) d ∷ [])
-  ends_with xs d some =
-      let n : (length xs - 1) + 1 ≡ length xs = omega arith in
-      (take (length xs - 1) xs, sym (take-length xs) ∙ ap (λ (k : ℕ). take k xs) (sym n) ∙ take_more xs (length xs - 1) d (omega arith))
-
   pub all_front : (P : A → Type 0) (xs ys : List A) → All P (xs ++ ys) → All P xs
   all_front P xs ys all k d lt = subst P (get_or_append_left xs ys d k lt) (all k d (let n = length-append xs ys in omega arith))
 
@@ -40,9 +35,6 @@ module _ {A : Type 0} where
 
   pub mapped_at : {B : Type 0} (f : A → B) (xs : List A) (k : ℕ) (x : A) → slice_get xs k ≡ Some x → slice_get (map f xs) k ≡ Some (f x)
   mapped_at f xs k x is = slice_get-map f xs k ∙ ap (option_map f) is
-
-  pub some_is : (x y : A) → Some x ≡ Some y → x ≡ y
-  some_is x y e = cc
 
   -- elements that are numbered from 1 on
   pub numbered_at : (f : A → ℕ) (xs : List A) (n k : ℕ) (x : A) → map f xs ≡ range_with_len 1 n → k < n → slice_get xs k ≡ Some x → f x ≡ k + 1
@@ -105,11 +97,3 @@ module _ {A B : Type 0} where
 
   pub alike_length : (f : A → ℕ) (g : B → ℕ) (xs : List A) (ys : List B) → map f xs ≡ map g ys → length xs ≡ length ys
   alike_length f g xs ys all = sym (length-map xs f) ∙ ap length all ∙ length-map ys g
-
-pub if_ok : {T E : Type 0} (P Q : T → Type 0) (r : Result T E) → ((x : T) → P x → Q x) → IfOk r P → IfOk r Q
-if_ok P Q (Ok x) f p = f x p
-if_ok P Q (Err e) f p = p
-
-pub none_left : {A : Type 0} (xs : List A) → length xs ≡ 0 → xs ≡ []
-none_left [] e = refl
-none_left (x ∷ xs) e = absurd (omega arith)

@@ -37,11 +37,6 @@ places_count [] (s ∷ sizes) few = absurd (omega arith)
 places_count (z ∷ zones) [] few = refl
 places_count (z ∷ zones) (s ∷ sizes) few = ap suc (places_count zones sizes (omega arith))
 
-pub places_within : (zones : List ZoneItems) (sizes : List TableSize) → length (places_of zones sizes) ≤ length zones
-places_within [] sizes = omega arith
-places_within (z ∷ zones) [] = omega arith
-places_within (z ∷ zones) (s ∷ sizes) = let n = places_within zones sizes in omega arith
-
 pub place_zone : (zones : List ZoneItems) (sizes : List TableSize) (k : ℕ) (p : Place) → slice_get (places_of zones sizes) k ≡ Some p → slice_get zones k ≡ Some p.zone
 place_zone [] sizes k p there = absurd cc
 place_zone (z ∷ zones) [] k p there = absurd cc

@@ -14,8 +14,9 @@ use Rattle.shared_cells.specs.Views.{is_told}
 use Rattle.qp_multi.specs.Passes.{version_seen}
 use Rattle.zone_table.specs.Remembered.{AreAttached, Remembers, is_marked}
 use Rattle.zone_table.specs.Tables.{IsAttached}
-use Rattle.zone_table.proofs.KnownLaws.{SeenHistory, part_itself, part_more, version_same}
+use Rattle.zone_table.proofs.KnownLaws.{part_itself, part_more, version_same}
 use Rattle.zone_table.proofs.Lists.{some_is}
+use Rattle.zone_table.specs.Notes.{SeenHistory}
 
 module _ (origins : List Name) where
   pub nothing_remembered : (now : SeenHistory) (kept : Option ℕ) (attached : List Bool) → kept ≡ None → IfSome kept (λ n. Remembers origins now n attached)
