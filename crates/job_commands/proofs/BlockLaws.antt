@@ -1,6 +1,6 @@
 -- How a block ends, by what its transaction's calls say.
 use Rattle.std.proofs.Common.{◌≡◌, ◌∙◌, Bool, true, ℕ, ◌+◌, ◌*◌, arith, List, Option, Some, None, Result, Ok, Err, IfOk, length, refl, sym, ap, subst}
-use Rattle.std.specs.Prelude.{◌↔◌, OnErr, IsSome, IsSomeAnd, IfSome, IfErr, IsErr, slice_get}
+use Rattle.std.specs.Prelude.{◌↔◌, OnErr, IsSomeAnd, IfSome, IfErr, IsErr, slice_get}
 use Rattle.std.specs.Option.{ForSome}
 use Rattle.atomic_table.specs.Seated.{TableId}
 use Rattle.std.specs.declared.alloc.AllocError.{AllocError}
@@ -202,13 +202,6 @@ wants_as s asked old new new' r wants same = subst (λ (v : Known). OnErr r (Blo
 -- ---- what calls ask of a transaction
 
 module _ (old : Known) (first : Option WorkingVersion) (begins : IsSomeAnd first (Begins IsLawful old)) where
-  pub begun_there : IsSome first
-  begun_there = by_working first begins
-    where
-      by_working : (o : Option WorkingVersion) → IsSomeAnd o (Begins IsLawful old) → IsSome o
-      by_working (Some d) b = refl
-      by_working None b = absurd b
-
   pub begun_works : IsSomeAnd first WorksOnSome
   begun_works = some_weaker (Begins IsLawful old) WorksOnSome first (begun_some old) begins
 

@@ -1,29 +1,22 @@
 -- What an ended index tells, where all its passes were handed in.
-use Rattle.std.proofs.Common.{◌≡◌, ◌∙◌, ◌≢◌, inl, inr, ⊎_elim, ℕ, zero, suc, ◌+◌, ◌<◌, ◌≤◌, Bool, true, false, List, [], ◌∷◌, ◌++◌, length, map, Option, Some, None, refl, sym, ap, subst, arith, append_assoc, length-append}
+use Rattle.std.proofs.Common.{◌≡◌, ◌∙◌, ◌≢◌, inl, inr, ⊎_elim, ℕ, zero, suc, ◌+◌, ◌<◌, ◌≤◌, Bool, true, false, List, [], ◌∷◌, ◌++◌, length, map, Option, Some, None, refl, sym, ap, subst, arith, append_assoc, length-append, append-nil}
 use Rattle.std.specs.Prelude.{Contains}
-use Rattle.std.specs.List.{All, AllByRecursion}
+use Rattle.std.specs.List.{AllByRecursion}
 use Rattle.std.proofs.lemmas.List.{length-map}
 use Rattle.std.proofs.lemmas.List.Elements.{Contains-append_left, Contains-append_right, Contains-append_cases, All-contains}
+pub use Rattle.std.proofs.lemmas.List.Elements.{recursion_from_All as all_rec}
 use Rattle.pin_core.proofs.Lists.{contains_cases}
-use Rattle.shared_cells.specs.declared.view.PassView.{PassView}
 use Rattle.shared_cells.specs.History.{StartsWith, entries_by}
 use Rattle.shared_cells.specs.Views.{number_of}
-use Rattle.qp_multi.specs.declared.meaning.Operation.{Operation}
 use Rattle.qp_multi.specs.Passes.{Known, pinned_in}
 use Rattle.qp_multi.specs.Closings.{AllSeen, Includes, AreAll, IsCommitOf, IsNamingOf, Ends}
 use Rattle.job_commands.specs.Histories.{OpenedWith, Commit}
 use Rattle.job_commands.specs.Closings.{Some', AreApart, Worker, second_view, workers_views, views_of, numbers_in, IsPass, Closed, MainSees}
 use Rattle.job_commands.proofs.HistoryLaws.{by-append, begins_more}
 use Rattle.job_commands.proofs.JobLaws.{HasEntries, behind, here, there, second_all}
-
-abbrev Own : Type 0
-Own = PassView (List Operation)
+use Rattle.job_commands.proofs.WorkLaws.{Own}
 
 -- ---- elements
-
-pub all_rec : {A : Type 0} (P : A → Type 0) (xs : List A) → All P xs → AllByRecursion P xs
-all_rec P [] h = tt
-all_rec P (x ∷ xs) h = (h 0 x (omega arith), all_rec P xs (λ k d l. h (suc k) d (omega arith)))
 
 each_rec : {A : Type 0} (P : A → Type 0) (xs : List A) → ((x : A) → Contains xs x → P x) → AllByRecursion P xs
 each_rec P [] h = tt
@@ -96,11 +89,7 @@ exact_entries author own all committed more mine front =
     let parts : entries_by author all ≡ entries_by author committed ++ entries_by author front.0 = ap (entries_by author) front.1 ∙ by-append author committed front.0 in
     let none : entries_by author front.0 ≡ [] =
     nothing_behind (entries_by author committed) (entries_by author front.0) more.0 (sym mine ∙ more.1 ∙ ap (λ (l : List Commit). l ++ more.0) parts) in
-    mine ∙ sym (parts ∙ ap (λ (l : List Commit). entries_by author committed ++ l) none ∙ nil (entries_by author committed))
-  where
-    nil : (l : List Commit) → l ++ [] ≡ l
-    nil [] = refl
-    nil (x ∷ l) = ap (λ (m : List Commit). x ∷ m) (nil l)
+    mine ∙ sym (parts ∙ ap (λ (l : List Commit). entries_by author committed ++ l) none ∙ append-nil (entries_by author committed))
 
 pub pass_of : (v : Known) (number : ℕ) → number_of v.pass ≡ number + 1 → IsPass number v
 pass_of v number e = by_pass v.pass refl e

@@ -9,10 +9,8 @@ use Rattle.zone_model.specs.Versions.{Version}
 use Rattle.trie_model.specs.Shape.{nodes, keys_of}
 use Rattle.job_model.specs.Commands.{Command}
 use Rattle.job_report.specs.declared.outcomes.Outcomes.{Outcomes}
-use Rattle.shared_cells.specs.declared.view.PassView.{PassView}
 use Rattle.shared_cells.specs.History.{StartsWith, IsPartOf, version_after}
 use Rattle.shared_cells.specs.Views.{number_of, is_told, with_pinned}
-use Rattle.qp_multi.specs.declared.meaning.Operation.{Operation}
 use Rattle.qp_multi.specs.Operations.{applied}
 use Rattle.qp_multi.specs.Passes.{Known, first_version, version_seen}
 use Rattle.qp_multi.specs.Closings.{AllSeen, AreAll, Ends}
@@ -22,13 +20,11 @@ use Rattle.job_commands.specs.Closings.{Worker, workers_views, views_of, numbers
 use Rattle.job_commands.specs.Endings.{Measured}
 use Rattle.job_commands.specs.Runs.{IsRun}
 use Rattle.job_commands.proofs.HistoryLaws.{begins_more, opened_same}
-use Rattle.job_commands.proofs.WorkLaws.{all_weaker}
 use Rattle.job_commands.proofs.JobLaws.{here, there, ends_there, is_run}
 use Rattle.job_commands.proofs.CloseLaws.{in_map, closed}
 use Rattle.job_commands.proofs.GatherLaws.{numbers_same}
-
-abbrev Own : Type 0
-Own = PassView (List Operation)
+use Rattle.job_commands.proofs.WorkLaws.{Own}
+use Rattle.report_laws.proofs.ListLemmas.{all_weaker}
 
 pub out_of : {A B : Type 0} (f : A → B) (xs : List A) (y : B) → Contains (map f xs) y → (x : A) × Contains xs x × (f x ≡ y)
 out_of f [] y c = absurd (let l = c.1 in omega arith)

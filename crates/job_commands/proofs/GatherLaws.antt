@@ -18,7 +18,7 @@ use Rattle.job_commands.specs.Commands.{IsIndex, IsOpenedWith}
 use Rattle.job_commands.specs.Works.{IsNew, AreNew, WorkerRan, ended, only}
 use Rattle.job_commands.specs.Closings.{Worker, worker_views, numbers_in, Handed, Gathers}
 use Rattle.job_commands.proofs.HistoryLaws.{begins_more, opened_same}
-use Rattle.job_commands.proofs.WorkLaws.{all_weaker}
+use Rattle.report_laws.proofs.ListLemmas.{all_weaker}
 
 -- ---- passes that are back
 

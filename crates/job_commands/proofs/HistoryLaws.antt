@@ -1,7 +1,7 @@
 -- Histories that begin with one that was seen.
-use Rattle.std.proofs.Common.{◌≡◌, ◌∙◌, ℕ, zero, suc, ◌+◌, ◌<◌, ◌≤◌, Bool, true, false, cond, eqb, List, [], ◌∷◌, ◌++◌, length, take, Option, Some, None, refl, sym, ap, subst, arith, append_assoc, append-nil, length-append, eq-eqb}
+use Rattle.std.proofs.Common.{◌≡◌, ◌∙◌, ℕ, zero, suc, ◌+◌, ◌<◌, ◌≤◌, Bool, true, false, cond, eqb, List, [], ◌∷◌, ◌++◌, length, take, Option, Some, None, refl, sym, ap, subst, arith, append-nil, length-append, eq-eqb}
 use Rattle.std.specs.Prelude.{Contains, unwrap_or}
-use Rattle.std.proofs.lemmas.List.{take_all, take-append-le}
+use Rattle.std.proofs.lemmas.List.{take_all, take-append-le, append_cancel_left}
 use Rattle.std.proofs.lemmas.List.Elements.{Contains-append_left, filter-append}
 use Rattle.zone_model.specs.Versions.{Version}
 use Rattle.shared_cells.specs.declared.view.Naming.{Naming}
@@ -10,15 +10,13 @@ use Rattle.shared_cells.specs.Views.{is_told}
 use Rattle.qp_multi.specs.declared.meaning.Operation.{Operation}
 use Rattle.qp_multi.specs.Operations.{applied}
 use Rattle.qp_multi.specs.Passes.{first_version}
+pub use Rattle.zone_edit.proofs.EditLaws.{begins_through as begins_more}
 use Rattle.job_commands.specs.Histories.{OpenedWith, Commit, Entries, SeenHistory, index_at, StandsAs, AreVersions, Deeds, Explains, times_by}
 
 -- ---- beginnings
 
 pub begins_same : {A : Type 0} (xs : List A) → StartsWith xs xs
 begins_same xs = ([], sym (append-nil xs))
-
-pub begins_more : {A : Type 0} (all more part : List A) → StartsWith all more → StartsWith more part → StartsWith all part
-begins_more all more part a b = (b.0 ++ a.0, a.1 ∙ ap (λ (xs : List _). xs ++ a.0) b.1 ∙ append_assoc part b.0 a.0)
 
 pub begins_length : {A : Type 0} (all part : List A) → StartsWith all part → length part ≤ length all
 begins_length all part s = omega (arith, ap length s.1, length-append part s.0)
@@ -117,12 +115,8 @@ by-push author xs operations =
     by-append author xs (entry_of author operations ∷ [])
     ∙ ap (λ (b : Bool). entries_by author xs ++ cond b (entry_of author operations ∷ []) []) (eq-eqb author author refl)
 
-nothing_more : {A : Type 0} (xs ys : List A) → xs ++ ys ≡ xs → ys ≡ []
-nothing_more [] ys e = e
-nothing_more (x ∷ xs) ys e = nothing_more xs ys (let t : xs ++ ys ≡ xs = cc in t)
-
 pub none_behind : (author : ℕ) (all part : List Commit) (s : StartsWith all part) → entries_by author all ≡ entries_by author part → entries_by author s.0 ≡ []
-none_behind author all part s e = nothing_more (entries_by author part) (entries_by author s.0) (sym (by-append author part s.0) ∙ ap (entries_by author) (sym s.1) ∙ e)
+none_behind author all part s e = append_cancel_left (entries_by author part) (entries_by author s.0) [] (sym (by-append author part s.0) ∙ ap (entries_by author) (sym s.1) ∙ e ∙ sym (append-nil (entries_by author part)))
 
 -- ---- which version a pass made
 

@@ -1,9 +1,10 @@
 -- What all workers together have come to.
-use Rattle.std.proofs.Common.{◌≡◌, ◌∙◌, ◌≢◌, ◌⊎◌, inl, inr, ⊎_elim, ℕ, zero, suc, ◌+◌, ◌-◌, ◌<◌, ◌≤◌, Bool, true, false, cond, ◌&&◌, eqb, List, [], ◌∷◌, ◌++◌, length, map, Option, Some, None, refl, sym, ap, subst, arith, append-nil, length-append, Ok, eq-eqb}
+use Rattle.std.proofs.Common.{◌≡◌, ◌∙◌, ◌≢◌, ◌⊎◌, inl, inr, ⊎_elim, ℕ, zero, suc, ◌+◌, ◌-◌, ◌<◌, ◌≤◌, Bool, true, false, cond, eqb, List, [], ◌∷◌, ◌++◌, length, map, Option, Some, None, refl, sym, ap, subst, arith, append-nil, length-append, Ok, eq-eqb}
 use Rattle.std.specs.Prelude.{Contains}
 use Rattle.std.proofs.lemmas.Bool.Decides.{nat_tests}
 use Rattle.std.proofs.lemmas.List.{length-map}
 use Rattle.std.proofs.lemmas.List.Elements.{Contains-append_left, Contains-append_right, Contains-push}
+use Rattle.std.proofs.lemmas.Bool.{and_parts}
 use Rattle.std.specs.List.{AllByRecursion}
 use Rattle.zone_model.specs.Versions.{Version}
 use Rattle.zone_model.specs.Transactions.{whole}
@@ -22,7 +23,8 @@ use Rattle.job_commands.specs.Works.{Replayed}
 use Rattle.job_commands.specs.Closings.{Some', AreApart, Worker, second_view, workers_views, views_of, numbers_in, commands_in, outcomes_in, IsPass, Closed, MainSees}
 use Rattle.job_commands.specs.Runs.{IsRun}
 use Rattle.job_commands.proofs.HistoryLaws.{begins_more, begins_length, index_last, versions_front, times_none, times_front, times_past}
-use Rattle.job_commands.proofs.WorkLaws.{Pairs, Own, all_weaker, all_both, times-append, shown-append, replayed_more}
+use Rattle.job_commands.proofs.WorkLaws.{Pairs, Own, times-append, shown-append, replayed_more}
+use Rattle.report_laws.proofs.ListLemmas.{all_append, all_both, all_weaker}
 
 -- ---- elements
 
@@ -31,10 +33,6 @@ here x xs = Contains-append_left (x ∷ []) xs x (Contains-push [] x)
 
 pub there : {A : Type 0} (y x : A) (xs : List A) → Contains xs x → Contains (y ∷ xs) x
 there y x xs h = Contains-append_right (y ∷ []) xs x h
-
-pub all-append : {X : Type 0} (P : X → Type 0) (xs ys : List X) → AllByRecursion P xs → AllByRecursion P ys → AllByRecursion P (xs ++ ys)
-all-append P [] ys a b = b
-all-append P (x ∷ xs) ys a b = (a.0, all-append P xs ys a.1 b)
 
 -- ---- the commit that made a version
 
@@ -84,10 +82,6 @@ nothing_past history seen front never = by_rest front.0 front.1
 -- ---- the versions that outcomes make are those of the history, if each was made once
 
 module _ (s : OpenedWith) (history : List Commit) where
-  is_both : (c d : Bool) → (c && d) ≡ true → (c ≡ true) × (d ≡ true)
-  is_both true d h = (refl, h)
-  is_both false d h = absurd cc
-
   abbrev Makes : ℕ → Version → Pairs → Type 0
   Makes j base pairs = (next : Version) × (whole s.origin (asked_at j pairs) base ≡ Ok next) × StandsAs (index_at s.opening history j) next
 
@@ -97,7 +91,7 @@ module _ (s : OpenedWith) (history : List Commit) where
     where
       by_made : (times_made j pairs ≡ 1 → Makes j base pairs) → (t : Bool) → made j p ≡ t → Makes j base (p ∷ pairs)
       by_made rest true e =
-          let both = is_both (is_committed p.1.ended) (eqb p.1.version j) e in
+          let both = and_parts (is_committed p.1.ended) (eqb p.1.version j) e in
           let same : p.1.version ≡ j = (let t : eqb p.1.version j ≡ true = both.1 in grind (arith, nat_tests)) in
           let replayed = (r.0 both.0).2 base (subst (λ (n : ℕ). StandsAs (index_at s.opening history (n - 1)) base) (sym same) b) in (
             replayed.0,
@@ -129,7 +123,7 @@ module _ (s : OpenedWith) (history : List Commit) where
     where
       by_made : (times_made j pairs ≡ 1 → IsAsked s (asked_at j pairs) before e.change) → (t : Bool) → made j p ≡ t → IsAsked s (asked_at j (p ∷ pairs)) before e.change
       by_made rest true is =
-          let both = is_both (is_committed p.1.ended) (eqb p.1.version j) is in
+          let both = and_parts (is_committed p.1.ended) (eqb p.1.version j) is in
           let same : p.1.version ≡ j = (let t : eqb p.1.version j ≡ true = both.1 in grind (arith, nat_tests)) in
           subst (λ (t : Bool). IsAsked s (cond t (asked_by p.0) (asked_at j pairs)) before e.change) (sym is) ((r.0 both.0).1 before e begins (numbered ∙ sym same))
       by_made rest false is =
@@ -297,7 +291,7 @@ module _ (s : OpenedWith) (history : List Commit) (namings : List Naming) (main 
   all_replayed : (ws : List (Worker s)) → AllByRecursion Sees (views_of main ws) → AllByRecursion (Replayed s history) (Made ws)
   all_replayed [] b = tt
   all_replayed (w ∷ ws) b =
-      all-append (Replayed s history) (pairs_of w.commands w.outcomes.list.items) (Made ws)
+      all_append (Replayed s history) (pairs_of w.commands w.outcomes.list.items) (Made ws)
       (all_both (λ (q : Pair). q.1.version ≤ length w.worker_passes.asks.seen.history) (Replayed s w.worker_passes.asks.seen.history) (Replayed s history) (pairs_of w.commands w.outcomes.list.items)
       (λ q le h. replayed_more s history w.worker_passes.asks.seen.history b.0 q le h) w.ran.work.none_above w.ran.work.replayed)
       (all_replayed ws (behind main Sees w ws b))
@@ -306,7 +300,7 @@ module _ (s : OpenedWith) (history : List Commit) (namings : List Naming) (main 
   all_below [] b = tt
   all_below (w ∷ ws) b =
       let long = begins_length history w.worker_passes.asks.seen.history b.0 in
-      all-append (λ (p : Pair). p.1.version ≤ length history) (pairs_of w.commands w.outcomes.list.items) (Made ws)
+      all_append (λ (p : Pair). p.1.version ≤ length history) (pairs_of w.commands w.outcomes.list.items) (Made ws)
       (all_weaker (λ (p : Pair). p.1.version ≤ length w.worker_passes.asks.seen.history) (λ (p : Pair). p.1.version ≤ length history) (pairs_of w.commands w.outcomes.list.items) (λ p le. omega (arith, le, long)) w.ran.work.none_above)
       (all_below ws (behind main Sees w ws b))
 

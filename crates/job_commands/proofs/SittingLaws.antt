@@ -27,9 +27,10 @@ use Rattle.job_commands.specs.Works.{AreNew, IsNew, Numbers, Replayed, ended}
 use Rattle.job_commands.specs.Endings.{Measured}
 use Rattle.job_commands.specs.Sittings.{AreBoth, AtWork, ComesTo, EndsAt, Sits, versions_by}
 use Rattle.job_commands.proofs.HistoryLaws.{begins_more, begins_length, by-append, index_last, opened_same, part_same, times_front, times_none, versions_front}
-use Rattle.job_commands.proofs.WorkLaws.{Own, Pairs, WorkerAt, all_both, all_weaker, replayed_more, worker_back, worker_goes_on, worker_starts}
+use Rattle.job_commands.proofs.WorkLaws.{Own, Pairs, WorkerAt, replayed_more, worker_back, worker_goes_on, worker_starts}
 use Rattle.job_commands.proofs.JobLaws.{Author, author_of, all_asked, versions_stand}
 use Rattle.job_commands.proofs.CloseLaws.{exact_entries}
+use Rattle.report_laws.proofs.ListLemmas.{all_both, all_weaker}
 
 -- ---- parts of lists
 

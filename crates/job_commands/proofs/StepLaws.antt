@@ -17,19 +17,15 @@ use Rattle.job_report.specs.Outcomes.{ended_view, Replies, Tells, EndsBlock, End
 use Rattle.job_report.specs.declared.outcomes.Told.{Told}
 use Rattle.job_report.specs.declared.outcomes.Told.TheVariants.{Compacted}
 use Rattle.job_report.specs.declared.outcomes.Outcome.{Outcome}
-use Rattle.shared_cells.specs.declared.view.PassView.{PassView}
 use Rattle.shared_cells.specs.History.{StartsWith, IsPartOf, version_after}
 use Rattle.shared_cells.specs.Views.{is_told, with_pinned}
-use Rattle.qp_multi.specs.declared.meaning.Operation.{Operation}
 use Rattle.qp_multi.specs.Operations.{applied}
 use Rattle.qp_multi.specs.Passes.{Known, first_version, version_seen}
 use Rattle.job_commands.specs.Histories.{OpenedWith, Entries, StandsAs, AreVersions, Deeds, Explains, judged_by}
 use Rattle.job_commands.specs.Commands.{Asked, Transacts, BlockRan}
 use Rattle.job_commands.specs.Steps.{WorkerPasses, HoldsLast, IsProgress, IsUnder, Stays, Writes, Moved, Step}
 use Rattle.job_commands.proofs.HistoryLaws.{begins_same, begins_more, begins_length, last_stands, opened_same, part_same}
-
-abbrev Own : Type 0
-Own = PassView (List Operation)
+use Rattle.job_commands.proofs.WorkLaws.{Own}
 
 -- ---- outcomes
 

@@ -1,14 +1,12 @@
 -- What a transaction makes of a block, by its working versions.
-use Rattle.std.proofs.Common.{◌≡◌, ◌∙◌, ◌⊎◌, ⊎_elim, ℕ, suc, ◌+◌, ◌-◌, ◌*◌, ◌/◌, ◌<◌, ◌≤◌, true, List, [], ◌∷◌, ◌++◌, length, take, get_or, Option, Some, None, Result, Ok, Err, refl, sym, ap, subst, arith, length-append}
+use Rattle.std.proofs.Common.{◌≡◌, ◌∙◌, ◌⊎◌, ⊎_elim, ℕ, ◌+◌, ◌-◌, ◌*◌, ◌/◌, ◌<◌, ◌≤◌, true, List, [], ◌∷◌, ◌++◌, length, take, Option, Some, None, Result, Ok, Err, refl, sym, ap, subst, arith, length-append}
 use Rattle.std.specs.Prelude.{Contains, IsOk, unwrap_or}
-use Rattle.std.specs.List.{AllByRecursion, AllPairs}
+use Rattle.std.specs.List.{AllByRecursion}
 use Rattle.std.specs.List.Sorted.{IsStrictlySortedBy}
 use Rattle.std.specs.Ordering.{nat_cmp}
-use Rattle.std.specs.declared.cmp.Ordering.TheVariants.{Less}
-use Rattle.std.proofs.lemmas.Bool.Decides.{nat_tests}
-use Rattle.std.proofs.lemmas.List.{take_all, take-append-le}
 use Rattle.std.proofs.lemmas.List.Sums.{fold-append, sum_by-cons}
 use Rattle.std.proofs.lemmas.List.Elements.{Contains-append_left}
+use Rattle.std.proofs.lemmas.Map.Keys.{sorted_from_strictly_increasing}
 use Rattle.zone_model.specs.Names.{Name}
 use Rattle.zone_model.specs.Versions.{Version, owner_of, apply, all_applied, Operation as Said}
 use Rattle.zone_model.specs.Transactions.{Transaction, all_met, whole}
@@ -20,7 +18,7 @@ use Rattle.job_model.specs.Sizes.{cell_count, cells_asked, trie_entries}
 use Rattle.job_model.specs.Outcomes.{BoundsSets, BoundsVersions, Cause, Rule, Full, Spent, Causes, WhyFull, cells_kept, last_version}
 use Rattle.report_laws.specs.Changes.{AllSaid}
 use Rattle.report_laws.proofs.ChangeLemmas.{whole_dumped}
-use Rattle.shared_cells.specs.declared.view.PassView.{PassView}
+use Rattle.report_laws.proofs.ListLemmas.{all_up_to, older_rise}
 use Rattle.shared_cells.specs.History.{StartsWith, IsPartOf, OpeningFits, entry_of, version_after}
 use Rattle.shared_cells.specs.Views.{is_told, pass_of}
 use Rattle.shared_cells.specs.Steps.{IsNamed}
@@ -30,7 +28,7 @@ use Rattle.qp_multi.specs.declared.kept.Versions.{Versions}
 use Rattle.qp_multi.specs.Operations.{applied}
 use Rattle.qp_multi.specs.Passes.{Known, first_version, version_seen}
 use Rattle.qp_multi.specs.WorkingVersions as working_versions
-use Rattle.qp_multi.specs.WorkingVersions.{Begins, Works, base_of, working_set}
+use Rattle.qp_multi.specs.WorkingVersions.{Begins, base_of, working_set}
 use Rattle.qp_multi.specs.Fulls.{version_at}
 use Rattle.qp_multi.specs.Fulls as fulls
 use Rattle.qp_multi.specs.Keepings.{GoesOn, versions_in}
@@ -51,44 +49,7 @@ use Rattle.job_commands.specs.Commands.{Accepts, Commits, OpensAt}
 use Rattle.job_commands.proofs.HistoryLaws.{begins_same, begins_length, begins_more, index_front, index_last, last_stands, opened_same, part_more}
 use Rattle.job_commands.proofs.JobLaws.{here, there}
 use Rattle.job_commands.proofs.ZoneLaws.{lawful_zone, opens_still}
-
-abbrev Own : Type 0
-Own = PassView (List Operation)
-
--- ---- numbers that rise
-
-abbrev Rising : List ℕ → Type 0
-Rising [] = Unit {0}
-Rising (x ∷ xs) = AllByRecursion (λ y. x < y) xs × Rising xs
-
-less_all : (x : ℕ) (xs : List ℕ) → ((k d : ℕ) → k < length xs → x < get_or xs k d) → AllByRecursion (λ y. x < y) xs
-less_all x [] h = tt
-less_all x (y ∷ xs) h = (h 0 0 (omega arith), less_all x xs (λ k d l. h (suc k) d (omega arith)))
-
-rising_of : (xs : List ℕ) → AllPairs (λ v w. v < w) xs → Rising xs
-rising_of [] p = tt
-rising_of (x ∷ xs) p = (less_all x xs (λ k d l. p 0 (suc k) d (omega arith) (omega arith)), rising_of xs (λ i j d l m. p (suc i) (suc j) d (omega arith) (omega arith)))
-
-less_sorted : (x : ℕ) (xs : List ℕ) → AllByRecursion (λ y. x < y) xs → AllByRecursion (λ y. nat_cmp x y ≡ Less) xs
-less_sorted x [] a = tt
-less_sorted x (y ∷ xs) a = (let l = a.0 in let e : nat_cmp x y ≡ Less = grind (arith, nat_tests) in e, less_sorted x xs a.1)
-
-sorted : (xs : List ℕ) → Rising xs → IsStrictlySortedBy nat_cmp xs
-unfolding IsStrictlySortedBy
-sorted [] r = tt
-sorted (x ∷ xs) r = (less_sorted x xs r.0, sorted xs r.1)
-
-last_of : (P : ℕ → Type 0) (xs : List ℕ) (x : ℕ) → AllByRecursion P (xs ++ x ∷ []) → P x
-last_of P [] x a = a.0
-last_of P (y ∷ xs) x a = last_of P xs x a.1
-
-front_below : (older : List ℕ) (v : ℕ) → Rising (older ++ v ∷ []) → AllByRecursion (λ x. x < v) older
-front_below [] v r = tt
-front_below (x ∷ older) v r = (last_of (λ y. x < y) older v r.0, front_below older v r.1)
-
-low_all : (older : List ℕ) (v : ℕ) → AllByRecursion (λ x. x < v) older → AllByRecursion (λ x. x ≤ v) (older ++ v ∷ [])
-low_all [] v a = (omega arith, tt)
-low_all (x ∷ older) v a = (let l = a.0 in omega arith, low_all older v a.1)
+use Rattle.job_commands.proofs.WorkLaws.{Own}
 
 -- ---- a transaction that has begun
 
@@ -337,9 +298,9 @@ module _ (s : OpenedWith) (asked : Transaction) (old : Known) (d e : WorkingVers
             let stopped = r.edits.becomes (set (length new.seen.history)) (works_set set (length new.seen.history) refl are) in
             let at = subst (IsFullAt e s.origin asked.operations (set (length new.seen.history)) operation request) (sym told) stopped.1 in
             let last : versions_in kept ≡ at.full.ends.0 ++ length new.seen.history ∷ [] = at.full.ends.1 ∙ ap (λ (n : ℕ). at.full.ends.0 ++ n ∷ []) base_is in
-            let rising : Rising (versions_in kept) = rising_of (versions_in kept) kept.rising in
-            let below = front_below at.full.ends.0 (length new.seen.history) (subst Rising last rising) in
-            let low : AllByRecursion (λ n. n ≤ length new.seen.history) (versions_in kept) = subst (AllByRecursion (λ n. n ≤ length new.seen.history)) (sym last) (low_all at.full.ends.0 (length new.seen.history) below) in
+            let rising = sorted_from_strictly_increasing (versions_in kept) (λ k l. kept.rising k (k + 1) 0 (omega arith) l) in
+            let below = (older_rise (length new.seen.history) at.full.ends.0 (subst (IsStrictlySortedBy nat_cmp) last rising)).1 in
+            let low : AllByRecursion (λ n. n ≤ length new.seen.history) (versions_in kept) = subst (AllByRecursion (λ n. n ≤ length new.seen.history)) (sym last) (all_up_to (λ n. n ≤ length new.seen.history) (length new.seen.history) at.full.ends.0 (λ n l. l) below) in
             let many = at.full.many in
             let few = at.full.few in
             let same = kept_cells set are (versions_in kept) low in
@@ -358,7 +319,7 @@ module _ (s : OpenedWith) (asked : Transaction) (old : Known) (d e : WorkingVers
               older = at.full.ends.0;
               base_last = last;
               older_shown = shown_all at.full.ends.0 (λ x c. subst (λ (l : List ℕ). Contains l x) (sym at.full.ends.1) (Contains-append_left at.full.ends.0 (e.seat.version ∷ []) x c)) below at.full.named;
-              rising = sorted (versions_in kept) rising;
+              rising = rising;
               few = omega (arith, few, passes);
               full = subst (λ (n : ℕ). n - n / 4 - 8 ≤ cell_count at.working + cells_kept set (versions_in kept)) (sym chunks) (subst (λ (k : ℕ). length e.usage.given - length e.usage.given / 4 - 8 ≤ cell_count at.working + k) same many);
               cramped = λ most_cells most_operations bounds within roomy.

@@ -1,7 +1,7 @@
 -- How a worker's run goes on by one command.
 use Rattle.std.proofs.Common.{◌≡◌, ◌∙◌, inl, inr, ℕ, ◌+◌, ◌-◌, ◌<◌, ◌≤◌, Bool, true, false, cond, ◌&&◌, eqb, List, [], ◌∷◌, ◌++◌, length, map, take, drop, get_or, Some, refl, sym, ap, subst, arith, append_assoc, length-append}
 use Rattle.std.specs.Prelude.{Contains}
-use Rattle.std.proofs.lemmas.Bool.{cases_eq}
+use Rattle.std.proofs.lemmas.Bool.{cases_eq, and_right}
 use Rattle.std.proofs.lemmas.List.{map_more, drop_more}
 use Rattle.std.proofs.lemmas.List.Elements.{Contains-append_left, Contains-append_right}
 use Rattle.std.specs.List.{AllByRecursion}
@@ -22,6 +22,8 @@ use Rattle.job_commands.specs.Steps.{WorkerPasses, IsProgress, IsUnder, Adds, St
 use Rattle.job_commands.specs.Sittings.{progress_behind}
 use Rattle.job_commands.specs.Works.{Replayed, Work, Numbers, Begins, WorkerRan, ended}
 use Rattle.job_commands.proofs.HistoryLaws.{begins_same, begins_more, begins_length, begins_other, last_commit, opened_same, index_front, index_last, versions_front, explains_front, by-push, times_front, times_past, times_there, times_else}
+use Rattle.report_laws.proofs.ListLemmas.{all_push}
+pub use Rattle.report_laws.proofs.ListLemmas.{all_both, all_weaker}
 
 abbrev pub Pairs : Type 0
 Pairs = List Pair
@@ -30,19 +32,6 @@ abbrev pub Own : Type 0
 Own = PassView (List Operation)
 
 -- ---- facts about all elements, and lists that grow
-
-pub all-push : {X : Type 0} (P : X → Type 0) (xs : List X) (x : X) → AllByRecursion P xs → P x → AllByRecursion P (xs ++ x ∷ [])
-all-push P [] x a p = (p, tt)
-all-push P (y ∷ xs) x a p = (a.0, all-push P xs x a.1 p)
-
-pub all_weaker : {X : Type 0} (P Q : X → Type 0) (xs : List X) → ((x : X) → P x → Q x) → AllByRecursion P xs → AllByRecursion Q xs
-all_weaker P Q [] f a = tt
-all_weaker P Q (x ∷ xs) f a = (f x a.0, all_weaker P Q xs f a.1)
-
--- two facts of each give a third
-pub all_both : {X : Type 0} (P Q R : X → Type 0) (xs : List X) → ((x : X) → P x → Q x → R x) → AllByRecursion P xs → AllByRecursion Q xs → AllByRecursion R xs
-all_both P Q R [] f a b = tt
-all_both P Q R (x ∷ xs) f a b = (f x a.0 b.0, all_both P Q R xs f a.1 b.1)
 
 pub progress_behind-push : (progress : WorkerProgress) (pairs : Pairs) (p : Pair) → progress_behind progress (pairs ++ p ∷ []) ≡ progress_after (progress_behind progress pairs) p.0 p.1.version
 progress_behind-push progress [] p = refl
@@ -89,10 +78,6 @@ times-append j (x ∷ xs) ys =
 times-push : (j : ℕ) (xs : Pairs) (p : Pair) (b : Bool) → made j p ≡ b → times_made j (xs ++ p ∷ []) ≡ times_made j xs + cond b 1 0
 times-push j xs p b e = times-append j xs (p ∷ []) ∙ ap (λ (x : Bool). times_made j xs + (cond x 1 0 + 0)) e ∙ (let z : times_made j xs + (cond b 1 0 + 0) ≡ times_made j xs + cond b 1 0 = omega arith in z)
 
-and-false : (b : Bool) → (b && false) ≡ false
-and-false true = refl
-and-false false = refl
-
 -- ---- histories that grow
 
 pub replayed_more : (s : OpenedWith) (all part : List Commit) → StartsWith all part → (p : Pair) → p.1.version ≤ length part → Replayed s part p → Replayed s all p
@@ -133,7 +118,7 @@ record Grown (s : OpenedWith) (numbers : Numbers) (t : WorkerPasses) (pairs : Pa
 grows_same : (s : OpenedWith) (numbers : Numbers) (old new : WorkerPasses) (pairs : Pairs) (p : Pair) (w : Work s old pairs) → w.asker.number ≡ numbers.asker → StartsWith new.asks.seen.history old.asks.seen.history → is_committed p.1.ended ≡ false
     → Stays p.0 p.1.version w.asker new.asks → Grown s numbers new (pairs ++ p ∷ [])
 grows_same s numbers old new pairs p w number grows plain y = record {
-  replayed = all-push (Replayed s new.asks.seen.history) pairs p
+  replayed = all_push (Replayed s new.asks.seen.history) pairs p
       (all_both (λ (q : Pair). q.1.version ≤ length old.asks.seen.history) (Replayed s old.asks.seen.history) (Replayed s new.asks.seen.history) pairs
       (λ q le r. replayed_more s new.asks.seen.history old.asks.seen.history grows q le r) w.none_above w.replayed)
       (λ c. absurd (let e : true ≡ false = sym c ∙ plain in cc));
@@ -162,7 +147,7 @@ grows_more s numbers old new pairs p w number grows commits a =
     let before_it : p.1.version - 1 ≡ length a.base = omega (arith, a.numbered) in
     let last : p.1.version ≡ length new.asks.seen.history = omega (arith, a.numbered, longer) in
     record {
-      replayed = all-push (Replayed s new.asks.seen.history) pairs p
+      replayed = all_push (Replayed s new.asks.seen.history) pairs p
           (all_both (λ (q : Pair). q.1.version ≤ length old.asks.seen.history) (Replayed s old.asks.seen.history) (Replayed s new.asks.seen.history) pairs
           (λ q le r. replayed_more s new.asks.seen.history old.asks.seen.history grows q le r) w.none_above w.replayed)
           (λ _. (
@@ -190,7 +175,7 @@ grows_more s numbers old new pairs p w number grows commits a =
             times-push j pairs p true here ∙ (let z : times_made j pairs + 1 ≡ 1 = omega (arith, none) in z)
             ∙ sym (ap (times_by w.asker.number j) a.history ∙ times_there w.asker.number j a.base a.operations (omega (arith, e, a.numbered)))
         | inr m ↦
-            let here : made j p ≡ false = (let t : eqb p.1.version j ≡ false = grind arith in ap (λ (b : Bool). is_committed p.1.ended && b) t ∙ and-false (is_committed p.1.ended)) in
+            let here : made j p ≡ false = (let t : eqb p.1.version j ≡ false = grind arith in and_right (is_committed p.1.ended) (eqb p.1.version j) t) in
             times-push j pairs p false here ∙ (let z : times_made j pairs + 0 ≡ times_made j pairs = omega arith in z) ∙ w.made j ∙ sym (same j)
             ∙ sym (ap (times_by w.asker.number j) a.history ∙ times_else w.asker.number j a.base (entry_of w.asker.number a.operations) (λ e. m (omega (arith, e, a.numbered))))
       ];
@@ -224,7 +209,7 @@ worker_goes_on s numbers old new done c behind os o opened w step =
             (w.work.along set deeds (versions_front s new.asks.seen.history old.asks.seen.history set step.asks.history are) (explains_front s deeds new.asks.seen old.asks.seen step.asks explains))
             (step.ends (progress_behind at_first (pairs_of done os)) w.progress set deeds are explains));
         none_above = subst (AllByRecursion (λ (q : Pair). q.1.version ≤ length new.asks.seen.history)) (sym more)
-            (all-push (λ (q : Pair). q.1.version ≤ length new.asks.seen.history) (pairs_of done os) (c, outcome_view o)
+            (all_push (λ (q : Pair). q.1.version ≤ length new.asks.seen.history) (pairs_of done os) (c, outcome_view o)
             (all_weaker (λ (q : Pair). q.1.version ≤ length old.asks.seen.history) (λ (q : Pair). q.1.version ≤ length new.asks.seen.history) (pairs_of done os) (λ q le. omega (arith, le, long)) w.work.none_above) step.below);
         replayed = subst (AllByRecursion (Replayed s new.asks.seen.history)) (sym more) g.replayed;
         asker = g.asker;

@@ -1,7 +1,7 @@
 -- The zone that an index's versions are of.
-use Rattle.std.proofs.Common.{◌≡◌, ◌∙◌, true, [], ◌∷◌, refl, sym, ap, subst, inl, inr}
-use Rattle.zone_model.specs.Names.{Name, IsName, name_cmp}
-use Rattle.zone_model.proofs.KeyLaws.{key_once, key_cmp-key_of}
+use Rattle.std.proofs.Common.{◌≡◌, ◌∙◌, true, [], ◌∷◌, refl, sym, ap, subst}
+use Rattle.zone_model.specs.Names.{Name}
+use Rattle.zone_model.proofs.KeyLaws.{key_once}
 use Rattle.job_model.specs.Sizes.{trie_entries}
 use Rattle.report_laws.proofs.FirstLemmas.{zone_first}
 use Rattle.shared_cells.specs.History.{IsPartOf}
@@ -10,15 +10,8 @@ use Rattle.qp_multi.specs.Passes.{Known}
 use Rattle.job_commands.specs.Histories.{BeginsAt, Entries, IsLawful, IsZone}
 use Rattle.job_commands.specs.Commands.{OpensAt}
 use Rattle.job_commands.proofs.HistoryLaws.{opened_same}
-use Rattle.std.specs.List.{AllByRecursion}
-use Rattle.std.specs.List.Sorted.{IsStrictlySortedBy}
-use Rattle.std.specs.Map.{keys_of}
-use Rattle.std.specs.declared.cmp.Ordering.TheVariants.{Less as IsLess}
-use Rattle.zone_model.specs.Keys.{key_of}
-use Rattle.zone_model.specs.Versions.{Version}
-use Rattle.trie_model.specs.Keys.{Entry, Less, InList, Rises}
-use Rattle.trie_model.proofs.AboveLaws.{cmp_before}
-use Rattle.zone_answer.specs.Standing.{IsStorable}
+use Rattle.trie_model.specs.Keys.{Rises}
+use Rattle.zone_edit.proofs.SetLaws.{entries_rise}
 
 -- its first name is its origin
 pub zone_begins : (origin : Name) (es : Entries) → IsZone origin es → BeginsAt origin es
@@ -45,18 +38,6 @@ pub opens_still : (origin : Name) (old new : Known) → is_told old.seen.opening
 opens_still origin old new told grows opens = subst (BeginsAt origin) (sym (opened_same new.seen old.seen told grows)) opens
 
 -- ---- its names rise
-
-below_all : (name : Name) → IsName name → (pairs : Version) → AllByRecursion (λ y. name_cmp name y ≡ IsLess) (keys_of pairs) → AllByRecursion IsStorable pairs → (e : Entry) → InList e (trie_entries pairs) → Less (key_of name) e.key
-below_all name is [] above names e i = absurd i
-below_all name is (pair ∷ pairs) above names e i = elim i [
-  | inl s ↦ subst (λ (x : Entry). Less (key_of name) x.key) (sym s) (cmp_before (key_of name) (key_of pair.0) (key_cmp-key_of name pair.0 is.each names.0.name.each ∙ above.0))
-  | inr r ↦ below_all name is pairs above.1 names.1 e r
-]
-
-entries_rise : (pairs : Version) → IsStrictlySortedBy name_cmp (keys_of pairs) → AllByRecursion IsStorable pairs → Rises (trie_entries pairs)
-unfolding IsStrictlySortedBy
-entries_rise [] sorted names = tt
-entries_rise (pair ∷ pairs) sorted names = (below_all pair.0 names.0.name pairs sorted.0 names.1, entries_rise pairs sorted.1 names.1)
 
 pub zone_rises : (origin : Name) (es : Entries) → IsZone origin es → Rises es
 zone_rises origin es z = subst Rises z.stands.entries (entries_rise z.version z.stands.valid.rising z.stands.valid.items)
