@@ -5,7 +5,7 @@ use Rattle.std.specs.List.{AllByRecursion, zip}
 use Rattle.job_report.specs.declared.outcomes.FedOutcome.{FedOutcome}
 use Rattle.job_report.specs.declared.outcomes.Outcome.{Outcome}
 use Rattle.job_commands.specs.Calls.{Call, IsHeard, next_number}
-use Rattle.feed_threads.specs.Feeds.{AllFedHeard, AreInOrder, ArePlaced, EachHeard, FedHeard, IsBy, numbered, served_by}
+use Rattle.feed_threads.specs.Feeds.{AllFedHeard, AreInOrder, ArePlaced, EachHeard, FedHeard, IsBy, served_by}
 use Rattle.feed_threads.specs.declared.ordering.Served.{Served}
 
 -- what is so of numbers is so of pairs with them

@@ -1,13 +1,16 @@
 -- Outcomes that are put into the places of their numbers.
-use Rattle.std.proofs.Common.{◌≡◌, ◌∙◌, ◌⊎◌, inl, inr, ℕ, zero, suc, ◌+◌, ◌-◌, ◌<◌, ◌≤◌, Bool, true, false, cond, eqb, List, [], ◌∷◌, ◌++◌, length, map, get_or, set, replicate, Option, Some, None, Result, Ok, Err, IfOk, Vec, refl, sym, ap, subst, arith, add-one, append_assoc, append-nil, length-append, eq-eqb, eqb-true}
+use Rattle.std.proofs.Common.{◌≡◌, ◌∙◌, ◌⊎◌, inl, inr, ℕ, zero, suc, ◌+◌, ◌-◌, ◌<◌, ◌≤◌, Bool, true, false, cond, eqb, List, [], ◌∷◌, ◌++◌, length, map, get_or, set, replicate, Option, Some, None, Result, Ok, Err, IfOk, Vec, refl, sym, ap, subst, arith, append_assoc, append-nil, length-append, eq-eqb, eqb-true}
 use Rattle.std.specs.Prelude.{Contains, IsSome, slice_get}
 use Rattle.std.proofs.lemmas.Bool.Decides.{nat_tests}
 use Rattle.std.proofs.lemmas.List.Sums.{sum_by-cons}
-use Rattle.std.proofs.lemmas.Option.{slice_get_within}
+use Rattle.std.proofs.lemmas.Option.{slice_get_within, get_or_from_slice_get}
 use Rattle.std.specs.List.{All, AllByRecursion, zip}
 use Rattle.std.specs.Global.{Global}
 use Rattle.std.proofs.lemmas.List.{length-map}
-use Rattle.std.specs.List.Sorted.{IsStrictlyIncreasing}
+use Rattle.std.proofs.lemmas.List.Elements.{All-from_recursion, All-get_or}
+use Rattle.std.proofs.lemmas.Map.Keys.{sorted_from_strictly_increasing}
+use Rattle.std.specs.Ordering.{nat_cmp}
+use Rattle.std.specs.List.Sorted.{IsStrictlyIncreasing, IsStrictlySortedBy}
 use Rattle.job_report.specs.declared.outcomes.FedOutcome.{FedOutcome}
 use Rattle.job_report.specs.declared.outcomes.Outcome.{Outcome}
 use Rattle.feed_core.specs.Feeds.{list_at}
@@ -15,7 +18,7 @@ use Rattle.feed_core.specs.Rule.{times}
 use Rattle.feed_threads.specs.declared.ordering.Served.{Served}
 use Rattle.feed_threads.specs.Feeds.{AreInOrder, AreTaken, ArePlaced, IsBy, IsFree, IsServed, numbered, numbers_served, served_by}
 use Rattle.job_commands.proofs.JobLaws.{here, there}
-use Rattle.job_commands.proofs.WorkLaws.{all_weaker}
+use Rattle.report_laws.proofs.ListLemmas.{all_both, all_parts, all_weaker, older_rise}
 
 abbrev pub Places : Type 0
 Places = List (Option FedOutcome)
@@ -38,53 +41,18 @@ all_of : {X : Type 0} (P : X → Type 0) (xs : List X) → ((x : X) → P x) →
 all_of P [] f = tt
 all_of P (x ∷ xs) f = (f x, all_of P xs f)
 
-both_of : {X : Type 0} (P Q R : X → Type 0) (xs : List X) → ((x : X) → P x → Q x → R x) → AllByRecursion P xs → AllByRecursion Q xs → AllByRecursion R xs
-both_of P Q R [] f a b = tt
-both_of P Q R (x ∷ xs) f a b = (f x a.0 b.0, both_of P Q R xs f a.1 b.1)
-
-last_of : {X : Type 0} (P : X → Type 0) (xs : List X) (x : X) → AllByRecursion P (xs ++ x ∷ []) → AllByRecursion P xs × P x
-last_of P [] x all = (tt, all.0)
-last_of P (y ∷ ys) x all = let more = last_of P ys x all.1 in ((all.0, more.0), more.1)
-
 each_in : {X : Type 0} (P : X → Type 0) (xs : List X) → ((x : X) → In x xs → P x) → AllByRecursion P xs
 each_in P [] f = tt
 each_in P (x ∷ xs) f = (f x (inl refl), each_in P xs (λ y i. f y (inr i)))
 
 pub at_place : {X : Type 0} (P : X → Type 0) (xs : List X) (i : ℕ) (x : X) → AllByRecursion P xs → slice_get xs i ≡ Some x → P x
-at_place P [] i x all e = absurd cc
-at_place P (y ∷ ys) zero x all e = let same : y ≡ x = cc in subst P same all.0
-at_place P (y ∷ ys) (suc i) x all e = at_place P ys i x all.1 e
+at_place P xs i x all e = subst P (get_or_from_slice_get xs i x x e) (All-get_or P xs i x (slice_get_within xs i x e) (All-from_recursion P xs all))
 
 zip-push : (numbers : List ℕ) (os : List Outcome) (number : ℕ) (o : Outcome) → length numbers ≡ length os → zip (numbers ++ number ∷ []) (os ++ o ∷ []) ≡ zip numbers os ++ (number, o) ∷ []
 zip-push [] [] number o alike = refl
 zip-push [] (p ∷ os) number o alike = absurd (omega arith)
 zip-push (n ∷ numbers) [] number o alike = absurd (omega arith)
 zip-push (n ∷ numbers) (p ∷ os) number o alike = ap (λ (l : Numbered). (n, p) ∷ l) (zip-push numbers os number o (omega arith))
-
--- each is below those behind it
-abbrev Rises : List ℕ → Type 0
-Rises [] = Unit {0}
-Rises (x ∷ xs) = AllByRecursion (λ y. x < y) xs × Rises xs
-
-rising_tail : (x : ℕ) (xs : List ℕ) → IsStrictlyIncreasing (x ∷ xs) → IsStrictlyIncreasing xs
-rising_tail x xs r k l = let step = r (suc k) (omega arith) in rw add-one (rw add-one at step)
-
-first_below : (x : ℕ) (xs : List ℕ) → IsStrictlyIncreasing (x ∷ xs) → AllByRecursion (λ y. x < y) xs
-first_below x [] r = tt
-first_below x (y ∷ ys) r =
-    let here : x < y = r 0 (omega arith) in
-    (here, all_weaker (λ (z : ℕ). y < z) (λ (z : ℕ). x < z) ys (λ z l. omega (arith, here, l)) (first_below y ys (rising_tail x (y ∷ ys) r)))
-
-rises : (xs : List ℕ) → IsStrictlyIncreasing xs → Rises xs
-rises [] r = tt
-rises (x ∷ xs) r = (first_below x xs r, rises xs (rising_tail x xs r))
-
-rises_front : (xs : List ℕ) (last : ℕ) → Rises (xs ++ last ∷ []) → Rises xs × AllByRecursion (λ x. x < last) xs
-rises_front [] last r = (tt, tt)
-rises_front (x ∷ xs) last r =
-    let parts = last_of (λ (y : ℕ). x < y) xs last r.0 in
-    let more = rises_front xs last r.1 in
-    ((parts.0, more.0), (parts.1, more.1))
 
 -- ---- one outcome more
 
@@ -146,7 +114,7 @@ none_by (Some o ∷ places) n w low high le all =
 
 pub record Placing (served : Numbered) (start : Places) (w : ℕ) (numbers : List ℕ) (os : List Outcome) (places : Places) : Type 0 where
   pub alike : length numbers ≡ length os
-  pub rising : Rises numbers
+  pub rising : IsStrictlySortedBy nat_cmp numbers
   pub free : AllByRecursion (IsFree places) numbers
   -- what was put in stands behind
   pub above : AllByRecursion (λ m. AllByRecursion (λ e. m < e.0) (served_by w 1 places)) numbers
@@ -157,7 +125,7 @@ pub record Placing (served : Numbered) (start : Places) (w : ℕ) (numbers : Lis
 pub placing_begins : (places : Places) (w : ℕ) (numbers : List ℕ) (os : List Outcome) → length numbers ≡ length os → IsStrictlyIncreasing numbers → AllByRecursion (IsFree places) numbers → served_by w 1 places ≡ [] → Placing (zip numbers os) places w numbers os places
 placing_begins places w numbers os alike rising free none = record {
   alike = alike;
-  rising = rises numbers rising;
+  rising = sorted_from_strictly_increasing numbers rising;
   free = free;
   above = all_of (λ (m : ℕ). AllByRecursion (λ e. m < e.0) (served_by w 1 places)) numbers (λ m. subst (λ (l : Numbered). AllByRecursion (λ e. m < e.0) l) (sym none) tt);
   mine = ap (λ (l : Numbered). zip numbers os ++ l) none ∙ append-nil (zip numbers os);
@@ -170,34 +138,30 @@ pub placing_next : (served : Numbered) (start places : Places) (w number : ℕ) 
 placing_next served start places w number numbers rest os more o is_numbers is_os p =
     let one : FedOutcome = record { worker = w; outcome = o } in
     let alike : length rest ≡ length more = (let e = p.alike in omega (arith, e, ap length is_numbers, ap length is_os, length-append rest (number ∷ []), length-append more (o ∷ []))) in
-    let rising = rises_front rest number (subst Rises is_numbers p.rising) in
-    let free = last_of (IsFree places) rest number (subst (AllByRecursion (IsFree places)) is_numbers p.free) in
-    let above = last_of (λ (m : ℕ). AllByRecursion (λ e. m < e.0) (served_by w 1 places)) rest number (subst (AllByRecursion (λ m. AllByRecursion (λ e. m < e.0) (served_by w 1 places))) is_numbers p.above) in
-    let at : 1 + (number - 1) ≡ number = (let some = free.1.0 in omega (arith, some)) in
+    let rising = older_rise number rest (subst (IsStrictlySortedBy nat_cmp) is_numbers p.rising) in
+    let free = all_parts (IsFree places) rest (number ∷ []) (subst (AllByRecursion (IsFree places)) is_numbers p.free) in
+    let above = all_parts (λ (m : ℕ). AllByRecursion (λ e. m < e.0) (served_by w 1 places)) rest (number ∷ []) (subst (AllByRecursion (λ m. AllByRecursion (λ e. m < e.0) (served_by w 1 places))) is_numbers p.above) in
+    let at : 1 + (number - 1) ≡ number = (let some = free.1.0.0 in omega (arith, some)) in
     let put : served_by w 1 (set places (number - 1) (Some one)) ≡ (number, o) ∷ served_by w 1 places =
-    served_set places (number - 1) 1 w one refl free.1.1 (subst (λ (k : ℕ). AllByRecursion (λ e. k < e.0) (served_by w 1 places)) (sym at) above.1)
+    served_set places (number - 1) 1 w one refl free.1.0.1 (subst (λ (k : ℕ). AllByRecursion (λ e. k < e.0) (served_by w 1 places)) (sym at) above.1.0)
     ∙ ap (λ (k : ℕ). (k, o) ∷ served_by w 1 places) at in
     record {
       alike = alike;
       rising = rising.0;
-      free = both_of (IsFree places) (λ (m : ℕ). m < number) (IsFree (set places (number - 1) (Some one))) rest
+      free = all_both (IsFree places) (λ (m : ℕ). m < number) (IsFree (set places (number - 1) (Some one))) rest
           (λ m f below. (f.0, get-set_other places (number - 1) (m - 1) (Some one) (λ e. (let some = f.0 in absurd (omega (arith, e, below, some)))) ∙ f.1)) free.0 rising.1;
-      above = both_of (λ (m : ℕ). AllByRecursion (λ e. m < e.0) (served_by w 1 places)) (λ (m : ℕ). m < number) (λ (m : ℕ). AllByRecursion (λ e. m < e.0) (served_by w 1 (set places (number - 1) (Some one)))) rest
+      above = all_both (λ (m : ℕ). AllByRecursion (λ e. m < e.0) (served_by w 1 places)) (λ (m : ℕ). m < number) (λ (m : ℕ). AllByRecursion (λ e. m < e.0) (served_by w 1 (set places (number - 1) (Some one)))) rest
           (λ m a below. subst (λ (l : Numbered). AllByRecursion (λ e. m < e.0) l) (sym put) (below, a)) above.0 rising.1;
       mine = ap (λ (l : Numbered). zip rest more ++ l) put ∙ sym (append_assoc (zip rest more) ((number, o) ∷ []) (served_by w 1 places))
           ∙ ap (λ (l : Numbered). l ++ served_by w 1 places) (sym (zip-push rest more number o alike) ∙ sym (ap (λ (l : List ℕ). zip l (more ++ o ∷ [])) is_numbers) ∙ sym (ap (zip numbers) is_os)) ∙ p.mine;
-      others = λ other differs. other_set places (number - 1) 1 other one differs free.1.1 ∙ p.others other differs;
+      others = λ other differs. other_set places (number - 1) 1 other one differs free.1.0.1 ∙ p.others other differs;
       workers = λ low high less most all. by_set places (number - 1) low high one less most (p.workers low high less most all);
     }
-
-pub placing_ends : (served : Numbered) (start places : Places) (w : ℕ) (numbers : List ℕ) (os : List Outcome) → os ≡ [] → Placing served start w numbers os places → served_by w 1 places ≡ served
-placing_ends served start places w [] os none p = p.mine
-placing_ends served start places w (n ∷ numbers) os none p = let alike = p.alike in absurd (omega (arith, alike, ap length none))
 
 -- the place of the last number
 pub last_place : (served : Numbered) (start places : Places) (w number : ℕ) (numbers rest : List ℕ) (os : List Outcome) → numbers ≡ rest ++ number ∷ [] → Placing served start w numbers os places → (0 < number) × (number - 1 < length places)
 last_place served start places w number numbers rest os is p =
-    let free = last_of (IsFree places) rest number (subst (AllByRecursion (IsFree places)) is p.free) in (free.1.0, slice_get_within places (number - 1) None free.1.1)
+    let free = (all_parts (IsFree places) rest (number ∷ []) (subst (AllByRecursion (IsFree places)) is p.free)).1.0 in (free.0, slice_get_within places (number - 1) None free.1)
 
 -- ---- what stands in a place
 

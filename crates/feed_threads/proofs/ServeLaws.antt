@@ -3,6 +3,7 @@ use Rattle.std.proofs.Common.{◌≡◌, ◌∙◌, ℕ, zero, suc, ◌-◌, ◌
 use Rattle.std.proofs.lemmas.List.{get_or-map, length-map, map-append}
 use Rattle.std.specs.List.{All, Any, AllByRecursion}
 use Rattle.std.proofs.lemmas.List.Folds.{Any-from_list_any}
+use Rattle.std.proofs.lemmas.List.Elements.{All-from_recursion, All-get_or}
 use Rattle.job_model.specs.Commands.{Command, Compact, NeedsNoSnapshot}
 use Rattle.job_script.specs.Views.{command_view}
 use Rattle.job_script.specs.declared.commands.Command.{Command as Said}
@@ -17,7 +18,7 @@ use Rattle.job_commands.specs.WorkerPasses.{worker_passes}
 use Rattle.job_commands.specs.Calls.{next_number}
 use Rattle.job_commands.specs.Closings.{Gathers}
 use Rattle.job_commands.specs.Works.{IsNew, Numbers, only}
-use Rattle.feed_threads.specs.Feeds.{command_at, commands_at, commands_served, done_seat, numbers_served, outcomes_served, seats_served}
+use Rattle.feed_threads.specs.Feeds.{command_at, commands_at, commands_served, numbers_served, outcomes_served, seats_served}
 use Rattle.feed_threads.specs.declared.ordering.Served.{Served}
 use Rattle.job_commands.proofs.WorkLaws.{WorkerAt, plain_goes_on, worker_starts}
 
@@ -26,15 +27,10 @@ use Rattle.job_commands.proofs.WorkLaws.{WorkerAt, plain_goes_on, worker_starts}
 pub command_here : (commands : List Said) (number : ℕ) (here : Said) → number - 1 < length commands → here ≡ get_or commands (number - 1) here → command_at (map command_view commands) number ≡ command_view here
 command_here commands number here lt is = get_or-map command_view commands (number - 1) here Compact lt ∙ ap command_view (sym is)
 
-all_at : {X : Type 0} (P : X → Type 0) (xs : List X) (i : ℕ) (d : X) → AllByRecursion P xs → i < length xs → P (get_or xs i d)
-all_at P [] i d all lt = absurd (omega arith)
-all_at P (x ∷ xs) zero d all lt = all.0
-all_at P (x ∷ xs) (suc i) d all lt = all_at P xs i d all.1 (omega arith)
-
 -- what is so of all commands
 pub so_here : (P : Command → Type 0) (commands : List Said) (number : ℕ) (here : Said) → AllByRecursion P (map command_view commands) → number - 1 < length commands → here ≡ get_or commands (number - 1) here → P (command_view here)
 so_here P commands number here all lt is =
-    subst P (command_here commands number here lt is) (all_at P (map command_view commands) (number - 1) Compact all (omega (arith, lt, length-map commands command_view)))
+    subst P (command_here commands number here lt is) (All-get_or P (map command_view commands) (number - 1) Compact (omega (arith, lt, length-map commands command_view)) (All-from_recursion P (map command_view commands) all))
 
 pub plain_here : (commands : List Said) (number : ℕ) (here : Said) → AllByRecursion NeedsNoSnapshot (map command_view commands) → number - 1 < length commands → here ≡ get_or commands (number - 1) here → NeedsNoSnapshot (command_view here)
 plain_here commands number here all lt is = so_here NeedsNoSnapshot commands number here all lt is
@@ -56,11 +52,6 @@ serve_next s numbers seat after first all taken more number here os most o told 
     subst (λ (l : List Outcome). WorkerAt s numbers (worker_passes after (Some first) None) (commands_at all more) [] l) (sym is_most)
     (subst (λ (l : List Command). WorkerAt s numbers (worker_passes after (Some first) None) l [] (os ++ o ∷ [])) (sym commands)
     (plain_goes_on s numbers (worker_passes seat (Some first) None) (worker_passes after (Some first) None) (commands_at all taken) here os o told refl plain w step))
-
--- its seat is done
-pub seat_done : (old new : Takings) (feed : Handout) (numbers : List ℕ) → old.feed ≡ feed → old.taken ≡ numbers → new ≡ record old { done = true } → new ≡ done_seat feed numbers
-seat_done old new feed numbers same taken after =
-    after ∙ ap (λ (f : Handout). record { feed = f; taken = old.taken; done = true }) same ∙ ap (done_seat feed) taken
 
 -- ---- all seats are back
 

@@ -10,13 +10,14 @@ use Rattle.std.specs.List.{AllByRecursion}
 use Rattle.job_commands.specs.Calls.{After, Before, IsHeard, next_number}
 use Rattle.crew.proofs.CallLaws.{same_told}
 use Rattle.report_laws.specs.Changes.{AllAsked}
+use Rattle.report_laws.proofs.ListLemmas.{all_push}
 use Rattle.qp_multi.specs.Passes.{first_version, known_at}
 use Rattle.job_commands.specs.Histories.{OpenedWith}
 use Rattle.job_commands.specs.WorkerPasses.{worker_passes}
 use Rattle.feed_threads.proofs.ServeLaws.{command_here, number_counted, plain_here, so_here, serve_starts, serve_next}
 use Rattle.job_commands.proofs.ShowLaws.{seat_told}
 use Rattle.job_commands.proofs.StepLaws.{under_itself}
-use Rattle.job_commands.proofs.WorkLaws.{WorkerAt, all-push, worker_ran}
+use Rattle.job_commands.proofs.WorkLaws.{WorkerAt, worker_ran}
 use Rattle.job_commands.proofs.ZoneLaws.{opens_still}
 use Rattle.feed_threads.proofs.feeding.serve.Goals as goal
 
@@ -99,7 +100,7 @@ loop-number-preserved g c =
       free = c.leave.ensures.left.0;
       told = c.leave.ensures.left.1;
       heard = subst (AllByRecursion (IsHeard (g.G.Gate.hears c.args.turnstile.now.gate.now) c.args.turnstile.now.worker)) (sym c.in_ok-push.ensures.items)
-          (all-push (IsHeard (g.G.Gate.hears c.args.turnstile.now.gate.now) c.args.turnstile.now.worker) c.loop-number.numbers.items c.in-Some.number i.heard told);
+          (all_push (IsHeard (g.G.Gate.hears c.args.turnstile.now.gate.now) c.args.turnstile.now.worker) c.loop-number.numbers.items c.in-Some.number i.heard told);
       opens =
           let seat = c.loop-number.pass.seat in
           let s : OpenedWith = record { chunks = c.args.index.now.shared.table.shared.key.chunks; passes = c.args.index.now.shared.table.shared.key.passes; origin = c.args.origin.now; opening = first_version (known_at seat).seen } in
