@@ -4,34 +4,23 @@ use Rattle.std.specs.Prelude.{unwrap_or, IfSome}
 use Rattle.std.specs.List.{slice_get}
 use Rattle.zone_model.specs.Names.{Name}
 use Rattle.trie_model.specs.Keys.{Entry}
-use Rattle.shared_cells.specs.declared.view.Seen.{Seen}
-use Rattle.shared_cells.specs.History.{IsPartOf, OpeningFits, entry_of, version_after}
-use Rattle.shared_cells.specs.declared.view.PassView.{PassView}
+use Rattle.shared_cells.specs.History.{IsPartOf, entry_of, version_after}
 use Rattle.shared_cells.specs.Views.{is_told}
 use Rattle.qp_multi.specs.declared.commit.Receipt.{Receipt}
 use Rattle.qp_multi.specs.declared.meaning.Operation.{Operation}
 use Rattle.qp_multi.specs.Operations.{applied}
 use Rattle.qp_multi.specs.Passes.{Known}
 use Rattle.job_commands.proofs.HistoryLaws.{part_more}
+use Rattle.job_commands.proofs.WorkLaws.{Own}
 use Rattle.zone_table.specs.declared.change.TableRefusal.{TableRefusal}
 use Rattle.zone_table.specs.declared.change.TableRefusal.TheVariants as refusal
 use Rattle.zone_table.specs.Changes.{Attaches, Detaches, IsChanged, IsUnchanged}
 use Rattle.zone_table.specs.Tables.{IsAttached}
+use Rattle.zone_table.proofs.KnownLaws.{opening_fits, told_later}
 use Rattle.zone_table.proofs.Lists.{get_in}
 use Rattle.zones_model.specs.declared.TableCause.{TableCause}
 use Rattle.zones_threads.specs.Changes.{cause_told, version_told}
 use Rattle.zones_threads.specs.Steps.{Changes, ChangeRan, IsOrNot, Stays, operation_for, other}
-
-abbrev Own : Type 0
-Own = PassView (List Operation)
-
--- who knows of no less knows of the opening
-opened_told : (all part : Seen (List Entry) (List Operation)) → is_told part.opening ≡ true → IsPartOf all part → is_told all.opening ≡ true
-opened_told all part told p = by_opening part.opening refl told
-  where
-    by_opening : (o : Option (List Entry)) → part.opening ≡ o → is_told o ≡ true → is_told all.opening ≡ true
-    by_opening None e t = absurd cc
-    by_opening (Some es) e t = ap (λ (x : Option (List Entry)). is_told x) (subst (λ (x : Option (List Entry)). OpeningFits all.opening x part) e p.opening)
 
 stays : (meets : List Entry → Type 0) (old new : Known) (number : ℕ) → IsUnchanged meets old new number → Stays number old new
 stays meets old new number u = record { version = u.number_is; pass = u.pass }
@@ -39,14 +28,10 @@ stays meets old new number u = record { version = u.number_is; pass = u.pass }
 -- it has seen no less
 changed_grows : (meets : List Entry → Type 0) (old new : Known) (o : Operation) (number : ℕ) → is_told old.seen.opening ≡ true → IsChanged meets old new o number → IsPartOf new.seen old.seen
 changed_grows meets old new o number told c = part_more new.seen c.base old.seen told (record {
-  opening = fits c.base.opening refl (opened_told c.base old.seen told c.grows);
+  opening = opening_fits new.seen c.base (told_later c.base old.seen told c.grows) c.opening;
   history = (entry_of c.own.number (o ∷ []) ∷ [], c.history);
   namings = c.namings;
 }) c.grows
-  where
-    fits : (x : Option (List Entry)) → c.base.opening ≡ x → is_told x ≡ true → OpeningFits new.seen.opening c.base.opening c.base
-    fits None is t = absurd cc
-    fits (Some es) is t = subst (λ (x : Option (List Entry)). OpeningFits new.seen.opening x c.base) (sym is) (c.opening ∙ is)
 
 -- ---- attached or detached, or not
 

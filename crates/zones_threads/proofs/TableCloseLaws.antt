@@ -7,6 +7,7 @@ use Rattle.std.proofs.lemmas.Bool.{cases_eq}
 use Rattle.std.proofs.lemmas.Bool.Decides.{nat_tests}
 use Rattle.std.proofs.lemmas.List.Elements.{All-contains}
 use Rattle.zone_model.specs.Names.{Name, IsName}
+use Rattle.dns_name.proofs.BodyLemmas.{all_append}
 use Rattle.shared_cells.specs.History.{StartsWith, entries_by, version_after}
 use Rattle.shared_cells.specs.Views.{number_of}
 use Rattle.qp_multi.specs.Operations.{applied}
@@ -16,20 +17,20 @@ use Rattle.job_commands.specs.Closings.{Some', AreApart as NumbersApart, IsPass,
 use Rattle.job_commands.specs.Histories.{Commit, Entries, index_at, times_by}
 use Rattle.job_commands.proofs.CloseLaws.{all_rec, apart, none_entries, part_entries, pass_of, seen_all, some_of}
 use Rattle.job_commands.proofs.HistoryLaws.{begins_more, begins_length, index_last, times_front, times_past}
-use Rattle.job_commands.proofs.JobLaws.{Author, HasEntries, all-append, author_of, no_commits, nothing_past, number_in, total, total_one}
+use Rattle.job_commands.proofs.JobLaws.{Author, HasEntries, author_of, no_commits, nothing_past, number_in, total, total_one}
 use Rattle.job_commands.proofs.WorkLaws.{all_weaker}
 use Rattle.zones_model.specs.Outcomes as model
 use Rattle.zones_model.specs.Tables.{Change, Attaches, Detaches, attached_after, attached_count}
 use Rattle.zone_table.specs.Tables.{IsAmong, IsTable, entry_for}
 use Rattle.zone_table.proofs.KnownLaws.{part_of}
-use Rattle.zone_table.proofs.Lists.{contains_at, each_in}
+use Rattle.zone_table.proofs.Lists.{contains_at, each_in, some_is}
 use Rattle.zones_threads.specs.Closings.{TableWorker, dones_in, worker_views}
 use Rattle.zones_threads.specs.Steps.{IsOrNot, operation_for}
 use Rattle.zones_threads.specs.Works.{AreApart, AreAttached, IsReplayed, Leads, LeadsBy, TableOpenedWith}
 use Rattle.zones_threads.proofs.ChangeLaws.{other_same, itself_changed}
 use Rattle.zones_threads.proofs.CountLaws.{attached_many}
-use Rattle.zones_threads.proofs.TableLaws.{Own, attached_front, replayed_more, times-append}
-use Rattle.zones_threads.proofs.ZoneForLaws.{once, some_same}
+use Rattle.zones_threads.proofs.TableLaws.{Own, attached_front, replayed_more, times-append, told_more}
+use Rattle.zones_threads.proofs.ZoneForLaws.{once}
 
 -- ---- all passes of the table were handed in
 
@@ -145,7 +146,7 @@ module _ (b : TableOpenedWith) (history : List Commit) (main : Known) where
   all_replayed : (ws : List (TableWorker b)) → AllByRecursion Sees (Views ws) → AllByRecursion (λ d. IsReplayed b history (model.made_by d)) (Made ws)
   all_replayed [] s = tt
   all_replayed (w ∷ ws) s =
-      all-append (λ d. IsReplayed b history (model.made_by d)) w.done (Made ws)
+      all_append (λ d. IsReplayed b history (model.made_by d)) w.done (Made ws)
       (all_weaker (λ d. IsReplayed b w.view.seen.history (model.made_by d)) (λ d. IsReplayed b history (model.made_by d)) w.done (λ d h. replayed_more b history w.view.seen.history s.0 (model.made_by d) h) w.work.replayed)
       (all_replayed ws s.1)
 
@@ -181,7 +182,7 @@ module _ (b : TableOpenedWith) (history : List Commit) (main : Known) where
     led attaches changed zone origin was before after there l h = elim (cases_eq changed zone) [
       | inl e ↦
           let test : eqb changed zone ≡ true = grind (arith, nat_tests) in
-          let same : l.origin ≡ origin = some_same l.origin origin (sym (subst (λ (n : ℕ). slice_get b.origins n ≡ Some l.origin) e l.there) ∙ there) in
+          let same : l.origin ≡ origin = some_is l.origin origin (sym (subst (λ (n : ℕ). slice_get b.origins n ≡ Some l.origin) e l.there) ∙ there) in
           subst (λ (x : Bool). IsOrNot (cond x attaches was) after origin) (sym test)
           (subst (λ (es : Entries). IsOrNot attaches es origin) (sym (l.makes ∙ ap (λ (o : Name). applied before (operation_for attaches o ∷ [])) same)) (itself_changed attaches origin before))
       | inr m ↦
@@ -213,13 +214,9 @@ module _ (b : TableOpenedWith) (history : List Commit) (main : Known) where
     all_below [] s = tt
     all_below (w ∷ ws) s =
         let long = begins_length history w.view.seen.history s.0 in
-        all-append (λ d. model.IsTold (length history) (model.table_told d)) w.done (Made ws)
-        (all_weaker (λ d. model.IsTold (length w.view.seen.history) (model.table_told d)) (λ d. model.IsTold (length history) (model.table_told d)) w.done (λ d h. told_less (length w.view.seen.history) (length history) long (model.table_told d) h) w.work.none_above)
+        all_append (λ d. model.IsTold (length history) (model.table_told d)) w.done (Made ws)
+        (all_weaker (λ d. model.IsTold (length w.view.seen.history) (model.table_told d)) (λ d. model.IsTold (length history) (model.table_told d)) w.done (λ d h. told_more (length w.view.seen.history) (length history) long (model.table_told d) h) w.work.none_above)
         (all_below ws s.1)
-      where
-        told_less : (n m : ℕ) → n ≤ m → (o : Option ℕ) → model.IsTold n o → model.IsTold m o
-        told_less n m le None h = tt
-        told_less n m le (Some t) h = omega (arith, le, h)
 
     all_along : (ws : List (TableWorker b)) (attached : ℕ → ℕ → Bool) → AreAttached b history attached → AllByRecursion Sees (Views ws) → AllByRecursion (model.Along b.origins attached 0) (dones_in ws)
     all_along [] attached are s = tt

@@ -6,7 +6,6 @@ use Rattle.std.proofs.lemmas.Bool.{cases_eq}
 use Rattle.std.proofs.lemmas.Bool.Decides.{nat_tests}
 use Rattle.zone_model.specs.Names.{Name}
 use Rattle.shared_cells.specs.Views.{is_told, with_pinned}
-use Rattle.shared_cells.specs.declared.view.PassView.{PassView}
 use Rattle.shared_cells.specs.History.{StartsWith, IsPartOf, entries_by, entry_of, version_after}
 use Rattle.qp_multi.specs.declared.meaning.Operation.{Operation}
 use Rattle.qp_multi.specs.Operations.{applied}
@@ -14,7 +13,9 @@ use Rattle.qp_multi.specs.Passes.{Known, first_version, version_seen}
 use Rattle.job_commands.specs.Histories.{Commit, Entries, index_at, times_by}
 use Rattle.job_commands.specs.Works.{IsNew}
 use Rattle.job_commands.proofs.HistoryLaws.{begins_same, begins_more, begins_length, index_front, index_last, opened_same, part_same, by-push, times_front, times_past, times_there, times_else}
-use Rattle.job_commands.proofs.WorkLaws.{all-push, all_weaker}
+use Rattle.job_commands.proofs.WorkLaws.{all_weaker}
+pub use Rattle.job_commands.proofs.WorkLaws.{Own}
+use Rattle.dns_name.proofs.BodyLemmas.{all_push}
 use Rattle.zones_model.specs.Outcomes as model
 use Rattle.zones_model.specs.Tables.{Change, Attaches, Detaches}
 use Rattle.zones_model.specs.declared.TableCause.{TableCause}
@@ -23,9 +24,6 @@ use Rattle.zone_table.specs.Locations.{IsZoneOf}
 use Rattle.zones_threads.specs.Steps.{IsOrNot, Changes, Stays, ChangeEnds, TableGoes, cause_for, operation_for, other}
 use Rattle.zones_threads.specs.Works.{AreApart, AreAttached, IsReplayed, Leads, LeadsBy, TableOpenedWith, TableWork, seen_behind}
 use Rattle.zones_threads.proofs.ZoneForLaws.{zone_is}
-
-abbrev pub Own : Type 0
-Own = PassView (List Operation)
 
 -- ---- lists that grow
 
@@ -89,7 +87,7 @@ table_start b number v new = record {
 
 -- ---- one command more
 
-told_more : (n m : ℕ) → n ≤ m → (o : Option ℕ) → model.IsTold n o → model.IsTold m o
+pub told_more : (n m : ℕ) → n ≤ m → (o : Option ℕ) → model.IsTold n o → model.IsTold m o
 told_more n m le None h = tt
 told_more n m le (Some t) h = omega (arith, le, h)
 
@@ -101,11 +99,11 @@ module _ (b : TableOpenedWith) (number : ℕ) (v w : Known) (done : List model.C
   opened_now = opened_same w.seen v.seen told grows ∙ work.opened
 
   none_above_more : model.IsTold (length w.seen.history) (model.table_told d) → AllByRecursion (λ x. model.IsTold (length w.seen.history) (model.table_told x)) (done ++ d ∷ [])
-  none_above_more t = all-push (λ x. model.IsTold (length w.seen.history) (model.table_told x)) done d
+  none_above_more t = all_push (λ x. model.IsTold (length w.seen.history) (model.table_told x)) done d
       (all_weaker (λ x. model.IsTold (length v.seen.history) (model.table_told x)) (λ x. model.IsTold (length w.seen.history) (model.table_told x)) done (λ x h. told_more (length v.seen.history) (length w.seen.history) longer (model.table_told x) h) work.none_above) t
 
   replayed_all : IsReplayed b w.seen.history (model.made_by d) → AllByRecursion (λ x. IsReplayed b w.seen.history (model.made_by x)) (done ++ d ∷ [])
-  replayed_all r = all-push (λ x. IsReplayed b w.seen.history (model.made_by x)) done d
+  replayed_all r = all_push (λ x. IsReplayed b w.seen.history (model.made_by x)) done d
       (all_weaker (λ x. IsReplayed b v.seen.history (model.made_by x)) (λ x. IsReplayed b w.seen.history (model.made_by x)) done (λ x h. replayed_more b w.seen.history v.seen.history grows.history (model.made_by x) h) work.replayed) r
 
   progress_next : (o : Option ℕ) → model.IsTold (length w.seen.history) o → model.seen_after (seen_behind 0 done) o ≤ length w.seen.history

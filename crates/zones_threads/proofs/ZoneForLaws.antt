@@ -1,39 +1,18 @@
 -- The zone of a name is the one with the deepest origin.
-use Rattle.std.proofs.Common.{◌≡◌, ◌∙◌, ◌⊎◌, inl, inr, ⊎_elim, ℕ, zero, suc, ◌+◌, ◌≤◌, Bool, true, false, cond, ◌&&◌, List, [], ◌∷◌, length, Option, Some, None, refl, sym, ap, subst, arith}
-use Rattle.std.specs.Prelude.{◌||◌}
+use Rattle.std.proofs.Common.{◌≡◌, ◌∙◌, ⊎_elim, ℕ, zero, suc, ◌+◌, ◌≤◌, Bool, true, false, cond, ◌&&◌, List, [], ◌∷◌, length, Option, Some, None, refl, sym, ap, subst, arith}
+use Rattle.std.proofs.lemmas.Bool.{and_parts, or_cases, or_right}
 use Rattle.std.specs.List.{AllByRecursion, IsDistinct, slice_get}
 use Rattle.zone_model.specs.Names.{Name, ancestor, same_name, is_under}
 use Rattle.zone_model.specs.NameOrder.{same_name_equiv}
 use Rattle.zone_model.proofs.NameLemmas.{same_name-true}
-use Rattle.zone_model.proofs.OrderLemmas.{ends_under}
+use Rattle.zone_answer.proofs.AncestorLaws.{self_under}
 use Rattle.trie_model.specs.Keys.{Entry}
 use Rattle.zones_model.specs.Tables.{or_else, zone_at, zone_for}
 use Rattle.zone_table.specs.Locations.{IsDeepest, IsZoneOf}
-use Rattle.zone_table.proofs.Lists.{contains_at}
+use Rattle.zone_table.proofs.Lists.{contains_at, some_is}
 use Rattle.zone_table.proofs.OriginLaws.{above_is}
 use Rattle.zones_threads.specs.Steps.{IsOrNot}
 use Rattle.zones_threads.specs.Works.{AreApart}
-
-both_are : (c d : Bool) → (c && d) ≡ true → (c ≡ true) × (d ≡ true)
-both_are true d h = (refl, h)
-both_are false d h = absurd cc
-
-either_is : (c d : Bool) → (c || d) ≡ true → (c ≡ true) ⊎ (d ≡ true)
-either_is true d h = inl refl
-either_is false d h = inr h
-
-right_is : (c d : Bool) → d ≡ true → (c || d) ≡ true
-right_is true d h = refl
-right_is false d h = h
-
-pub some_same : {A : Type 0} (x y : A) → Some x ≡ Some y → x ≡ y
-some_same x y e = cc
-
-itself : (name : Name) → same_name name name ≡ true
-itself name = same_name_equiv.refl name
-
-under_itself : (name : Name) → is_under name name ≡ true
-under_itself name = ends_under [] name
 
 -- ---- an attached zone that has this very origin
 
@@ -44,17 +23,17 @@ at_some attached n (o ∷ os) name k e = by_test (λ f. at_some attached (n + 1)
     by_test : (zone_at attached (n + 1) os name ≡ Some k → (i : ℕ) × (k ≡ (n + 1) + i) × (slice_get os i ≡ Some name) × (attached k ≡ true)) → (b : Bool) → (attached n && same_name o name) ≡ b → cond b (Some n) (zone_at attached (n + 1) os name) ≡ Some k
         → (i : ℕ) × (k ≡ n + i) × (slice_get (o ∷ os) i ≡ Some name) × (attached k ≡ true)
     by_test further true test e =
-        let both = both_are (attached n) (same_name o name) test in
-        let same : n ≡ k = some_same n k e in
+        let both = and_parts (attached n) (same_name o name) test in
+        let same : n ≡ k = some_is n k e in
         (0, omega (arith, same), ap Some (same_name-true o name both.1), subst (λ (m : ℕ). attached m ≡ true) same both.0)
     by_test further false test e = let r = further e in (suc r.0, (let p = r.1 in omega (arith, p)), r.2, r.3)
 
 pub at_none : (attached : ℕ → Bool) (n : ℕ) (origins : List Name) (name : Name) → zone_at attached n origins name ≡ None → (i : ℕ) → slice_get origins i ≡ Some name → attached (n + i) ≡ true → ⊥
 at_none attached n [] name e i there on = absurd cc
 at_none attached n (o ∷ os) name e zero there on =
-    let same : o ≡ name = some_same o name there in
+    let same : o ≡ name = some_is o name there in
     let here : attached n ≡ true = subst (λ (m : ℕ). attached m ≡ true) (let z : n + 0 ≡ n = omega arith in z) on in
-    let test : (attached n && same_name o name) ≡ true = ap (λ (b : Bool). b && same_name o name) here ∙ subst (λ (m : Name). same_name o m ≡ true) same (itself o) in
+    let test : (attached n && same_name o name) ≡ true = ap (λ (b : Bool). b && same_name o name) here ∙ subst (λ (m : Name). same_name o m ≡ true) same (same_name_equiv.refl o) in
     let found : Some n ≡ None = sym (ap (λ (b : Bool). cond b (Some n) (zone_at attached (n + 1) os name)) test) ∙ e in cc
 at_none attached n (o ∷ os) name e (suc i) there on =
     by_test (λ f. at_none attached (n + 1) os name f i there (subst (λ (m : ℕ). attached m ≡ true) (let z : n + suc i ≡ (n + 1) + i = omega arith in z) on)) (attached n && same_name o name) e
@@ -81,7 +60,7 @@ nearest_here attached origins name k e =
       origin = name;
       there = subst (λ (i : ℕ). slice_get origins i ≡ Some name) same r.2;
       on = r.3;
-      above = under_itself name;
+      above = self_under name;
       near = λ j o there on above. (let a = above_is name o above in a.1);
     }
 
@@ -97,13 +76,13 @@ for_some attached origins (l ∷ ls) k e = by_here (λ f. for_some attached orig
           origin = r.origin;
           there = r.there;
           on = r.on;
-          above = right_is (same_name (l ∷ ls) r.origin) (is_under ls r.origin) r.above;
+          above = or_right (same_name (l ∷ ls) r.origin) (is_under ls r.origin) r.above;
           near = λ j o there on above. ⊎_elim
               (λ (s : same_name (l ∷ ls) o ≡ true).
               let same : l ∷ ls ≡ o = same_name-true (l ∷ ls) o s in
               absurd (at_none attached 0 origins (l ∷ ls) is j (there ∙ ap Some (sym same)) (subst (λ (m : ℕ). attached m ≡ true) (let z : j ≡ 0 + j = omega arith in z) on)))
               (λ (u : is_under ls o ≡ true). r.near j o there on u)
-              (either_is (same_name (l ∷ ls) o) (is_under ls o) above);
+              (or_cases (same_name (l ∷ ls) o) (is_under ls o) above);
         }
 
 pub for_none : (attached : ℕ → Bool) (origins : List Name) (name : Name) → zone_for attached origins name ≡ None → (j : ℕ) (o : Name) → slice_get origins j ≡ Some o → attached j ≡ true → is_under name o ≡ true → ⊥
@@ -119,26 +98,26 @@ for_none attached origins (l ∷ ls) e j o there on above = by_here (λ f u. for
         let same : l ∷ ls ≡ o = same_name-true (l ∷ ls) o s in
         at_none attached 0 origins (l ∷ ls) is j (there ∙ ap Some (sym same)) (subst (λ (m : ℕ). attached m ≡ true) (let z : j ≡ 0 + j = omega arith in z) on))
         (λ (u : is_under ls o ≡ true). further e u)
-        (either_is (same_name (l ∷ ls) o) (is_under ls o) above)
+        (or_cases (same_name (l ∷ ls) o) (is_under ls o) above)
 
 -- ---- no origin comes twice
 
 differs_at : (x : Name) (xs : List Name) (j : ℕ) (o : Name) → AllByRecursion (λ y. same_name x y ≡ false) xs → slice_get xs j ≡ Some o → same_name x o ≡ false
 differs_at x [] j o all there = absurd cc
-differs_at x (y ∷ xs) zero o all there = subst (λ (z : Name). same_name x z ≡ false) (some_same y o there) all.0
+differs_at x (y ∷ xs) zero o all there = subst (λ (z : Name). same_name x z ≡ false) (some_is y o there) all.0
 differs_at x (y ∷ xs) (suc j) o all there = differs_at x xs j o all.1 there
 
 pub not_again : (x : Name) (xs : List Name) (j : ℕ) (o : Name) → AllByRecursion (λ y. same_name x y ≡ false) xs → slice_get xs j ≡ Some o → x ≡ o → ⊥
 not_again x xs j o all there same =
     let no : same_name x o ≡ false = differs_at x xs j o all there in
-    let yes : same_name x o ≡ true = subst (λ (z : Name). same_name x z ≡ true) same (itself x) in cc
+    let yes : same_name x o ≡ true = subst (λ (z : Name). same_name x z ≡ true) same (same_name_equiv.refl x) in cc
 
 pub once : (origins : List Name) → IsDistinct same_name origins → (i j : ℕ) (o : Name) → slice_get origins i ≡ Some o → slice_get origins j ≡ Some o → i ≡ j
 unfolding IsDistinct
 once [] d i j o a b = absurd cc
 once (x ∷ xs) d zero zero o a b = refl
-once (x ∷ xs) d zero (suc j) o a b = absurd (not_again x xs j o d.0 b (some_same x o a))
-once (x ∷ xs) d (suc i) zero o a b = absurd (not_again x xs i o d.0 a (some_same x o b))
+once (x ∷ xs) d zero (suc j) o a b = absurd (not_again x xs j o d.0 b (some_is x o a))
+once (x ∷ xs) d (suc i) zero o a b = absurd (not_again x xs i o d.0 a (some_is x o b))
 once (x ∷ xs) d (suc i) (suc j) o a b = ap suc (once xs d.1 i j o a b)
 
 -- ---- what is located is the zone of the name
@@ -161,9 +140,9 @@ module _ (origins : List Name) (apart : AreApart origins) (attached : ℕ → Bo
       let n = for_some attached origins name k e in
       absurd (h n.origin (contains_at origins k n.origin n.there) (record { attached = is_on k n.origin n.there n.on; above = n.above }))
 
-  some_is : (name : Name) (z : ℕ) → IsDeepest origins es name z → (r : Option ℕ) → zone_for attached origins name ≡ r → r ≡ Some z
-  some_is name z d None e = absurd (for_none attached origins name e z d.origin d.origin_is (on_is z d.origin d.origin_is d.covers.attached) d.covers.above)
-  some_is name z d (Some k) e =
+  deepest_is : (name : Name) (z : ℕ) → IsDeepest origins es name z → (r : Option ℕ) → zone_for attached origins name ≡ r → r ≡ Some z
+  deepest_is name z d None e = absurd (for_none attached origins name e z d.origin d.origin_is (on_is z d.origin d.origin_is d.covers.attached) d.covers.above)
+  deepest_is name z d (Some k) e =
       let n = for_some attached origins name k e in
       let longer = n.near z d.origin d.origin_is (on_is z d.origin d.origin_is d.covers.attached) d.covers.above in
       let shorter = d.deepest n.origin (contains_at origins k n.origin n.there) (record { attached = is_on k n.origin n.there n.on; above = n.above }) in
@@ -175,4 +154,4 @@ module _ (origins : List Name) (apart : AreApart origins) (attached : ℕ → Bo
 
   pub zone_is : (name : Name) (z : Option ℕ) → IsZoneOf origins es name z → z ≡ zone_for attached origins name
   zone_is name None h = sym (none_is name h (zone_for attached origins name) refl)
-  zone_is name (Some z) d = sym (some_is name z d (zone_for attached origins name) refl)
+  zone_is name (Some z) d = sym (deepest_is name z d (zone_for attached origins name) refl)
