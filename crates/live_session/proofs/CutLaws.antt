@@ -1,9 +1,11 @@
 -- The line behind a zone, among lines.
-use Rattle.std.proofs.Common.{◌≡◌, ◌∙◌, ℕ, ◌+◌, ◌-◌, ◌<◌, ◌≤◌, ◌^◌, Bool, true, false, cond, eqb, ◌||◌, List, [], ◌∷◌, ◌++◌, length, take, drop, Option, Some, None, codes, refl, sym, ap, arith, append-nil, append_assoc, length-append, length-drop}
+use Rattle.std.proofs.Common.{◌≡◌, ◌∙◌, ℕ, ◌+◌, ◌-◌, ◌<◌, ◌≤◌, ◌^◌, Bool, true, false, cond, eqb, ◌||◌, List, [], ◌∷◌, ◌++◌, length, take, drop, Option, Some, None, codes, refl, sym, ap, arith, append_assoc, length-append, length-drop}
 use Rattle.std.specs.Cmp.Lexicographic.{bytes_decides}
 use Rattle.std.specs.List.{after_first, before_first, list_any, position, position_or_len, slice_index}
 use Rattle.std.specs.Str.Lines.{strip_carriage_return}
+use Rattle.std.proofs.lemmas.Bool.{or_left, or_right}
 use Rattle.std.proofs.lemmas.List.{length-take-le, take_all}
+use Rattle.std.proofs.lemmas.List.Folds.{list_any-append}
 use Rattle.job_model.specs.Jobs.{is_cut}
 use Rattle.job_script.specs.Parts.{IsCutAt}
 use Rattle.job_script.proofs.PartsLemmas.{cut_here, never_cut}
@@ -14,24 +16,14 @@ use Rattle.session_talk.proofs.FedLaws.{begins-behind, front-of, lines_behind, r
 use Rattle.live_session.specs.Zones.{has_cut}
 
 pub any-append : (front more : List (List ℕ)) → list_any is_cut front ≡ false → list_any is_cut (front ++ more) ≡ list_any is_cut more
-any-append [] more n = refl
-any-append (x ∷ front) more n = by_test (is_cut x) (list_any is_cut front) n (any-append front more)
-  where
-    by_test : (t u : Bool) → (t || u) ≡ false → (u ≡ false → list_any is_cut (front ++ more) ≡ list_any is_cut more) → (t || list_any is_cut (front ++ more)) ≡ list_any is_cut more
-    by_test true u h f = absurd cc
-    by_test false u h f = f h
-
-or-true : (b : Bool) → (b || true) ≡ true
-or-true true = refl
-or-true false = refl
+any-append front more n = list_any-append is_cut front more ∙ ap (λ (b : Bool). b || list_any is_cut more) n
 
 or-false : (b : Bool) → (b || false) ≡ b
 or-false true = refl
 or-false false = refl
 
 pub any_here : (front : List (List ℕ)) (line : List ℕ) (rest : List (List ℕ)) → is_cut line ≡ true → list_any is_cut (front ++ line ∷ rest) ≡ true
-any_here [] line rest c = ap (λ b. b || list_any is_cut rest) c
-any_here (x ∷ front) line rest c = ap (λ b. is_cut x || b) (any_here front line rest c) ∙ or-true (is_cut x)
+any_here front line rest c = list_any-append is_cut front (line ∷ rest) ∙ or_right (list_any is_cut front) (list_any is_cut (line ∷ rest)) (or_left (is_cut line) (list_any is_cut rest) c)
 
 -- of one line
 pub cut_of : (line text : List ℕ) → lines_of line ≡ text ∷ [] → has_cut line ≡ is_cut text

@@ -1,14 +1,15 @@
 -- What a session behind its zone came to, of all its bytes.
-use Rattle.std.proofs.Common.{◌≡◌, ◌∙◌, ◌⊎◌, ℕ, ◌+◌, ◌<◌, ◌≤◌, ◌^◌, Bool, true, false, List, [], ◌∷◌, ◌++◌, length, Option, Result, Ok, Err, refl, sym, ap, arith, inl, inr, append-nil, append_assoc, length-append, subst}
+use Rattle.std.proofs.Common.{◌≡◌, ◌∙◌, ◌⊎◌, ℕ, ◌+◌, ◌≤◌, Bool, true, List, [], ◌∷◌, ◌++◌, length, Option, Ok, refl, sym, ap, arith, inl, inr, append-nil, append_assoc, subst}
+use Rattle.std.proofs.lemmas.List.{append_cancel_left}
 use Rattle.std.specs.Prelude.{IsTrue}
 use Rattle.zone_model.specs.Lines.{lines_of}
 use Rattle.zone_model.specs.Names.{Name}
 use Rattle.zone_model.specs.MasterFile.{zone_of}
 use Rattle.zone_model.specs.Versions.{Version}
 use Rattle.job_model.specs.Jobs.{script_lines, script_start, zone_lines}
-use Rattle.job_model.specs.Sessions.{Answered, Ended, Said, Step, all_said, first_session, session_lines}
+use Rattle.job_model.specs.Sessions.{Answered, Ended, Step, all_said, first_session, session_lines}
 use Rattle.job_model.specs.Sizes.{cell_count}
-use Rattle.outer_io.specs.Bytes.{Grows, GrowsByFront, Held}
+use Rattle.outer_io.specs.Bytes.{GrowsByFront, Held}
 use Rattle.outer_io.proofs.GrowsLemmas.{Grows-nil}
 use Rattle.qp_multi.specs.Openings.{room_in}
 use Rattle.session_lines.specs.Taking.{Pending}
@@ -17,9 +18,7 @@ use Rattle.session_talk.specs.Serving.{Finished, IsTooLong, Settled, Stands}
 use Rattle.session_talk.specs.Workers.{Opened}
 use Rattle.live_session.specs.Chunks.{ChunksFor}
 use Rattle.live_session.specs.Dues.{Answers, Due, DueAt, DueBy, Ends, HasEnded, HasLongLine, HoldsFront, IsSettled, IsThere, Opens, lines_in}
-use Rattle.live_session.specs.Ends.{EndedSo, IsUnmoved, ServedSo}
-use Rattle.live_session.specs.Zones.{IsCutFront, IsWholeFront, TookZone, has_cut}
-use Rattle.live_session.specs.declared.early.EarlyEnd.{EarlyEnd}
+use Rattle.live_session.specs.Zones.{IsCutFront, IsWholeFront, TookZone}
 use Rattle.live_session.specs.declared.early.EarlyEnd.TheVariants as early
 use Rattle.live_session.specs.declared.zone.ZoneBytes.{ZoneBytes}
 
@@ -38,11 +37,6 @@ whole_at z front w = record { zone = w.zone; lines = w.lines; start = w.start }
 fed_append : (a b : List ℕ) → IsFed a → IsFed b → IsFed (a ++ b)
 fed_append a b f (inl none) = subst IsFed (sym (append-nil a) ∙ ap (λ (l : List ℕ). a ++ l) (sym none)) f
 fed_append a b f (inr fed) = inr (a ++ fed.0, ap (λ (l : List ℕ). a ++ l) fed.1 ∙ sym (append_assoc a fed.0 (10 ∷ [])))
-
--- nothing stands behind what is all
-nothing_behind : (all more : List ℕ) → all ≡ all ++ more → more ≡ []
-nothing_behind all [] e = refl
-nothing_behind all (x ∷ more) e = absurd (let n : length all ≡ length all + length (x ∷ more) = ap (λ (l : List ℕ). length l) e ∙ length-append all (x ∷ more) in omega (arith, n))
 
 nothing_left : (a b : List ℕ) → a ++ b ≡ [] → (a ≡ []) × (b ≡ [])
 nothing_left [] b e = (refl, e)
@@ -132,7 +126,7 @@ module _ (asked : Option ℕ) (origin : Name) (chunks : ℕ) (zone : Version) (z
 
     module _ (w : IsWholeFront front z) (fits : cell_count zone ≤ room_in chunks) (ended : Bool) (told : IsTrue ended) where
       none_more : (done rest : List ℕ) → before ++ front ≡ ((before ++ front) ++ done) ++ rest → (done ≡ []) × (rest ≡ [])
-      none_more done rest e = nothing_left done rest (nothing_behind (before ++ front) (done ++ rest) (e ∙ append_assoc (before ++ front) done rest))
+      none_more done rest e = nothing_left done rest (append_cancel_left (before ++ front) (done ++ rest) [] (sym (e ∙ append_assoc (before ++ front) done rest) ∙ sym (append-nil (before ++ front))))
 
       due_whole : (done text : List ℕ) → done ≡ [] → (AnswersLines opened (z.lines + 1) done text ⊎ ((refused : Bool) × EndsLines opened (z.lines + 1) done refused text)) → DueAt asked origin front [] ended text
       due_whole done text none (inl a) = inr (inr (refl, told), inl (answers_at front [] text (whole_at z front w) fits (subst (λ (l : List ℕ). AnswersLines opened (z.lines + 1) l text) none a)))
@@ -145,7 +139,7 @@ module _ (asked : Option ℕ) (origin : Name) (chunks : ℕ) (zone : Version) (z
 
       pub finished_whole : (held : Held) (refused : Bool) → Finished way_on refused (before ++ front) held → HasEnded asked origin front ended refused held0 held
       finished_whole held refused s =
-          let none : s.all ≡ [] = nothing_behind (before ++ front) s.all s.gave in
+          let none : s.all ≡ [] = append_cancel_left (before ++ front) s.all [] (sym s.gave ∙ sym (append-nil (before ++ front))) in
           record {
             there = inr told;
             text = s.text;

@@ -1,6 +1,5 @@
 -- A session whose zone was taken, or wasn't.
-use Rattle.std.proofs.Common.{◌≡◌, ◌∙◌, ◌⊎◌, ℕ, ◌+◌, ◌≤◌, Bool, true, false, List, [], ◌++◌, Option, Result, Ok, Err, refl, sym, ap, inl, inr, subst}
-use Rattle.std.specs.Prelude.{IsTrue, OnOk}
+use Rattle.std.proofs.Common.{◌≡◌, ◌∙◌, ◌⊎◌, ℕ, ◌+◌, ◌≤◌, Bool, true, false, List, [], ◌++◌, Option, Ok, Err, refl, sym, ap, inl, inr, subst}
 use Rattle.zone_model.specs.Lines.{lines_of}
 use Rattle.zone_model.specs.Names.{Name}
 use Rattle.zone_model.specs.MasterFile.{zone_of}
@@ -16,11 +15,10 @@ use Rattle.qp_multi.specs.Openings.{room_in}
 use Rattle.session_lines.specs.Taking.{Pending}
 use Rattle.session_lines.specs.declared.intake.NoMore.{NoMore}
 use Rattle.session_lines.specs.declared.intake.NoMore.TheVariants as no_more
-use Rattle.session_talk.specs.Answering.{Way}
 use Rattle.session_talk.specs.Serving.{MayTalk}
 use Rattle.live_session.specs.Chunks.{ChunksFor}
 use Rattle.live_session.specs.Dues.{DueBy, IsSettled}
-use Rattle.live_session.specs.Ends.{EndedEarly, EndedSo, Fits, StartsOn, ZoneStops, end_without}
+use Rattle.live_session.specs.Ends.{EndedEarly, Fits, StartsOn, ZoneStops, end_without}
 use Rattle.live_session.specs.Zones.{IsCutFront, IsLongZone, IsWholeFront, IsWithinZone, TookZone}
 use Rattle.live_session.specs.declared.early.EarlyEnd.{EarlyEnd}
 use Rattle.live_session.specs.declared.early.EarlyEnd.TheVariants as early
@@ -56,12 +54,6 @@ pub early_by : (asked : Option ℕ) (origin : Name) (given now : List ℕ) (ende
 early_by asked origin given now ended held no_more.Fault gave f l = let w = f refl in (w.0, w.1, settled_within asked origin w.0 held w.2)
 early_by asked origin given now ended held no_more.TooLong gave f l = let w = l refl in (w.0, w.1, (w.2, refl))
 early_by asked origin given now ended held no_more.Memory gave f l = (gave.0, gave.1, nothing_yet asked origin gave.0 ended held held refl)
-
--- the end was told, whether or not it was when the zone was taken
-pub ended_by : {A E : Type 0} (P Q : Type 0) (r : Result A E) (b : Bool) → (b ≡ true → P) → (b ≡ false → OnOk r (P ⊎ Q)) → OnOk r (P ⊎ Q)
-ended_by P Q (Ok x) true t f = inl (t refl)
-ended_by P Q (Ok x) false t f = f refl
-ended_by P Q (Err e) b t f = tt
 
 module _ (asked : Option ℕ) (origin : Name) {before given : List ℕ} {ended : Bool} {pending : Pending} {z : ZoneBytes} (t : TookZone before given ended pending z) (held : Held) where
   -- memory ran out behind the zone

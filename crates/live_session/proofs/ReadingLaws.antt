@@ -1,5 +1,5 @@
 -- A zone that octets say.
-use Rattle.std.proofs.Common.{◌≡◌, ℕ, List, Result, Ok, Err, refl}
+use Rattle.std.proofs.Common.{ℕ, List, Result, Ok, Err, refl}
 use Rattle.std.specs.Prelude.{IfOk}
 use Rattle.zone_model.specs.Lines.{lines_of}
 use Rattle.zone_model.specs.MasterFile.{Zone, zone_of}
@@ -12,7 +12,7 @@ use Rattle.report_laws.specs.Octets.{AllOctets}
 use Rattle.report_laws.proofs.ReaderLemmas.{zone_dumped}
 use Rattle.report_laws.proofs.VersionLemmas.{lines_are}
 use Rattle.job_model.specs.Sizes.{trie_entries}
-use Rattle.job_commands.specs.Histories.{Entries, IsZone, StandsAs}
+use Rattle.job_commands.specs.Histories.{IsZone}
 use Rattle.job_commands.proofs.ZoneLaws.{zone_rises}
 use Rattle.trie_model.specs.Keys.{Rises}
 

@@ -1,23 +1,12 @@
 -- The zone, read by read.
-use Rattle.std.proofs.Common.{◌≡◌, ◌∙◌, ℕ, ◌+◌, ◌<◌, ◌≤◌, ◌^◌, Bool, true, false, List, [], ◌∷◌, ◌++◌, length, refl, sym, ap, arith, inl, inr, append-nil, append_assoc, length-append}
+use Rattle.std.proofs.Common.{◌≡◌, ◌∙◌, ℕ, ◌+◌, ◌<◌, ◌≤◌, ◌^◌, Bool, true, List, [], ◌++◌, length, refl, sym, ap, arith, inl, inr, append-nil, append_assoc, length-append}
 use Rattle.std.specs.Prelude.{IsTrue}
 use Rattle.session_lines.specs.Taking.{IsUnbroken, Pending}
-use Rattle.zone_model.specs.Lines.{lines_of}
 use Rattle.session_talk.proofs.FedLaws.{last_one}
-use Rattle.live_session.specs.Zones.{CutOff, EndsZone, IsLongZone, IsWithinZone, IsZoneSoFar, TookZone, WantsLine, WantsMemory, WantsRead, has_cut}
+use Rattle.live_session.specs.Zones.{CutOff, IsLongZone, IsWithinZone, IsZoneSoFar, TookZone, WantsLine, WantsMemory}
 use Rattle.live_session.specs.declared.zone.ZoneBytes.{ZoneBytes}
 use Rattle.live_session.proofs.CutLaws.{long_uncut, uncut_more}
 use Rattle.live_session.proofs.ZoneLaws.{cut_front}
-
--- no line came yet
-pub nothing_taken : (z : ZoneBytes) → z.bytes.items ≡ [] → z.lines ≡ 0 → IsZoneSoFar z
-nothing_taken z none zero = record {
-  fed = inl none;
-  uncut = ap has_cut none;
-  counted = zero ∙ ap (λ (l : List ℕ). length (lines_of l)) (sym none);
-  few = omega (arith, zero);
-  short = (let n : length z.bytes.items ≡ 0 = ap (λ (l : List ℕ). length l) none in omega (arith, n));
-}
 
 pub within_zone : (z : ZoneBytes) (rest : List ℕ) → IsZoneSoFar z → IsUnbroken rest → IsWithinZone (z.bytes.items ++ rest)
 within_zone z rest s unbroken = record { zone = z.bytes.items; rest = rest; is = refl; fed = s.fed; uncut = s.uncut; unbroken = unbroken }
@@ -45,18 +34,6 @@ took_cut before given all ended pending z c gave few told = record {
   most = (let n : length all ≡ length (z.bytes.items ++ c.line) + length pending.bytes = ap (λ (l : List ℕ). length l) c.is ∙ length-append (z.bytes.items ++ c.line) pending.bytes in omega (arith, n, few));
   told = told;
   parts = inl (cut_front z all pending.bytes c);
-}
-
--- the end of input came
-pub took_whole : (before given all : List ℕ) (ended : Bool) (pending : Pending) (z : ZoneBytes) → EndsZone z all → given ≡ before ++ all → pending.bytes ≡ [] → pending.ended ≡ true → IsTrue ended → TookZone before given ended pending z
-took_whole before given all ended pending z e gave none over told = record {
-  front = all;
-  gave = gave ∙ sym (ap (λ (l : List ℕ). (before ++ all) ++ l) none ∙ append-nil (before ++ all));
-  short = e.short;
-  few = e.few;
-  most = (let n : length pending.bytes ≡ 0 = ap (λ (l : List ℕ). length l) none in omega (arith, n));
-  told = λ h. told;
-  parts = inr (over, none, e.front);
 }
 
 -- memory was wanted for a line

@@ -1,23 +1,19 @@
 -- The lines of a zone, one by one.
-use Rattle.std.proofs.Common.{◌≡◌, ◌∙◌, ◌⊎◌, ℕ, ◌+◌, ◌<◌, ◌≤◌, ◌^◌, Bool, true, false, List, [], ◌∷◌, ◌++◌, length, take, drop, Option, Some, refl, sym, ap, arith, inl, inr, append-nil, append_assoc, length-append, subst}
-use Rattle.std.proofs.lemmas.Grind.{common_steps}
+use Rattle.std.proofs.Common.{◌≡◌, ◌∙◌, ◌⊎◌, ℕ, ◌+◌, ◌<◌, ◌≤◌, ◌^◌, Bool, true, false, List, [], ◌∷◌, ◌++◌, length, take, drop, Some, sym, ap, arith, append-nil, append_assoc, length-append, subst, take-append-drop}
 use Rattle.std.proofs.lemmas.List.{drop_all, length-take-le, take_all}
 use Rattle.std.specs.List.{list_any}
 use Rattle.job_model.specs.Jobs.{is_cut, script_lines, script_start, zone_lines}
 use Rattle.zone_model.specs.Lines.{lines_of}
-use Rattle.session_lines.specs.Taking.{IsUnbroken, line_end}
+use Rattle.session_lines.specs.Taking.{line_end}
 use Rattle.session_talk.specs.Answering.{IsFed}
 use Rattle.session_talk.proofs.FedLaws.{count_inside, fed_line, front-of, lines_behind, one_line, rest-of}
 use Rattle.live_session.specs.Zones.{CutOff, EndsZone, HasTaken, IsCutFront, IsLongZone, IsWholeFront, IsZoneSoFar, WantsLine, has_cut}
 use Rattle.live_session.specs.declared.zone.ZoneBytes.{ZoneBytes}
 use Rattle.live_session.proofs.CutLaws.{any_here, cut_of, cut_parts, some_line, uncut_more, uncut_parts}
 
-split : (bytes : List ℕ) (count : ℕ) → take count bytes ++ drop count bytes ≡ bytes
-split bytes count = grind (arith, common_steps)
-
 -- a front of a line more
 behind : (zone bytes : List ℕ) (count : ℕ) → zone ++ bytes ≡ (zone ++ take count bytes) ++ drop count bytes
-behind zone bytes count = ap (λ (l : List ℕ). zone ++ l) (sym (split bytes count)) ∙ sym (append_assoc zone (take count bytes) (drop count bytes))
+behind zone bytes count = ap (λ (l : List ℕ). zone ++ l) (sym (take-append-drop count bytes)) ∙ sym (append_assoc zone (take count bytes) (drop count bytes))
 
 -- a line of the zone was taken
 pub one_more : (z new : ZoneBytes) (bytes : List ℕ) (count : ℕ) → IsZoneSoFar z → line_end bytes ≡ Some count → HasTaken z new (take count bytes) false → IsZoneSoFar new
@@ -149,7 +145,3 @@ same_by z new bytes rest all count cuts c h r e = ap (λ (l : List ℕ). new.byt
 
 pub cut_by : (z new : ZoneBytes) (bytes rest all : List ℕ) (count : ℕ) (cuts : Bool) → IsZoneSoFar z → line_end bytes ≡ Some count → cuts ≡ true → HasTaken z new (take count bytes) cuts → rest ≡ drop count bytes → z.bytes.items ++ bytes ≡ all → CutOff new all rest
 cut_by z new bytes rest all count cuts s e c h r same = subst (CutOff new all) (sym r) (cut_taken z new bytes all count s e (subst (HasTaken z new (take count bytes)) c h) same)
-
-pub none_of : (l : List ℕ) → length l ≡ 0 → l ≡ []
-none_of [] e = refl
-none_of (x ∷ l) e = absurd (omega arith)

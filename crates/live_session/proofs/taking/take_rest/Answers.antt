@@ -1,14 +1,14 @@
-use Rattle.std.proofs.Common.{rules, ◌≡◌, ◌∙◌, ◌≤◌, ◌<◌, List, ℕ, Err, length, take, refl, sym, ap, arith, inr, subst}
-use Rattle.std.proofs.lemmas.List.{take_all}
+use Rattle.std.proofs.Common.{rules, ◌≡◌, ◌∙◌, ◌<◌, List, ℕ, Err, length, take, refl, sym, ap, arith, inr, subst}
+use Rattle.std.proofs.lemmas.List.{take_all, nil_from_length}
 use Rattle.zone_model.specs.Lines.{lines_of}
 use Rattle.session_talk.proofs.FedLaws.{last_one}
 use Rattle.live_session.specs.Zones.{HasTaken}
 use Rattle.live_session.proofs.ErrorLaws.{same_error}
-use Rattle.live_session.proofs.ZoneLaws.{ends_alone, ends_line, long_by, none_of, wants_line}
+use Rattle.live_session.proofs.ZoneLaws.{ends_alone, ends_line, long_by, wants_line}
 use Rattle.live_session.proofs.taking.take_rest.Goals as goal
 
 pub returns-then-rest-eq0-clause-whole : goal.returns-then-rest-eq0-clause-whole
-returns-then-rest-eq0-clause-whole c = ends_alone c.args.zone.now c.args.intake.now.bytes (none_of c.args.intake.now.bytes (sym c.len-rest.ensures ∙ c.if-rest-eq0.true)) c.requires.zone
+returns-then-rest-eq0-clause-whole c = ends_alone c.args.zone.now c.args.intake.now.bytes (nil_from_length c.args.intake.now.bytes (sym c.len-rest.ensures ∙ c.if-rest-eq0.true)) c.requires.zone
 
 pub take_line-requires : goal.take_line-requires
 take_line-requires c = record {
