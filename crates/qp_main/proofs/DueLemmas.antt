@@ -1,5 +1,6 @@
 -- What is due for an input.
 use Rattle.std.proofs.Common.{◌≡◌, ◌∙◌, ℕ, ◌+◌, Bool, true, false, cond, eqb, leb, List, [], length, Option, Some, None, Result, Ok, Err, refl, sym, ap, subst, arith, codes, length-append, append-nil, ◌++◌, ◌<◌, ◌≤◌}
+use Rattle.std.proofs.lemmas.Bool.{le-leb, lt-leb}
 use Rattle.std.proofs.lemmas.Bool.Decides.{nat_tests}
 use Rattle.std.specs.Fmt.{decimal}
 use Rattle.std.specs.Io.KnownBytes.{Consumes, IsAtEnd}
@@ -56,19 +57,13 @@ too_long invocation (Some all) (Some rest) bytes c e =
     let long : leb (length all) 16777216 ≡ false = (let n : 16777217 + length rest ≡ length all = omega (arith, ap (λ (l : List ℕ). length l) c, length-append bytes rest, e) in grind (arith, nat_tests)) in
     subst (λ (b : Bool). DueBytes invocation all b status.TooLong (codes "input over 16777216 bytes\n")) (sym long) (refl, refl)
 
-fits_room : (n m : ℕ) → n ≤ m → leb n m ≡ true
-fits_room n m h = grind (arith, nat_tests)
-
-within_limit : (n : ℕ) → n ≤ 16777216 → leb n 16777216 ≡ true
-within_limit n h = grind (arith, nat_tests)
-
 -- an input that was read whole
 read_due : (i : Invocation) (before now : Option (List ℕ)) (bytes : List ℕ) (s : Status) (text : List ℕ) → Consumes before now bytes → IsAtEnd now → length bytes ≤ 16777216 → DueInput i.verb i.chunks i.origin bytes s text → DueGiven i before s text
 read_due i None now bytes s text c e le h = tt
 read_due i (Some all) None bytes s text c e le h = absurd c
 read_due i (Some all) (Some rest) bytes s text c e le h =
     let whole : all ≡ bytes = c ∙ ap (λ (l : List ℕ). bytes ++ l) e ∙ append-nil bytes in
-    subst (λ (l : List ℕ). DueBytes i l (leb (length l) 16777216) s text) (sym whole) (subst (λ (b : Bool). DueBytes i bytes b s text) (sym (within_limit (length bytes) le)) h)
+    subst (λ (l : List ℕ). DueBytes i l (leb (length l) 16777216) s text) (sym whole) (subst (λ (b : Bool). DueBytes i bytes b s text) (sym (le-leb (length bytes) 16777216 le)) h)
 
 -- so that is due for the words
 pub source_due : (i : Invocation) (before now : Option (List ℕ)) (bytes : List ℕ) → input_of i.verb before ≡ before → Consumes before now bytes → IsAtEnd now → length bytes ≤ 16777216 → (s : Status) (text : List ℕ) → DueInput i.verb i.chunks i.origin bytes s text → Due (Some i) before s text
@@ -78,7 +73,7 @@ source_due i before now bytes same c e le s text h = given_due i before s text s
 pub made_due : (i : Invocation) (load : Load) (bytes : List ℕ) (s : Status) (text : List ℕ) (left : Option (List ℕ)) → i.verb ≡ Make load → bytes ≡ made_text load → length bytes ≤ 16777216 → DueInput i.verb i.chunks i.origin bytes s text → Due (Some i) left s text
 made_due i load bytes s text left v made le h =
     let given : input_of i.verb left ≡ Some bytes = ap (λ (w : Verb). input_of w left) v ∙ ap (λ (l : List ℕ). Some l) (sym made) in
-    subst (λ (o : Option (List ℕ)). DueGiven i o s text) (sym given) (subst (λ (b : Bool). DueBytes i bytes b s text) (sym (within_limit (length bytes) le)) h)
+    subst (λ (o : Option (List ℕ)). DueGiven i o s text) (sym given) (subst (λ (b : Bool). DueBytes i bytes b s text) (sym (le-leb (length bytes) 16777216 le)) h)
 
 -- ---- what was written of what is due, where that is due for more
 
@@ -141,7 +136,7 @@ some_words (Some i) left e = some_due i left e
 
 -- a zone that fits is due whole
 pub whole_dump : (chunks : ℕ) (style : Style) (origin : Name) (zone : Version) → cell_count zone ≤ room_in chunks → Dumps chunks style origin (Ok zone) status.Done (dump style origin zone)
-whole_dump chunks style origin zone le = fitting chunks zone (Ends status.Done (dump style origin zone)) status.Done (dump style origin zone) (fits_room (cell_count zone) (room_in chunks) le) (refl, refl)
+whole_dump chunks style origin zone le = fitting chunks zone (Ends status.Done (dump style origin zone)) status.Done (dump style origin zone) (le-leb (cell_count zone) (room_in chunks) le) (refl, refl)
 
 pub front_dump : (chunks : ℕ) (style : Style) (origin of : Name) (zone : Version) (before now : Held) (counted limit : ℕ) → counted ≡ cell_count zone → limit ≡ room_in chunks → counted ≤ limit → of ≡ origin
     → GrowsByFront before now (dump style of zone) → CutShort (Dumps chunks style origin (Ok zone)) before now
@@ -152,9 +147,6 @@ front_dump chunks style origin of zone before now counted limit is_count is_limi
   grew = subst (λ (o : Name). GrowsByFront before now (dump style o zone)) same front;
 }
 
-no_room_left : (n m : ℕ) → m < n → leb n m ≡ false
-no_room_left n m h = grind (arith, nat_tests)
-
 -- of one that doesn't fit both numbers are
 pub refused_dump : (chunks : ℕ) (style : Style) (origin : Name) (zone : Version) (counted limit : ℕ) (text : List ℕ) → counted ≡ cell_count zone → limit ≡ room_in chunks → limit < counted
     → text ≡ codes "zone does not fit: " ++ decimal counted ++ codes " cells over " ++ decimal limit ++ codes "\n" → Dumps chunks style origin (Ok zone) status.DoesNotFit text
@@ -163,7 +155,7 @@ refused_dump chunks style origin zone counted limit text is_count is_limit over 
     e ∙ ap (λ (n : ℕ). codes "zone does not fit: " ++ decimal n ++ codes " cells over " ++ decimal limit ++ codes "\n") is_count
     ∙ ap (λ (n : ℕ). codes "zone does not fit: " ++ decimal (cell_count zone) ++ codes " cells over " ++ decimal n ++ codes "\n") is_limit in
     let more : room_in chunks < cell_count zone = omega (arith, is_count, is_limit, over) in
-    subst (λ (b : Bool). IfFits b chunks zone (Ends status.Done (dump style origin zone)) status.DoesNotFit text) (sym (no_room_left (cell_count zone) (room_in chunks) more)) (refl, said)
+    subst (λ (b : Bool). IfFits b chunks zone (Ends status.Done (dump style origin zone)) status.DoesNotFit text) (sym (lt-leb (cell_count zone) (room_in chunks) more)) (refl, said)
 
 -- ---- jobs
 

@@ -3,7 +3,6 @@ pub mod GivenLemmas
 pub mod StopLemmas
 pub mod ReadingLemmas
 pub mod ReportingLemmas
-pub mod SizingLemmas
 pub mod SeveralLemmas
 pub mod BlockLemmas
 pub mod ListLemmas

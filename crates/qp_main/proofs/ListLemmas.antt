@@ -1,5 +1,5 @@
 -- What an input of several zones says, as files of octets say it.
-use Rattle.std.proofs.Common.{◌≡◌, ◌+◌, ℕ, Bool, true, false, cond, eqb, ltb, List, [], ◌∷◌, ◌++◌, length, Option, Some, None, Result, Ok, Err, IfOk, refl, subst, arith}
+use Rattle.std.proofs.Common.{◌≡◌, ◌+◌, ℕ, Bool, true, false, cond, eqb, ltb, List, [], ◌∷◌, ◌++◌, length, Option, Some, None, Result, Ok, Err, IfOk, refl, subst}
 use Rattle.std.specs.List.{AllByRecursion, list_any}
 use Rattle.zone_model.specs.Names.{Name, IsName, same_name}
 use Rattle.zone_model.specs.Lines.{lines_of}
@@ -12,6 +12,7 @@ use Rattle.report_laws.proofs.DataLemmas.{AllTexts, bound}
 use Rattle.report_laws.proofs.ReaderLemmas.{name_said, zone_dumped_at}
 use Rattle.report_laws.proofs.TokenLemmas.{fresh_is, line_is}
 use Rattle.report_laws.proofs.VersionLemmas.{lines_are}
+use Rattle.report_laws.proofs.NameLemmas.{root_is}
 use Rattle.zone_list.specs.Lists.{Cut, Part, begins_part, cut_from, head_says, is_head, new_origin, origin_word, part_says, with_line, zone_limit, zones_from, zones_of}
 use Rattle.zone_text.specs.Views.{Reads}
 use Rattle.zone_text.specs.declared.refusal.ZoneRefusal.{ZoneRefusal}
@@ -41,9 +42,6 @@ cut_octets n [] h = (tt, tt)
 cut_octets n (line ∷ lines) h = with_octets n line (cut_from (n + 1) lines) h.0 (cut_octets (n + 1) lines h.1)
 
 -- ---- origins
-
-root_is : IsName []
-root_is = record { each = tt; short = omega arith }
 
 ended : (s : Scan) (n : ℕ) (e : EntryTokens) → AllTexts s.tokens → entry_from n [] s ≡ Ok e → AllTexts e.tokens
 unfolding entry_from

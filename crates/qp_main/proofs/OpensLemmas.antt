@@ -1,7 +1,7 @@
 -- Several zones that are opened with their items: whether each of them fits.
-use Rattle.std.proofs.Common.{◌≡◌, ◌∙◌, inl, inr, ℕ, zero, suc, ◌<◌, ◌≤◌, leb, Bool, true, false, ◌&&◌, List, [], ◌∷◌, ◌++◌, length, map, Some, Ok, refl, sym, ap, subst, arith, codes}
+use Rattle.std.proofs.Common.{◌≡◌, ◌∙◌, inl, inr, ℕ, zero, suc, ◌<◌, ◌≤◌, Bool, true, false, ◌&&◌, List, [], ◌∷◌, ◌++◌, length, map, Some, Ok, refl, sym, ap, subst, arith, codes}
 use Rattle.std.proofs.lemmas.List.{length-map}
-use Rattle.std.proofs.lemmas.Bool.Decides.{nat_tests}
+use Rattle.std.proofs.lemmas.Bool.{and_right, lt-leb}
 use Rattle.std.specs.Fmt.{decimal}
 use Rattle.std.specs.List.{All, AllByRecursion, AllPairs, Contains, IsDistinct, list_all, slice_get, slice_index_or}
 use Rattle.std.specs.declared.cmp.Ordering.TheVariants.{Less}
@@ -117,20 +117,13 @@ all_true : (p : Zone → Bool) (zones : List Zone) → ((k : ℕ) (zone : Zone) 
 all_true p [] h = refl
 all_true p (zone ∷ zones) h = ap (λ (b : Bool). b && list_all p zones) (h 0 zone refl) ∙ all_true p zones (λ k z there. h (suc k) z there)
 
-and_false : (b : Bool) → (b && false) ≡ false
-and_false true = refl
-and_false false = refl
-
 not_all : (p : Zone → Bool) (zones : List Zone) (k : ℕ) (zone : Zone) → slice_get zones k ≡ Some zone → p zone ≡ false → list_all p zones ≡ false
 not_all p [] k zone there out = absurd cc
 not_all p (x ∷ zones) zero zone there out = ap (λ (b : Bool). b && list_all p zones) (ap p (some_is x zone there) ∙ out)
-not_all p (x ∷ zones) (suc k) zone there out = ap (λ (b : Bool). p x && b) (not_all p zones k zone there out) ∙ and_false (p x)
+not_all p (x ∷ zones) (suc k) zone there out = and_right (p x) (list_all p zones) (not_all p zones k zone there out)
 
 it_does_not : (chunks : ℕ) (zone : Zone) → room_in chunks < cell_count zone.pairs → fits chunks zone.pairs ≡ false
-it_does_not chunks zone h = above (cell_count zone.pairs) (room_in chunks) h
-  where
-    above : (m n : ℕ) → n < m → leb m n ≡ false
-    above m n l = grind (arith, nat_tests)
+it_does_not chunks zone h = lt-leb (cell_count zone.pairs) (room_in chunks) h
 
 more : (a b m n : ℕ) → a ≡ m → b ≡ n → b < a → n < m
 more a b m n e f l = omega arith

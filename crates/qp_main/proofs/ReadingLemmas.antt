@@ -1,10 +1,10 @@
 -- What is so of all that octets say.
-use Rattle.std.proofs.Common.{◌<◌, ℕ, suc, List, [], ◌∷◌, get_or, Result, Ok, Err, IfOk, Vec}
+use Rattle.std.proofs.Common.{ℕ, List, Result, Ok, Err, IfOk, Vec}
 use Rattle.std.specs.Global.{Global}
 use Rattle.std.specs.List.{AllByRecursion}
 use Rattle.zone_model.specs.Names.{Name, IsName}
 use Rattle.zone_model.specs.Lines.{lines_of}
-use Rattle.zone_model.specs.MasterFile.{Zone, zone_at, zone_of}
+use Rattle.zone_model.specs.MasterFile.{Zone, zone_at}
 use Rattle.zone_text.specs.Views.{Reads}
 use Rattle.zone_text.specs.declared.refusal.ZoneRefusal.{ZoneRefusal}
 use Rattle.master_file.specs.Rows.{CanBeDumped}
@@ -16,19 +16,12 @@ use Rattle.job_script.specs.declared.commands.Job.{Job}
 use Rattle.job_script.specs.declared.refusal.JobRefusal.{JobRefusal}
 use Rattle.report_laws.specs.Octets.{AllOctets}
 use Rattle.report_laws.specs.Changes.{AllAsked}
-use Rattle.report_laws.proofs.ReaderLemmas.{zone_dumped, zone_dumped_at}
+use Rattle.report_laws.proofs.ReaderLemmas.{zone_dumped_at}
 use Rattle.report_laws.proofs.ScriptLemmas.{scripts_ask, lists_ask}
 use Rattle.report_laws.proofs.VersionLemmas.{lines_are}
-
-pub octets_of : (bytes : List ℕ) → ((i : ℕ) → get_or bytes i 0 < 256) → AllOctets bytes
-octets_of [] small = tt
-octets_of (c ∷ bytes) small = (small 0, octets_of bytes (λ i. small (suc i)))
+pub use Rattle.report_laws.proofs.VersionLemmas.{octets_of}
 
 module _ (origin : Name) (bytes : List ℕ) (name : IsName origin) (octets : AllOctets bytes) where
-  pub zone_said : (r : Result Zone ZoneRefusal) → Reads r (λ z. z.pairs) (zone_of origin (lines_of bytes)) → IfOk r (λ z. CanBeDumped origin z.pairs)
-  zone_said (Ok zone) read = zone_dumped origin (lines_of bytes) zone.pairs (lines_are bytes octets) name read
-  zone_said (Err refusal) read = tt
-
   pub zone_from_said : (first : ℕ) (r : Result Zone ZoneRefusal) → Reads r (λ z. z.pairs) (zone_at first origin (lines_of bytes)) → IfOk r (λ z. CanBeDumped origin z.pairs)
   zone_from_said first (Ok zone) read = zone_dumped_at first origin (lines_of bytes) zone.pairs (lines_are bytes octets) name read
   zone_from_said first (Err refusal) read = tt

@@ -1,7 +1,7 @@
 -- What is reported of a job that was run.
-use Rattle.std.proofs.Common.{◌≡◌, ◌∙◌, ℕ, zero, suc, ◌+◌, ◌-◌, ◌≤◌, leb, Bool, true, cond, List, [], ◌++◌, length, map, take, drop, Ok, refl, sym, ap, subst, arith}
+use Rattle.std.proofs.Common.{◌≡◌, ◌∙◌, ℕ, zero, suc, ◌+◌, ◌-◌, ◌≤◌, Bool, true, cond, List, [], ◌++◌, length, map, take, drop, Ok, refl, sym, ap, subst, arith}
 use Rattle.std.proofs.lemmas.List.{take_all, length-drop}
-use Rattle.std.proofs.lemmas.Bool.Decides.{nat_tests}
+use Rattle.std.proofs.lemmas.Bool.{le-leb}
 use Rattle.std.specs.List.{AllByRecursion, list_any, range_with_len}
 use Rattle.zone_model.specs.Names.{Name}
 use Rattle.zone_model.specs.Versions.{Version}
@@ -62,10 +62,7 @@ job_reported telling chunks origin zone ws f text refused s r printed some ended
 }
 
 pub it_fits : (chunks : ℕ) (zone : Version) → cell_count zone ≤ room_in chunks → fits chunks zone ≡ true
-it_fits chunks zone h = below (cell_count zone) (room_in chunks) h
-  where
-    below : (m n : ℕ) → m ≤ n → leb m n ≡ true
-    below m n l = grind (arith, nat_tests)
+it_fits chunks zone h = le-leb (cell_count zone) (room_in chunks) h
 
 -- a job that was run on a zone that fits
 pub job_told : (telling : Telling) (chunks : ℕ) (origin : Name) (zone : Version) (ws : List (List Command)) (f : Finished) (text : List ℕ) (refused : Bool) (s : Status) → RanOn chunks origin zone ws (ran.Finished f) → text ≡ finished_text telling f

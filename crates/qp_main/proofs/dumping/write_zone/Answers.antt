@@ -3,11 +3,11 @@ use Rattle.job_model.specs.Sizes.{trie_entries}
 use Rattle.job_report.specs.Pieces.{pieces_text}
 use Rattle.qp_main.specs.declared.status.Status.TheVariants as status
 use Rattle.qp_main.proofs.DueLemmas.{front_dump, none_dumped, refused_dump, short_is}
-use Rattle.qp_main.proofs.SizingLemmas.{zone_entries_rise}
+use Rattle.live_session.proofs.ReadingLaws.{entries_rise}
 use Rattle.qp_main.proofs.dumping.write_zone.Goals as goal
 
 pub zone_size-requires : goal.zone_size-requires
-zone_size-requires g c = zone_entries_rise c.args.invocation.now.origin c.args.zone.now.pairs c.requires.zone
+zone_size-requires g c = entries_rise c.args.invocation.now.origin c.args.zone.now.pairs c.requires.zone
 
 pub returns-in_default-clause-due : goal.returns-in_default-clause-due
 returns-in_default-clause-due g c =

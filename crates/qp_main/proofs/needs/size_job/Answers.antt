@@ -3,12 +3,12 @@ use Rattle.job_model.specs.Jobs.{job_of}
 use Rattle.job_script.specs.Views.{job_view, worker_view}
 use Rattle.std.proofs.lemmas.List.{length-map}
 use Rattle.qp_main.proofs.DueLemmas.{job_sizes}
-use Rattle.qp_main.proofs.SizingLemmas.{zone_entries_rise}
+use Rattle.live_session.proofs.ReadingLaws.{entries_rise}
 use Rattle.qp_main.proofs.StopLemmas.{job_zone_stops, sizes_stop}
 use Rattle.qp_main.proofs.needs.size_job.Goals as goal
 
 pub zone_size-requires : goal.zone_size-requires
-zone_size-requires c = zone_entries_rise c.args.invocation.now.origin c.in_ok-zone.zone.pairs c.in_ok-zone.ensures.of_origin
+zone_size-requires c = entries_rise c.args.invocation.now.origin c.in_ok-zone.zone.pairs c.in_ok-zone.ensures.of_origin
 
 pub returns-clause-told : goal.returns-clause-told
 returns-clause-told c =

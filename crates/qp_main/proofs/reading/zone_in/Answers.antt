@@ -1,5 +1,6 @@
 use Rattle.std.proofs.Common.{◌<◌, arith, get_or}
-use Rattle.qp_main.proofs.ReadingLemmas.{octets_of, zone_said}
+use Rattle.live_session.proofs.ReadingLaws.{zone_said}
+use Rattle.qp_main.proofs.ReadingLemmas.{octets_of}
 use Rattle.qp_main.proofs.reading.zone_in.Goals as goal
 
 pub returns-clause-of_origin : goal.returns-clause-of_origin
