@@ -7,7 +7,7 @@ use crate::Serial;
 use crate::changes::{Change, OperationSink};
 use crate::entries::push_entry;
 use dns_name::Name;
-use master_file::{IntoItems, Zone};
+use master_file::{LentItems, Zone};
 use rr_data::item_buffer;
 use std::alloc::{AllocError, Global};
 use std::cmp::Ordering;
@@ -56,15 +56,15 @@ pub struct Ahead {
     pub len: usize,
 }
 
-/// The names of a zone from one on, which is laid down as an item. Contracts see the pairs of name and entry.
+/// The names of a zone that is lent from one on, which is laid down as an item. Contracts see the pairs of name and entry.
 #[derive(Drop)]
-pub struct NameCursor {
+pub struct NameCursor<'z> {
     ahead: Option<Ahead>,
     octets: Vec<u8>,
-    behind: IntoItems,
+    behind: LentItems<'z>,
 }
 
-impl Model for NameCursor {
+impl<'z> Model for NameCursor<'z> {
     ghost use Rattle.std.specs.Prelude.{◌≤◌, length};
     ghost use Rattle.zone_model.specs.Records.{item_limit};
     ghost use Rattle.zone_model.specs.Versions.{Version};
@@ -90,7 +90,7 @@ pub fn owner_of(item: &[u8]) -> Name
 }
 
 // Lays down the item of the next name.
-fn next_of(behind: &mut IntoItems, octets: &mut [u8]) -> Option<Ahead>
+fn next_of(behind: &mut LentItems<'_>, octets: &mut [u8]) -> Option<Ahead>
     requires { item_limit ≤ length octets.old }
     ensures names { pairs_ahead result octets.new behind.new ≡ behind.old }
     ensures stands { Stands result octets.new }
@@ -100,13 +100,13 @@ fn next_of(behind: &mut IntoItems, octets: &mut [u8]) -> Option<Ahead>
     Some(Ahead { owner, len })
 }
 
-impl NameCursor {
+impl<'z> NameCursor<'z> {
     /// All names of a zone.
-    pub fn new(alloc: Global, zone: Zone) -> Result<Self, AllocError>
-        ensures { IfOk result (λ c. c ≡ zone.pairs) }
+    pub fn new(alloc: Global, zone: &'z Zone) -> Result<Self, AllocError>
+        ensures { IfOk result (λ c. c ≡ zone.now.pairs) }
     {
         let mut octets = item_buffer(alloc)?;
-        let mut behind = zone.into_items();
+        let mut behind = zone.items();
         let ahead = next_of(&mut behind, &mut octets);
         Ok(NameCursor {
             ahead,
@@ -116,7 +116,7 @@ impl NameCursor {
     }
 }
 
-impl Names for NameCursor {
+impl Names for NameCursor<'_> {
     ghost use Rattle.std.specs.Prelude.{◌≡◌};
 
     ghost shows = { λ c left. left ≡ c };
@@ -249,7 +249,7 @@ pub fn push_between<B: Names, A: Names, K: OperationSink>(
     Err(AllocError)
 }
 
-/// The same of two zones. Each of both is in memory once, and what was passed isn't.
+/// The same of two zones. Each of both is in memory once.
 pub fn push_difference<K: OperationSink>(
     alloc: Global,
     serial: Serial,
@@ -259,7 +259,7 @@ pub fn push_difference<K: OperationSink>(
 ) -> Result<(), AllocError>
     ensures { OnOk result (Adds (K.has sink.old) (K.has sink.new) (difference serial before.pairs after.pairs)) }
 {
-    let mut old = NameCursor::new(alloc, before)?;
-    let mut new = NameCursor::new(alloc, after)?;
+    let mut old = NameCursor::new(alloc, &before)?;
+    let mut new = NameCursor::new(alloc, &after)?;
     push_between(alloc, serial, &mut old, &mut new, sink)
 }

@@ -38,12 +38,12 @@ pub fn operations_between<V: Reading>(
     alloc: Global,
     serial: Serial,
     version: &mut V,
-    zone: Zone,
+    zone: &Zone,
 ) -> Result<Vec<Operation>, AllocError>
     requires { ShowsSome (V.holds version.old) }
     ensures same { version.new ≡ version.old }
     ensures list { IfOk result (λ operations. (before : Version) → Shows (V.holds version.old) before
-        → map operation_view operations.items ≡ difference serial before zone.pairs) }
+        → map operation_view operations.items ≡ difference serial before zone.now.pairs) }
 {
     let mut octets = item_buffer(alloc)?;
     let mut after = NameCursor::new(alloc, zone)?;
@@ -87,7 +87,7 @@ pub fn replace_all<L: Law, N: Named, K, V: Reading>(
     ensures of_same { IsOfSame transaction.old transaction.new }
     ensures replaces { ReplacesAll origin.now (V.holds version.old) zone.pairs result transaction.old.locked.now.working transaction.new.locked.now.working }
 {
-    let Ok(operations) = operations_between(alloc, Serial::Keep, version, zone) else {
+    let Ok(operations) = operations_between(alloc, Serial::Keep, version, &zone) else {
         return Err(EditRefusal::Memory);
     };
     execute(alloc, origin, transaction, &[], &operations, buffers)

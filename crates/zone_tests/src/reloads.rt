@@ -103,7 +103,7 @@ impl Texts {
         let Some(zone) = self.zone(alloc, number) else {
             return false;
         };
-        match operations_between(alloc, Serial::Keep, version, zone) {
+        match operations_between(alloc, Serial::Keep, version, &zone) {
             Ok(operations) => operations.is_empty(),
             Err(_) => false,
         }
