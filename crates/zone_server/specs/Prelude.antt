@@ -4,7 +4,6 @@ pub use Rattle.zone_model.specs.DataWords.{data_type}
 pub use Rattle.zone_model.specs.Lines.{lines_of}
 pub use Rattle.zone_model.specs.MasterFile.{zone_of}
 pub use Rattle.zone_model.specs.Names.{Name, is_under, same_name}
-pub use Rattle.zone_model.specs.Records.{item_limit}
 pub use Rattle.master_file.specs.Rows.{CanBeDumped}
 pub use Rattle.zone_text.specs.Views.{Reads}
 pub use Rattle.job_model.specs.Outcomes.{RolledBack}
@@ -15,9 +14,8 @@ pub use Rattle.shared_cells.specs.History.{IsPartOf}
 pub use Rattle.zone_change.specs.Views.{operation_view}
 pub use Rattle.zone_diff.specs.Blocks.{changes}
 pub use Rattle.zone_diff.specs.Differences.{difference}
-pub use Rattle.zone_diff.specs.NamesAhead.{Stands, pairs_ahead}
 pub use Rattle.zone_diff.specs.declared.Serial.TheVariants.{Keep}
-pub use Rattle.zone_answer.specs.Prelude.{Version, answer, respond, IsGiven, IsResponded, Shows, ShowsSome}
+pub use Rattle.zone_answer.specs.Prelude.{answer, respond, IsGiven, IsResponded}
 pub use Rattle.qp_multi.specs.Keepings.{versions_in}
 pub use Rattle.qp_multi.specs.Passes.{IsHere, Known, known_at}
 pub use Rattle.job_commands.specs.Commands.{IsOpenedWith}

@@ -7,7 +7,6 @@ mod attaching;
 mod changing;
 mod finding;
 mod home;
-mod lent;
 mod loading;
 mod noting;
 mod opening;

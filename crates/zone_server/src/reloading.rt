@@ -7,7 +7,6 @@ ghost use Rattle.zone_server.specs.Prelude.{operation_view, versions_in};
 use crate::asking::Shown;
 use crate::finding::zone_of;
 use crate::home::Home;
-use crate::lent::operations_to;
 use crate::loading::LoadedZone;
 use crate::server::{Server, ServerPass};
 use dns_name::Name;
@@ -19,7 +18,9 @@ use std::sync::Wait;
 use thiserror::Error;
 use trie_read::Reading;
 use zone_change::Operation;
+use zone_diff::Serial;
 use zone_edit::{EditRefusal, ItemBuffers, execute};
+use zone_reload::operations_between;
 use zone_table::{Zones, ZonesPass};
 
 /// Why a zone isn't exchanged. A version that is told is the zone's, which stays.
@@ -61,7 +62,7 @@ fn difference_of<N: Named>(
 {
     let mut query = pass.query(index);
     let version = query.version();
-    let told = operations_to(alloc, &mut query, zone);
+    let told = operations_between(alloc, Serial::Keep, &mut query, zone);
     Shown { version, told }
 }
 
