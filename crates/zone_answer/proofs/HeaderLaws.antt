@@ -6,8 +6,11 @@ use Rattle.zone_model.specs.Records.{Rrset, Entry, rrset_of}
 use Rattle.zone_model.specs.Rows.{Row, rows_of}
 use Rattle.zone_model.specs.Versions.{Version}
 use Rattle.zone_answer.specs.Answers.{node}
-use Rattle.zone_answer.specs.Responses.{named_by, octets_before, of_type}
-use Rattle.zone_answer.specs.Sections.{AreAliases, AreCounted, Ends, EndsWithSet, last_owner}
+use Rattle.zone_answer.specs.Responses.{by_kind, named_by, octets_before, of_type}
+use Rattle.zone_answer.specs.Sections.{AreAliases, AreCounted, Ends, EndsWithSet, IsResponded, last_owner}
+use Rattle.zone_answer.specs.declared.header.Code.TheVariants.{Refused}
+use Rattle.zone_answer.specs.declared.header.Header.{Header}
+use Rattle.zone_answer.specs.declared.kind.Kind.TheVariants.{Outside}
 use Rattle.zone_answer.proofs.AddressLaws.{alias_names, no_alias_names, no_set_names}
 use Rattle.zone_answer.proofs.ResponseLaws.{servers_whole, set_type}
 use Rattle.zone_answer.proofs.SectionLaws.{last_of_set}
@@ -93,3 +96,10 @@ servers_counted had count aliases last version given c e =
 pub servers_names : (version : Version) (given : List Row) → Ends version 2 given → filter_map named_by given ≡ filter_map named_by (of_type 2 given)
 servers_names version given e =
     ap (filter_map named_by) (sym (servers_whole version given e)) ∙ filter_map-append named_by (of_type 5 given) (of_type 2 given) ∙ ap (λ (l : List Name). l ++ filter_map named_by (of_type 2 given)) (alias_names given)
+
+-- ---- outside of the zone
+
+pub says_refused : (has : List Row → Type 0) (origin : Name) (zone : Version) (rows : List Row) (header : Header) → header ≡ record { code = Refused; authoritative = false; answer = 0; authority = 0; additional = 0 } → has []
+    → IsResponded has (by_kind origin zone Outside rows) header
+says_refused has origin zone rows header is none =
+    subst (IsResponded has (by_kind origin zone Outside rows)) (sym is) (record { code_is = refl; authoritative_is = refl; answer_counted = refl; authority_counted = refl; additional_counted = refl; rows = none })

@@ -32,7 +32,7 @@ pub use header::{Code, Header};
 pub use kind::Kind;
 pub use question::{answer, answer_into, answer_under};
 pub use records::{entry_of, read_owned};
-pub use responses::{Response, respond, respond_into};
+pub use responses::{Response, respond, respond_into, respond_under};
 pub use rows::{Row, Rows};
 pub use scratch::Scratch;
 pub use sections::Sections;

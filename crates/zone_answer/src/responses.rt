@@ -1,7 +1,7 @@
 //! Responses: what a message of an authoritative server says.
 
-ghost use Rattle.std.specs.Prelude.{◌≡◌, ◌≤◌, ◌++◌, [], List, length, IfOk, OnOk};
-ghost use Rattle.zone_answer.specs.Prelude.{most_item_octets, Row, Version, Shows, ShowsSome, addresses_for, owned_rows};
+ghost use Rattle.std.specs.Prelude.{◌≡◌, ◌≤◌, ◌++◌, [], List, length, false, true, IfOk, OnOk};
+ghost use Rattle.zone_answer.specs.Prelude.{most_item_octets, Row, Version, Shows, ShowsSome, addresses_for, is_under, owned_rows};
 ghost use Rattle.zone_answer.specs.Prelude.{AreCounted, EndsWith, IsResponded, by_kind, negative, respond};
 
 use crate::addresses::push_for;
@@ -10,7 +10,7 @@ use crate::kind::Kind;
 use crate::named::octets_before;
 use crate::negative::push_soa;
 use crate::node::node;
-use crate::question::answer_into;
+use crate::question::answer_under;
 use crate::rows::Rows;
 use crate::scratch::Scratch;
 use crate::sections::Sections;
@@ -74,8 +74,44 @@ pub fn respond_into<V: Reading, S: RowSink + Drop>(
     ensures response { (zone : Version) → Shows (V.holds version.old) zone
         → IfOk result (IsResponded (S.has rows.new.rows) (respond origin.now zone name.now rtype)) }
 {
+    if !name.is_under(origin) {
+        return Ok(refused());
+    }
+    respond_under(alloc, version, origin, name, rtype, scratch, rows)
+}
+
+// The header of a response to a question for a name that isn't in the zone.
+fn refused() -> Header
+    ensures { result ≡ record { code = Code.Refused; authoritative = false; answer = 0; authority = 0; additional = 0 } }
+{
+    Header {
+        code: Code::Refused,
+        authoritative: false,
+        answer: 0,
+        authority: 0,
+        additional: 0,
+    }
+}
+
+/// The same for a name that is known to be the origin or to lie under it: the octets of both aren't compared again.
+pub fn respond_under<V: Reading, S: RowSink + Drop>(
+    alloc: Global,
+    version: &mut V,
+    origin: &Name,
+    name: &Name,
+    rtype: u16,
+    scratch: &mut Scratch,
+    rows: &mut Sections<S>,
+) -> Result<Header, AllocError>
+    requires shown { ShowsSome (V.holds version.old) }
+    requires under { is_under name.now origin.now ≡ true }
+    requires none { S.has rows.old.rows [] }
+    ensures same { version.new ≡ version.old }
+    ensures response { (zone : Version) → Shows (V.holds version.old) zone
+        → IfOk result (IsResponded (S.has rows.new.rows) (respond origin.now zone name.now rtype)) }
+{
     rows.begin();
-    let kind = answer_into(
+    let kind = answer_under(
         alloc,
         version,
         origin,
@@ -90,13 +126,7 @@ pub fn respond_into<V: Reading, S: RowSink + Drop>(
         Kind::Nodata => denied(alloc, version, origin, Code::NoError, scratch, rows),
         Kind::Nxdomain => denied(alloc, version, origin, Code::NxDomain, scratch, rows),
         Kind::Referral => referred(alloc, version, origin, scratch, rows),
-        Kind::Outside => Ok(Header {
-            code: Code::Refused,
-            authoritative: false,
-            answer: 0,
-            authority: 0,
-            additional: 0,
-        }),
+        Kind::Outside => Ok(refused()),
     }
 }
 
