@@ -1,6 +1,7 @@
 -- The difference of two zones makes of the one before the one after.
 use Rattle.std.proofs.Common.{◌≡◌, ◌∙◌, ℕ, ◌<◌, ◌≤◌, Bool, true, false, not, ◌&&◌, cond, eqb, List, [], ◌∷◌, ◌++◌, length, refl, sym, ap, subst, arith, Option, Some, None, Result, Ok, Err}
 use borrow.Author.Tests.{eqb-true}
+use Rattle.std.specs.Cmp.{first_so}
 use Rattle.std.specs.List.{AllByRecursion, list_any}
 use Rattle.std.specs.List.Sorted.{IsStrictlySortedBy}
 use Rattle.std.specs.Option.{is_some}
@@ -165,13 +166,10 @@ difference_makes mode origin before after h k =
 
 -- ---- where each serial counts, it is the one after
 
-first_true : (a b : Bool) → (a && b) ≡ true → a ≡ true
-first_true a b e = grind arith
-
 same_soa : (s t : Rrset) → OneSoa s → OneSoa t → list_any (stays Keep s t.ttl) t.records ≡ true → s ≡ t
 same_soa s t one other e =
     let a : stays Keep s t.ttl other.octets ≡ true = or_none (stays Keep s t.ttl other.octets) (subst (λ (l : List (List ℕ)). list_any (stays Keep s t.ttl) l ≡ true) other.records_are e) in
-    let time : s.ttl ≡ t.ttl = eqb-true s.ttl t.ttl (first_true (eqb s.ttl t.ttl) (list_any (counts_as Keep other.octets) s.records) a) in
+    let time : s.ttl ≡ t.ttl = eqb-true s.ttl t.ttl (first_so (eqb s.ttl t.ttl) (list_any (counts_as Keep other.octets) s.records) a) in
     let octets : one.octets ≡ other.octets = sym (it_is other.octets one.octets (stays_counts Keep s t one other e)) in
     soa_is s one ∙ ap (λ (n : ℕ). fresh 6 n one.octets) time ∙ ap (λ (l : List ℕ). fresh 6 t.ttl l) octets ∙ sym (soa_is t other)
 

@@ -1,7 +1,8 @@
 -- The operations of one name make of its entry before the one that is due, and none is refused.
-use Rattle.std.proofs.Common.{◌≡◌, ◌≢◌, ◌∙◌, ℕ, ◌≤◌, Bool, true, false, ◌&&◌, cond, eqb, List, [], ◌∷◌, ◌++◌, length, map, refl, sym, ap, subst, arith, Option, Some, None, Ok}
+use Rattle.std.proofs.Common.{◌≡◌, ◌≢◌, ◌∙◌, ℕ, ◌≤◌, Bool, true, false, cond, eqb, List, [], ◌∷◌, ◌++◌, length, map, refl, sym, ap, subst, arith, Option, Some, None, Ok}
 use Rattle.std.proofs.lemmas.Bool.Decides.{nat_tests}
-use borrow.Author.Tests.{eqb-true}
+use borrow.Author.Tests.{eqb-false, eqb-true}
+use Rattle.std.specs.Cmp.{second_so}
 use Rattle.std.specs.List.{list_any}
 use Rattle.zone_model.specs.Names.{Name}
 use Rattle.zone_model.specs.Records.{Rrset, Entry, rrset_of, changed_at, rrset_bytes, RisingOctets, IsEntry, IsRrset}
@@ -78,12 +79,6 @@ works_come owner x t is of other = works (set_changes After owner x t) t.rtype (
             ∙ ap (set_of t.rtype t.ttl) (exchanged s.records t.records one.rising is.rising few) ∙ sym (some_set t is)
         by_time false q f = whole entry h f
 
-no_soa : (t : ℕ) → eqb t 6 ≡ false → t ≢ 6
-no_soa t e = grind (arith, nat_tests)
-
-is_soa : (t : ℕ) → eqb t 6 ≡ true → t ≡ 6
-is_soa t e = eqb-true t 6 e
-
 nothing : (t : ℕ) (from to : Option Rrset) → from ≡ to → Works [] t from to
 nothing t from to e = record { done = λ entry h f. f ∙ e; others = λ entry k apart h. refl; proper = λ entry h. h }
 
@@ -93,7 +88,7 @@ deletion_works owner s x y is e =
   where
     by_type : (b : Bool) → eqb s.rtype 6 ≡ b → Works (cond b [] (set_deletions owner y s)) s.rtype (Some s) (cond b (Some s) (left_of y s))
     by_type true q = nothing s.rtype (Some s) (Some s) refl
-    by_type false q = works_gone owner y s is (no_soa s.rtype q)
+    by_type false q = works_gone owner y s is (eqb-false s.rtype 6 q)
 
 addition_works : (owner : Name) (t : Rrset) (x y soa : Option Rrset) → IsRrset t → IsSetOf t.rtype x → y ≡ Some t
     → Works (unless_soa t (set_additions owner x t)) t.rtype (cond (eqb t.rtype 6) soa (left_by x y)) (cond (eqb t.rtype 6) soa y)
@@ -102,7 +97,7 @@ addition_works owner t x y soa is of e =
   where
     by_type : (b : Bool) → eqb t.rtype 6 ≡ b → Works (cond b [] (set_additions owner x t)) t.rtype (cond b soa (left_by x (Some t))) (cond b soa (Some t))
     by_type true q = nothing t.rtype soa soa refl
-    by_type false q = works_come owner x t is of (no_soa t.rtype q)
+    by_type false q = works_come owner x t is of (eqb-false t.rtype 6 q)
 
 found_set : (entry : Entry) (t : ℕ) → IsEntry entry → IsSetOf t (rrset_of t entry)
 found_set entry t h = by_found (rrset_of t entry) refl
@@ -145,7 +140,7 @@ made_alike : (owner : Name) (y : Option Rrset) (after : Entry) → IsEntry after
 made_alike owner y after h f e = record { proper = h; fit = f; found = λ t. by_type t (eqb t 6) refl }
   where
     by_type : (t : ℕ) (b : Bool) → eqb t 6 ≡ b → rrset_of t after ≡ cond b y (rrset_of t after)
-    by_type t true q = ap (λ (n : ℕ). rrset_of n after) (is_soa t q) ∙ e
+    by_type t true q = ap (λ (n : ℕ). rrset_of n after) (eqb-true t 6 q) ∙ e
     by_type t false q = refl
 
 made_kept : (owner : Name) (s t : Rrset) (after : Entry) (one : OneSoa s) (other : OneSoa t) → IsRrset s → length one.octets ≡ length other.octets → IsEntry after → IsFit owner after → rrset_of 6 after ≡ Some t → MadeOf owner (Some s) after (placed 6 s after)
@@ -163,16 +158,13 @@ made_kept owner s t after one other is e h f at =
     }
   where
     by_type : (k : ℕ) (b : Bool) → eqb k 6 ≡ b → rrset_of k (placed 6 s after) ≡ cond b (Some s) (rrset_of k after)
-    by_type k true q = ap (λ (n : ℕ). rrset_of n (placed 6 s after)) (is_soa k q) ∙ placed_found s after one.rtype_is h
-    by_type k false q = placed_beside k s after (no_soa k q) one.rtype_is
-
-pub both_true : (a b : Bool) → (a && b) ≡ true → b ≡ true
-both_true a b e = grind arith
+    by_type k true q = ap (λ (n : ℕ). rrset_of n (placed 6 s after)) (eqb-true k 6 q) ∙ placed_found s after one.rtype_is h
+    by_type k false q = placed_beside k s after (eqb-false k 6 q) one.rtype_is
 
 pub stays_counts : (mode : Serial) (s t : Rrset) (one : OneSoa s) (other : OneSoa t) → list_any (stays mode s t.ttl) t.records ≡ true → counts_as mode other.octets one.octets ≡ true
 stays_counts mode s t one other e =
     let a : stays mode s t.ttl other.octets ≡ true = or_none (stays mode s t.ttl other.octets) (subst (λ (l : List (List ℕ)). list_any (stays mode s t.ttl) l ≡ true) other.records_are e) in
-    let b : list_any (counts_as mode other.octets) s.records ≡ true = both_true (eqb s.ttl t.ttl) (list_any (counts_as mode other.octets) s.records) a in
+    let b : list_any (counts_as mode other.octets) s.records ≡ true = second_so (eqb s.ttl t.ttl) (list_any (counts_as mode other.octets) s.records) a in
     or_none (counts_as mode other.octets one.octets) (subst (λ (l : List (List ℕ)). list_any (counts_as mode other.octets) l ≡ true) one.records_are b)
 
 -- ---- the exchange of an entry
@@ -249,10 +241,10 @@ due_where t soa (Some s) None = refl
 -- what is found when the SOA is exchanged
 at_middle : (before after gone middle : Entry) (soa : Option Rrset) → rrset_of 6 middle ≡ soa → ((k : ℕ) → k ≢ 6 → rrset_of k middle ≡ rrset_of k gone) → ((t : ℕ) → rrset_of t gone ≡ left_at before after t) → (t : ℕ) (b : Bool) → eqb t 6 ≡ b
     → rrset_of t middle ≡ then_at soa before after t
-at_middle before after gone middle soa found others at t true q = subst (λ (n : ℕ). rrset_of n middle ≡ then_at soa before after n) (sym (is_soa t q)) found
+at_middle before after gone middle soa found others at t true q = subst (λ (n : ℕ). rrset_of n middle ≡ then_at soa before after n) (sym (eqb-true t 6 q)) found
 at_middle before after gone middle soa found others at t false q =
     let left : Option Rrset = left_by (rrset_of t before) (rrset_of t after) in
-    others t (no_soa t q) ∙ at t ∙ ap (λ (b : Bool). cond b (rrset_of t before) left) q ∙ sym (ap (λ (b : Bool). cond b soa left) q)
+    others t (eqb-false t 6 q) ∙ at t ∙ ap (λ (b : Bool). cond b (rrset_of t before) left) q ∙ sym (ap (λ (b : Bool). cond b soa left) q)
 
 pub entry_exchanged : (mode : Serial) (origin owner : Name) (before after : Entry) → Exchange origin owner before after → all_changed origin (entry_difference mode owner before after) before ≡ Ok (made_entry mode before after)
 entry_exchanged mode origin owner before after x =

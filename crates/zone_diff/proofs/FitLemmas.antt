@@ -1,10 +1,10 @@
 -- No rule refuses the operations: what goes is no SOA, and what an entry has on the way is not more than in the end.
 use Rattle.std.proofs.Common.{◌≡◌, ◌≢◌, ◌∙◌, ℕ, suc, ◌+◌, ◌<◌, ◌≤◌, Bool, true, false, not, ◌&&◌, ◌||◌, cond, eqb, leb, ltb, List, [], ◌∷◌, ◌++◌, length, refl, sym, ap, subst, arith, Option, Some, None, Result, Ok, Err, length-append}
 use Rattle.std.proofs.lemmas.Bool.Decides.{nat_tests}
-use borrow.Author.Tests.{eqb-true}
+use borrow.Author.Tests.{eqb-true, le-leb, le-ltb, leb-true, ne_eqb}
 use Rattle.std.specs.List.{AllByRecursion, flat_map}
 use Rattle.std.specs.Option.{is_some, is_none}
-use Rattle.std.specs.Int.{w16, w32, to_be_bytes}
+use Rattle.std.specs.Int.{w16, to_be_bytes}
 use Rattle.std.specs.declared.cmp.Ordering.{Ordering}
 use Rattle.std.specs.declared.cmp.Ordering.TheVariants.{Less, Equal, Greater}
 use Rattle.std.specs.Ordering.{nat_cmp, match_ordering}
@@ -14,6 +14,7 @@ use Rattle.zone_model.specs.Versions.{Operation, Add, DeleteName, DeleteSet, Del
 use Rattle.zone_model.specs.declared.Refusal.{Refusal}
 use Rattle.zone_model.specs.declared.Refusal.TheVariants.{Soa, Cname, Long}
 use Rattle.zone_change.specs.Counts.{candidate}
+use Rattle.zone_change.proofs.CountLaws.{set_is}
 use Rattle.zone_change.proofs.FoundLaws.{first_of, found_beside}
 use Rattle.zone_diff.proofs.EntryLemmas.{found_at, beside_at, IsPlain, all_made, plain_entry, plain_beside, added_plain, joined_of, found_is}
 
@@ -39,12 +40,9 @@ pub record IsFit (owner : Name) (entry : Entry) : Type 0 where
 pub fits : (owner : Name) (entry : Entry) → IsFit owner entry → fitting owner entry ≡ Ok entry
 fits owner entry f =
     let short = f.short in
-    let test : ltb item_limit (length (item owner entry)) ≡ false = not_long (length (item owner entry)) short in
+    let test : ltb item_limit (length (item owner entry)) ≡ false = le-ltb item_limit (length (item owner entry)) short in
     ap (λ (b : Bool). cond (not b) (Err Cname) (cond (ltb item_limit (length (item owner entry))) (Err Long) (Ok entry))) f.lone
     ∙ ap (λ (b : Bool). cond b (Err Long) (Ok entry)) test
-  where
-    not_long : (n : ℕ) → n ≤ item_limit → ltb item_limit n ≡ false
-    not_long n le = grind (arith, nat_tests)
 
 item_length : (owner : Name) (entry : Entry) → length (item owner entry) ≡ length (wire owner) + 2 + length (flat_map rrset_bytes entry)
 item_length owner entry =
@@ -61,11 +59,8 @@ lone_says : (entry : Entry) → is_lone entry ≡ true → lone_test (rrset_of 5
 lone_says [] e = tt
 lone_says (s ∷ []) e = by_type (eqb s.rtype 5) e
   where
-    few : (n : ℕ) → leb n 1 ≡ true → n ≤ 1
-    few n t = grind (arith, nat_tests)
-
     by_type : (b : Bool) → (not b || leb (length s.records) 1) ≡ true → lone_test (cond b (Some s) None) 1
-    by_type true t = (refl, few (length s.records) t)
+    by_type true t = (refl, leb-true (length s.records) 1 t)
     by_type false t = tt
 lone_says (s ∷ t ∷ more) e = by_found (rrset_of 5 (s ∷ t ∷ more)) e
   where
@@ -77,11 +72,8 @@ says_lone : (entry : Entry) → lone_test (rrset_of 5 entry) (length entry) → 
 says_lone [] e = refl
 says_lone (s ∷ []) e = by_type (eqb s.rtype 5) e
   where
-    few : (n : ℕ) → n ≤ 1 → leb n 1 ≡ true
-    few n t = grind (arith, nat_tests)
-
     by_type : (b : Bool) → lone_test (cond b (Some s) None) 1 → (not b || leb (length s.records) 1) ≡ true
-    by_type true t = few (length s.records) t.1
+    by_type true t = le-leb (length s.records) 1 t.1
     by_type false t = refl
 says_lone (s ∷ t ∷ more) e = by_found (rrset_of 5 (s ∷ t ∷ more)) e
   where
@@ -99,13 +91,6 @@ IsSomeSet (Some s) = Unit {0}
 record IsMore (more less : Entry) : Type 0 where
   sets : length less ≤ length more
   octets : length (flat_map rrset_bytes less) ≤ length (flat_map rrset_bytes more)
-
-set_length : (s : Rrset) → length (rrset_bytes s) ≡ 8 + length (flat_map record_bytes s.records)
-set_length s =
-    let a = length-append (to_be_bytes w16 s.rtype) (to_be_bytes w32 s.ttl ++ to_be_bytes w16 (length s.records) ++ flat_map record_bytes s.records) in
-    let b = length-append (to_be_bytes w32 s.ttl) (to_be_bytes w16 (length s.records) ++ flat_map record_bytes s.records) in
-    let c = length-append (to_be_bytes w16 (length s.records)) (flat_map record_bytes s.records) in
-    omega (arith, a, b, c)
 
 more_records : (octets : List ℕ) (records : List (List ℕ)) → length (flat_map record_bytes records) ≤ length (flat_map record_bytes (with_record octets records))
 more_records octets [] = omega arith
@@ -141,7 +126,7 @@ more_with t ttl octets (s ∷ rest) = by_order (nat_cmp t s.rtype) (more_with t 
     by_order Less on = record { sets = omega arith; octets = omega (arith, one_more (fresh t ttl octets) (s ∷ rest)) }
     by_order Equal on = record {
       sets = omega arith;
-      octets = omega (arith, one_more s rest, one_more (record s { records = with_record octets s.records }) rest, set_length s, set_length (record s { records = with_record octets s.records }), more_records octets s.records);
+      octets = omega (arith, one_more s rest, one_more (record s { records = with_record octets s.records }) rest, set_is s, set_is (record s { records = with_record octets s.records }), more_records octets s.records);
     }
     by_order Greater on = record { sets = omega (arith, on.sets); octets = omega (arith, on.octets, one_more s rest, one_more s (with_rr t ttl octets rest)) }
 
@@ -237,7 +222,7 @@ fresh_length ttl ttl' p q e =
     let two = length-append (record_bytes q) [] in
     let three = length-append (to_be_bytes w16 (length p)) p in
     let four = length-append (to_be_bytes w16 (length q)) q in
-    omega (arith, set_length (fresh 6 ttl p), set_length (fresh 6 ttl' q), one, two, three, four, e)
+    omega (arith, set_is (fresh 6 ttl p), set_is (fresh 6 ttl' q), one, two, three, four, e)
 
 -- ---- operations in order
 
@@ -304,11 +289,8 @@ fit_first owner (first ∷ rest) entry d h f =
 addition_let : (origin : Name) (operation : Operation) (entry : Entry) → IsOther operation → IsAddition operation → IsFit (owner_of operation) (candidate operation entry) → changed origin operation entry ≡ Ok (candidate operation entry)
 addition_let origin (Add a) entry o d f =
     let same = o.plain.0 in
-    let test : eqb a.rtype 6 ≡ false = not_soa a.rtype (λ e. o.other (sym same ∙ e)) in
+    let test : eqb a.rtype 6 ≡ false = ne_eqb a.rtype 6 (λ e. o.other (sym same ∙ e)) in
     ap (λ (b : Bool). cond (b && not (same_name a.owner origin)) (Err Soa) (fitting a.owner (with_added a entry))) test ∙ fits a.owner (with_added a entry) f
-  where
-    not_soa : (t : ℕ) → t ≢ 6 → eqb t 6 ≡ false
-    not_soa t other = grind (arith, nat_tests)
 addition_let origin (DeleteName x) entry o d f = absurd d
 addition_let origin (DeleteSet x rtype) entry o d f = absurd d
 addition_let origin (DeleteRecord x rtype octets) entry o d f = absurd d

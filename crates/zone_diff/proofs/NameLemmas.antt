@@ -1,14 +1,12 @@
 -- Names that are left of two zones.
-use Rattle.std.proofs.Common.{◌≡◌, ◌∙◌, ℕ, true, List, [], ◌∷◌, ◌++◌, length, take, drop, refl, sym, ap, subst, append_assoc, Option, Some, None, IfSome, MatchOption}
-use Rattle.std.specs.List.{flat_map}
-use Rattle.std.specs.Int.{w16, from_be_bytes, to_be_bytes}
+use Rattle.std.proofs.Common.{◌≡◌, ◌∙◌, ℕ, true, List, [], ◌∷◌, ◌++◌, length, take, drop, refl, sym, ap, subst, Option, Some, None, IfSome, MatchOption}
+use Rattle.std.specs.Int.{w16, from_be_bytes}
 use Rattle.std.specs.declared.cmp.Ordering.{Ordering}
 use Rattle.std.specs.declared.cmp.Ordering.TheVariants.{Less, Equal, Greater}
 use Rattle.std.specs.Ordering.{is_ge, is_le, match_ordering}
-use Rattle.zone_model.specs.Names.{Name, IsName, BeginsWith, name_cmp, wire}
-use Rattle.zone_model.specs.Records.{Rrset, Entry, IsItem, rrset_bytes}
+use Rattle.zone_model.specs.Names.{Name, name_cmp, wire}
+use Rattle.zone_model.specs.Records.{Rrset, Entry, IsItem}
 use Rattle.zone_model.specs.Versions.{Version, Operation}
-use Rattle.dns_name.proofs.ScanLemmas.{begins_once}
 use Rattle.rr_data.specs.ItemViews.{SaysEntry}
 use Rattle.rr_data.proofs.ItemViewLemmas.{item_says, item_sets, sets_view}
 use Rattle.zone_model.proofs.NameLemmas.{name_cmp-IsAntisymmetric}
@@ -17,13 +15,6 @@ use Rattle.zone_diff.specs.Differences.{difference}
 use Rattle.zone_diff.specs.Sinks.{Aim, AddsFront}
 use Rattle.zone_diff.specs.NamesAhead.{Leaves, SaysFirst, entry_laid, first_entry, first_of, name_changes, owner_ahead, passed_if}
 use Rattle.zone_diff.proofs.MergeLemmas.{front_joins}
-
-pub begins_with_owner : (octets : List ℕ) (owner : Name) (entry : Entry) → IsItem octets owner entry → BeginsWith octets owner
-begins_with_owner octets owner entry is = (to_be_bytes w16 (length entry) ++ flat_map rrset_bytes entry, is.octets ∙ append_assoc (wire owner) (to_be_bytes w16 (length entry)) (flat_map rrset_bytes entry))
-
--- octets that are an item begin with its owner
-pub owner_is : (octets : List ℕ) (name owner : Name) (entry : Entry) → IsItem octets owner entry → IsName name → BeginsWith octets name → name ≡ owner
-owner_is octets name owner entry is n b = begins_once octets name owner n.each is.name.each b (begins_with_owner octets owner entry is)
 
 pub laid_is : (octets : List ℕ) (owner : Name) (entry : Entry) → IsItem octets owner entry → entry_laid owner octets ≡ entry
 unfolding entry_laid

@@ -18,8 +18,8 @@ use Rattle.zone_model.specs.Data.{data_of}
 use Rattle.zone_model.specs.MasterFile.{Reader, required, name_word, time_word, is_directive, one_argument, set_time_word, set_origin_word, directive, front_of, placed, time_for, entry_fault, unless_fault, placed_in, added, after_record, record_says, last_line, entry_says, Pending, goes_on, zone_from, at_first, with_soa, zone_at}
 use Rattle.report_laws.proofs.DataLemmas.{bound}
 use Rattle.report_laws.proofs.TokenLemmas.{either}
-use Rattle.report_laws.proofs.WellFormedLemmas.{rising_put}
-use Rattle.zone_diff.proofs.VersionLemmas.{IsAhead, ahead_of, none_ahead}
+use Rattle.report_laws.proofs.WellFormedLemmas.{above_more, rising_put}
+use Rattle.zone_diff.proofs.VersionLemmas.{IsAhead, none_ahead}
 use Rattle.zone_diff.proofs.CountLemmas.{in_entry, in_version}
 
 -- ---- a record joins
@@ -51,7 +51,7 @@ version_joins owner entry [] h l = omega (arith, l)
 version_joins owner entry (pair ∷ rest) h l = by_order (name_cmp owner pair.0) refl l (version_joins owner entry rest h.1)
   where
     ahead : (v : Version) → IsAhead pair.0 v → name_cmp owner pair.0 ≡ Less → IsAhead owner v
-    ahead v a e = ahead_of owner pair.0 v e a
+    ahead v a e = above_more owner pair.0 v e a
 
     by_order : (o : Ordering) → name_cmp owner pair.0 ≡ o → in_entry entry ≤ in_entry (unwrap_or (cond (is_eq o) (Some pair.1) (entry_of owner rest)) []) + 1
         → (in_entry entry ≤ in_entry (owned owner rest) + 1 → in_version (insert_entry name_cmp rest owner entry) ≤ in_version rest + 1)

@@ -1,6 +1,6 @@
 -- The text of a difference is a script, whose blocks are its transactions.
 use Rattle.std.proofs.Common.{◌≡◌, ◌∙◌, ℕ, suc, ◌+◌, ◌<◌, ◌≤◌, Bool, true, false, ltb, List, [], ◌∷◌, ◌++◌, length, map, refl, sym, ap, subst, arith, Some, None, Ok, codes, append_assoc, append-nil, length-append}
-use Rattle.std.proofs.lemmas.Bool.Decides.{nat_tests}
+use borrow.Author.Tests.{lt-ltb}
 use Rattle.std.specs.List.{AllByRecursion, flat_map, list_all}
 use Rattle.zone_model.specs.Names.{Name}
 use Rattle.zone_model.specs.Lines.{lines_of}
@@ -67,9 +67,6 @@ step_read : (origin : Name) (n : ℕ) (text : List ℕ) (rest : List (List ℕ))
 unfolding script_from
 step_read origin n text rest s next e = ap (λ r. r >>= script_from origin (n + 1) rest) e
 
-room_of : (n : ℕ) → n < 10000 → ltb n 10000 ≡ true
-room_of n h = grind (arith, nat_tests)
-
 -- a script outside of blocks, and in a block of operations that began on a line
 module _ (origin : Name) (listing : Listing) (earlier : List (List Command)) (held : Bool) where
   abbrev between : List Command → Script
@@ -83,7 +80,7 @@ module _ (origin : Name) (listing : Listing) (earlier : List (List Command)) (he
 
   update_line : (n : ℕ) (cs : List Command) → length cs < 10000 → script_line origin n (codes "update") (between cs) ≡ Ok (inside cs n [])
   unfolding phrase_of asked_of
-  update_line n cs few = tokens_said origin n (codes "update") (word n (codes "update") ∷ []) (between cs) (spell_word n (codes "update") (omega arith) (alphabetic_word (codes "update") refl).run) ∙ rw (room_of (length cs) few) refl
+  update_line n cs few = tokens_said origin n (codes "update") (word n (codes "update") ∷ []) (between cs) (spell_word n (codes "update") (omega arith) (alphabetic_word (codes "update") refl).run) ∙ rw (lt-ltb (length cs) 10000 few) refl
 
   commit_line : (n start : ℕ) (cs : List Command) (operations : List Operation) → script_line origin n (codes "commit") (inside cs start operations) ≡ Ok (between (cs ++ committed operations ∷ []))
   unfolding phrase_of asked_of
@@ -94,7 +91,7 @@ module _ (origin : Name) (listing : Listing) (earlier : List (List Command)) (he
       let l : LineSaid origin n x = line_said origin n x told in
       let b : Unfinished = open_block start operations in
       let s : Script = inside cs start operations in
-      tokens_said origin n (body x) l.tokens s l.spelled ∙ l.says s b refl ∙ rw (room_of (length operations) few) refl
+      tokens_said origin n (body x) l.tokens s l.spelled ∙ l.says s b refl ∙ rw (lt-ltb (length operations) 10000 few) refl
 
   operations_read : (n start : ℕ) (cs : List Command) (front operations : List Operation) (rest : List (List ℕ)) → AllByRecursion (IsTold origin) operations → length front + length operations ≤ 10000
       → script_from origin n (map body operations ++ rest) (inside cs start front) ≡ script_from origin (n + length operations) rest (inside cs start (front ++ operations))

@@ -16,6 +16,7 @@ use Rattle.zone_model.specs.Versions.{Version, Operation, DeleteName, entry_of, 
 use Rattle.zone_model.specs.declared.Refusal.{Refusal}
 use Rattle.zone_model.specs.declared.Refusal.TheVariants.{Soa}
 use Rattle.zone_model.proofs.NameLemmas.{name_cmp-IsAntisymmetric}
+use Rattle.report_laws.proofs.WellFormedLemmas.{above_more, turned as turned_back}
 use Rattle.zone_diff.specs.declared.Serial.{Serial}
 use Rattle.zone_diff.specs.declared.sets.Side.{Side}
 use Rattle.zone_diff.specs.declared.sets.Side.TheVariants.{Before, After}
@@ -33,16 +34,9 @@ self_name n = tied_itself name_cmp_total n
 pub turned : (a b : Name) → name_cmp a b ≡ Less → name_cmp b a ≡ Greater
 turned a b e = name_cmp_total.antisymm b a ∙ ap ordering_reverse e
 
-turned_back : (a b : Name) → name_cmp a b ≡ Greater → name_cmp b a ≡ Less
-turned_back a b e = name_cmp_total.antisymm b a ∙ ap ordering_reverse e
-
 -- the name stands before all of a version's
 abbrev pub IsAhead : Name → Version → Type 0
 IsAhead n version = AllByRecursion (λ y. name_cmp n y ≡ Less) (keys_of version)
-
-pub ahead_of : (a b : Name) (version : Version) → name_cmp a b ≡ Less → IsAhead b version → IsAhead a version
-ahead_of a b [] l h = tt
-ahead_of a b (pair ∷ rest) l h = (name_cmp_total.trans a b pair.0 l h.0, ahead_of a b rest l h.1)
 
 -- ---- a version that begins with what a name owns
 
@@ -259,7 +253,7 @@ merges mode origin b before (a ∷ after) p q more = by_order (name_cmp b.0 a.0)
         ∙ behind_applied origin (difference mode before after) a before after (difference_behind mode a.0 before after (subst (λ (n : Name). IsAhead n before) same ahead) (first_ahead a after q)) (more after (rest_plain a after q))
     by_order Greater e on =
         let l : name_cmp a.0 b.0 ≡ Less = turned_back b.0 a.0 e in
-        let ahead : IsAhead a.0 (b ∷ before) = (l, ahead_of a.0 b.0 before l (first_ahead b before p)) in
+        let ahead : IsAhead a.0 (b ∷ before) = (l, above_more a.0 b.0 before l (first_ahead b before p)) in
         applied_on origin (entry_difference mode a.0 [] a.1) (merged mode b (difference mode before) after) (b ∷ before) (a ∷ b ∷ before) (comes mode origin a (b ∷ before) q.each.0 ahead)
         ∙ behind_applied origin (merged mode b (difference mode before) after) a (b ∷ before) after (difference_behind mode a.0 (b ∷ before) after ahead (first_ahead a after q)) on
 

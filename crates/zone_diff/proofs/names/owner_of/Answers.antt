@@ -1,5 +1,5 @@
 use Rattle.std.proofs.Common.{refl}
-use Rattle.zone_diff.proofs.NameLemmas.{begins_with_owner, owner_is}
+use Rattle.master_file.proofs.OwnedLemmas.{begins_with_owner, owner_is}
 use Rattle.zone_diff.proofs.names.owner_of.Goals as goal
 
 pub unreachable-requires : goal.unreachable-requires
